@@ -1,0 +1,6 @@
+pub mod Words
+pub mod Refusals
+pub mod Names
+pub mod Asks
+pub mod Client
+pub mod Phases

@@ -1,0 +1,49 @@
+//! Modes, kinds and reasons.
+
+ghost use Rattle.std.specs.Prelude.{◌≡◌};
+ghost use Rattle.wl_types.specs.Words.{mode_word, reason_word};
+
+/// Web Locks' `LockMode`.
+#[derive(Clone, Copy, Debug, PartialEq, Eq, Drop)]
+pub enum Mode {
+    Exclusive,
+    Shared,
+}
+
+/// What an agent is. A worker is always active, a window until it is made inactive.
+#[derive(Clone, Copy, Debug, PartialEq, Eq, Drop)]
+pub enum Kind {
+    Window,
+    Worker,
+}
+
+/// Why a signal was aborted.
+#[derive(Clone, Copy, Debug, PartialEq, Eq, Drop)]
+pub enum Reason {
+    AbortError,
+    TimeoutError,
+}
+
+impl Mode {
+    /// The word of Web Locks for the mode.
+    pub fn word(&self) -> &'static str
+        ensures { result.now ≡ mode_word self.now }
+    {
+        match self {
+            Mode::Exclusive => "exclusive",
+            Mode::Shared => "shared",
+        }
+    }
+}
+
+impl Reason {
+    /// The name of the DOM exception that stands for the reason.
+    pub fn word(&self) -> &'static str
+        ensures { result.now ≡ reason_word self.now }
+    {
+        match self {
+            Reason::AbortError => "AbortError",
+            Reason::TimeoutError => "TimeoutError",
+        }
+    }
+}
