@@ -1,0 +1,73 @@
+//! Room in the lists for what is to come.
+ghost use Rattle.std.specs.Prelude.{◌≡◌, ◌+◌, ◌≤◌, ◌<◌, [], ◌∷◌, ◌++◌, vec_len, vec_capacity, OnOk};
+
+use std::alloc::AllocError;
+use wl_machine::rows::{HeldRow, PendingRow};
+use wl_types::Change;
+
+/// Puts a value into room that is there.
+pub fn push_in_room<T: Drop>(items: &mut Vec<T>, item: T)
+    requires { vec_len items.old < vec_capacity items.old }
+    ensures items { items.new.items ≡ items.old.items ++ item ∷ [] }
+    ensures len { vec_len items.new ≡ vec_len items.old + 1 }
+    ensures capacity { vec_capacity items.old ≤ vec_capacity items.new }
+{
+    items.push(item).unwrap();
+}
+
+/// Puts a request in front, into room that is there.
+pub fn push_front_in_room(pending: &mut Vec<PendingRow>, row: PendingRow)
+    requires { vec_len pending.old < vec_capacity pending.old }
+    ensures items { pending.new.items ≡ row ∷ pending.old.items }
+    ensures len { vec_len pending.new ≡ vec_len pending.old + 1 }
+{
+    pending.insert(0, row).unwrap();
+}
+
+/// Makes room for one more live request.
+pub fn make_room(
+    held: &mut Vec<HeldRow>,
+    pending: &mut Vec<PendingRow>,
+    changes: &mut Vec<Change>,
+) -> Result<(), AllocError>
+    requires few { vec_len held.old + vec_len pending.old < 65536 }
+    requires none { changes.old.items ≡ [] }
+
+    ensures held { held.new.items ≡ held.old.items }
+    ensures pending { pending.new.items ≡ pending.old.items }
+    ensures changes { changes.new.items ≡ changes.old.items }
+    ensures held_len { vec_len held.new ≡ vec_len held.old }
+    ensures pending_len { vec_len pending.new ≡ vec_len pending.old }
+    ensures changes_len { vec_len changes.new ≡ vec_len changes.old }
+    ensures held_room { vec_capacity held.old ≤ vec_capacity held.new }
+    ensures changes_room { vec_capacity changes.old ≤ vec_capacity changes.new }
+    ensures held_more { OnOk result (vec_len held.new + (vec_len pending.new + 1) ≤ vec_capacity held.new) }
+    ensures pending_more { OnOk result (vec_len pending.new < vec_capacity pending.new) }
+    ensures changes_more { OnOk result (vec_len held.new + (vec_len pending.new + 1) ≤ vec_capacity changes.new) }
+{
+    let live = held.len() + pending.len();
+    held.reserve(pending.len() + 1)?;
+    changes.reserve(live + 1)?;
+    pending.reserve(1)?;
+    Ok(())
+}
+
+/// Makes room for the end of each live request.
+pub fn make_room_for_all(
+    held: &mut Vec<HeldRow>,
+    pending: &mut Vec<PendingRow>,
+    changes: &mut Vec<Change>,
+) -> Result<(), AllocError>
+    requires few { vec_len held.old + vec_len pending.old < 18446744073709551616 }
+    requires none { changes.old.items ≡ [] }
+
+    ensures held { held.new.items ≡ held.old.items }
+    ensures pending { pending.new.items ≡ pending.old.items }
+    ensures changes { changes.new.items ≡ changes.old.items }
+    ensures held_room { OnOk result (vec_len held.new + vec_len pending.new ≤ vec_capacity held.new) }
+    ensures changes_room { OnOk result (vec_len held.new + vec_len pending.new ≤ vec_capacity changes.new) }
+{
+    held.reserve(pending.len())?;
+    changes.reserve(held.len() + pending.len())?;
+    Ok(())
+}

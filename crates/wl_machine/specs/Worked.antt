@@ -1,0 +1,97 @@
+-- Worked examples of the machine, as statements.
+use Rattle.std.specs.Prelude.{◌≡◌, ℕ, true, false, List, [], ◌∷◌, Some, None}
+use Rattle.wl_types.specs.declared.words.Mode.{Mode}
+use Rattle.wl_types.specs.declared.words.Mode.TheVariants.{Exclusive, Shared}
+use Rattle.wl_types.specs.declared.words.Kind.TheVariants.{Window}
+use Rattle.wl_types.specs.declared.words.Reason.TheVariants.{AbortError}
+use Rattle.wl_types.specs.declared.phases.Numbers.{Numbers}
+use Rattle.wl_types.specs.declared.phases.Phase.{Phase}
+use Rattle.wl_types.specs.declared.phases.Phase.TheVariants.{Granted, Stolen, Aborted, Released}
+use Rattle.wl_types.specs.declared.phases.Change.{Change}
+use Rattle.wl_types.specs.declared.ask.Ask.{Ask}
+use Rattle.wl_types.specs.declared.infos.LockInfo.{LockInfo}
+use Rattle.wl_machine.specs.declared.command.Command.{Command}
+use Rattle.wl_machine.specs.declared.command.Command.TheVariants.{Enter, NewSignal, Request, Take, Release, Abort, Terminate, Query}
+use Rattle.wl_machine.specs.declared.command.Reply.{Reply}
+use Rattle.wl_machine.specs.declared.command.Reply.TheVariants as reply
+use Rattle.wl_types.specs.declared.answers.TakeAnswer.TheVariants as take_answer
+use Rattle.wl_types.specs.declared.answers.ReleaseAnswer.TheVariants as release_answer
+use Rattle.wl_types.specs.declared.answers.AbortAnswer.TheVariants as abort_answer
+use Rattle.wl_machine.specs.State.{State, opening}
+use Rattle.wl_machine.specs.Step.{step, state_after, snapshot_of}
+
+abbrev pub ones : Numbers
+ones = record { agent = 1; request = 1; signal = 1 }
+
+abbrev pub db : List ℕ
+db = 100 ∷ 98 ∷ []
+
+abbrev pub ask : List ℕ → Mode → Ask
+ask name mode = record { name = name; mode = mode; if_available = false; steal = false; signal = None }
+
+abbrev pub stealing : List ℕ → Ask
+stealing name = record { name = name; mode = Exclusive; if_available = false; steal = true; signal = None }
+
+abbrev pub if_free : List ℕ → Mode → Ask
+if_free name mode = record { name = name; mode = mode; if_available = true; steal = false; signal = None }
+
+abbrev pub with_signal : ℕ → List ℕ → Mode → Ask
+with_signal signal name mode = record { name = name; mode = mode; if_available = false; steal = false; signal = Some signal }
+
+abbrev pub info : List ℕ → Mode → ℕ → LockInfo
+info name mode client = record { name = name; mode = mode; client = client }
+
+abbrev pub change : ℕ → Phase → Change
+change id phase = record { id = id; phase = phase }
+
+-- the replies and changes of a run
+abbrev pub replies_and_changes : List Command → State → List (Reply × List Change)
+replies_and_changes [] s = []
+replies_and_changes (command ∷ commands) s = ((step s command).reply, (step s command).changes) ∷ replies_and_changes commands (step s command).state
+
+abbrev pub three : State
+three = state_after (Enter Window ∷ Enter Window ∷ Enter Window ∷ []) (opening ones)
+
+abbrev pub fair_queue : Type 0
+fair_queue =
+    replies_and_changes (Request 1 (ask db Shared) ∷ Take 1 ∷ Request 2 (ask db Exclusive) ∷ Request 3 (ask db Shared) ∷ Query 1 ∷ Release 1 1 ∷ Release 2 2 ∷ []) three
+    ≡ ((reply.Request 1, change 1 Granted ∷ []) ∷ (reply.Took take_answer.Taken, []) ∷ (reply.Request 2, []) ∷ (reply.Request 3, [])
+    ∷ (reply.Seen (record { held = info db Shared 1 ∷ []; pending = info db Exclusive 2 ∷ info db Shared 3 ∷ [] }), [])
+    ∷ (reply.Released release_answer.Released, change 1 Released ∷ change 2 Granted ∷ [])
+    ∷ (reply.Released release_answer.Released, change 2 Released ∷ change 3 Granted ∷ []) ∷ [])
+
+abbrev pub shared_together : Type 0
+shared_together =
+    replies_and_changes (Request 1 (ask db Exclusive) ∷ Request 1 (ask db Shared) ∷ Request 1 (ask db Shared) ∷ Request 1 (ask db Exclusive) ∷ Request 1 (ask db Shared) ∷ Release 1 1 ∷ Query 1 ∷ []) three
+    ≡ ((reply.Request 1, change 1 Granted ∷ []) ∷ (reply.Request 2, []) ∷ (reply.Request 3, []) ∷ (reply.Request 4, []) ∷ (reply.Request 5, [])
+    ∷ (reply.Released release_answer.Released, change 1 Released ∷ change 2 Granted ∷ change 3 Granted ∷ [])
+    ∷ (reply.Seen (record { held = info db Shared 1 ∷ info db Shared 1 ∷ []; pending = info db Exclusive 1 ∷ info db Shared 1 ∷ [] }), []) ∷ [])
+
+abbrev pub steal_from_sharers : Type 0
+steal_from_sharers =
+    replies_and_changes (Request 1 (ask db Shared) ∷ Request 2 (ask db Shared) ∷ Request 3 (ask db Exclusive) ∷ Request 3 (stealing db) ∷ Query 3 ∷ Release 1 1 ∷ Release 3 4 ∷ []) three
+    ≡ ((reply.Request 1, change 1 Granted ∷ []) ∷ (reply.Request 2, change 2 Granted ∷ []) ∷ (reply.Request 3, [])
+    ∷ (reply.Request 4, change 1 Stolen ∷ change 2 Stolen ∷ change 4 Granted ∷ [])
+    ∷ (reply.Seen (record { held = info db Exclusive 3 ∷ []; pending = info db Exclusive 3 ∷ [] }), [])
+    ∷ (reply.Released release_answer.NotHeld, [])
+    ∷ (reply.Released release_answer.Released, change 4 Released ∷ change 3 Granted ∷ []) ∷ [])
+
+abbrev pub abort_unblocks : Type 0
+abort_unblocks =
+    replies_and_changes (Request 1 (ask db Shared) ∷ Take 1 ∷ NewSignal 2 ∷ Request 2 (with_signal 1 db Exclusive) ∷ Request 2 (with_signal 1 db Shared) ∷ Request 3 (ask db Shared) ∷ Abort 2 1 AbortError ∷ Query 2 ∷ []) three
+    ≡ ((reply.Request 1, change 1 Granted ∷ []) ∷ (reply.Took take_answer.Taken, []) ∷ (reply.Signal 1, []) ∷ (reply.Request 2, []) ∷ (reply.Request 3, []) ∷ (reply.Request 4, [])
+    ∷ (reply.Aborted abort_answer.Done, change 2 (Aborted AbortError) ∷ change 3 (Aborted AbortError) ∷ change 4 Granted ∷ [])
+    ∷ (reply.Seen (record { held = info db Shared 1 ∷ info db Shared 3 ∷ []; pending = [] }), []) ∷ [])
+
+abbrev pub name_returns_last : Type 0
+name_returns_last =
+    let b = 98 ∷ [] in let a = 97 ∷ [] in
+    snapshot_of (state_after (Request 1 (ask b Exclusive) ∷ Request 1 (ask a Exclusive) ∷ Request 2 (ask a Exclusive) ∷ Request 2 (ask b Exclusive) ∷ Release 1 1 ∷ Release 2 4 ∷ Request 1 (ask b Exclusive) ∷ Request 2 (ask b Exclusive) ∷ []) three)
+    ≡ record { held = info a Exclusive 1 ∷ info b Exclusive 1 ∷ []; pending = info a Exclusive 2 ∷ info b Exclusive 2 ∷ [] }
+
+abbrev pub termination_frees : Type 0
+termination_frees =
+    let p = 112 ∷ [] in let q = 113 ∷ [] in
+    replies_and_changes (Terminate 1 ∷ Query 2 ∷ []) (state_after (Request 2 (ask p Shared) ∷ Request 1 (ask q Exclusive) ∷ Request 1 (ask p Exclusive) ∷ Request 3 (ask p Shared) ∷ Request 2 (ask q Exclusive) ∷ []) three)
+    ≡ ((reply.Done, change 3 (Aborted AbortError) ∷ change 2 Released ∷ change 4 Granted ∷ change 5 Granted ∷ [])
+    ∷ (reply.Seen (record { held = info p Shared 2 ∷ info p Shared 3 ∷ info q Exclusive 2 ∷ []; pending = [] }), []) ∷ [])
