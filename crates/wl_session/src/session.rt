@@ -1,0 +1,153 @@
+//! A session of an agent.
+
+ghost use Rattle.std.specs.Prelude.{◌≡◌, ◌+◌, ◌≤◌, All, IfOk, OnOk, OnErr, length, true, vec_len, vec_capacity, string_bytes};
+ghost use Rattle.wl_codec.specs.Replies.{reply_text};
+ghost use Rattle.wl_session.specs.Planned.{plan_for};
+ghost use Rattle.wl_session.specs.Step.{reply, after, told_after, notices, closed};
+ghost use Rattle.wl_session.specs.Told.{IsByNumber, IsToldList, is_live, completed};
+
+use crate::outcomes::{opens, tells};
+use crate::plan::{Plan, plan_for};
+use crate::told::{completed, news, tell};
+use std::alloc::Global;
+use std::marker::Model;
+use wl_codec::{Notices, Outcome, Reading, WireReply, write_reply};
+use wl_types::{Memory, Phase};
+
+/// What a label of a script, or a connection, knows of its agent: whether it is open, and the told list.
+#[derive(Drop)]
+pub struct Session {
+    alloc: Global,
+    is_open: bool,
+    told: Vec<(u64, Phase)>,
+}
+
+impl Model for Session {
+    ghost use Rattle.wl_session.specs.Step.{State};
+    ghost use Rattle.wl_session.specs.Told.{IsToldList};
+
+    ghost Value = { State };
+
+    ghost view = { λ session. record { is_open = session.is_open; told = session.told.items } };
+
+    ghost invariant = { λ session. IsToldList session.told.items };
+}
+
+fn notices(
+    alloc: Global,
+    told: &[(u64, Phase)],
+    outcome: &Outcome,
+    looks: &[(u64, Phase)],
+) -> Result<Notices, Memory>
+    requires { IsByNumber told.now }
+    ensures { IfOk result (λ found. found ≡ notices told.now outcome.now looks.now) }
+{
+    if tells(outcome) {
+        news(alloc, outcome, told, looks)
+    } else {
+        Ok(Notices::new(alloc))
+    }
+}
+
+/// Makes the told list what it is after the reply. It needs no memory.
+fn tell_after(
+    alloc: Global,
+    told: &mut Vec<(u64, Phase)>,
+    outcome: &Outcome,
+    looks: &[(u64, Phase)],
+)
+    requires list { IsToldList told.old.items }
+    requires room { vec_len told.old + length looks.now ≤ vec_capacity told.old }
+    ensures items { told.new.items ≡ told_after told.old.items outcome.now looks.now }
+    ensures list { IsToldList told.new.items }
+{
+    match outcome {
+        Outcome::Client(_) | Outcome::Closed => *told = Vec::new(alloc),
+        _ => {
+            if tells(outcome) {
+                tell(told, looks);
+            }
+        }
+    }
+}
+
+impl Session {
+    /// A session that isn't open. It takes no memory before its first reply.
+    pub fn new(alloc: Global) -> Session
+        ensures { result ≡ closed }
+    {
+        Session {
+            alloc,
+            is_open: false,
+            told: Vec::new(alloc),
+        }
+    }
+
+    /// What is to be done for a message that was read. It takes no memory, and changes nothing: the outcome does.
+    pub fn plan(&self, reading: Reading) -> Plan
+        ensures { result ≡ plan_for self.now.is_open reading }
+    {
+        plan_for(self.is_open, reading)
+    }
+
+    /// The told list: the requests whose end wasn't told, each with the phase that was told last.
+    pub fn live(&self) -> &[(u64, Phase)]
+        ensures told { result.now ≡ self.now.told }
+        ensures by_number { IsByNumber result.now }
+        ensures live { All (λ look. is_live look ≡ true) result.now }
+    {
+        self.told.as_slice()
+    }
+
+    /// The text of the reply to a message, given the id that `plan` gave, the outcome, and the phases found of the
+    /// requests whose phase may differ from the one told: a request that isn't named stays as it is. A new request
+    /// is named, one that the agent released is named as `Released`, and a grant is taken before it is looked at.
+    /// Looks play no part where `tells` says that the reply has no notices.
+    ///
+    /// A look costs two searches by halves in the told list; an end that leaves, or a request that comes in elsewhere
+    /// than at the end, also moves the list behind it. At `Memory` the session is as it was.
+    pub fn finish_changed(
+        &mut self,
+        id: Option<u64>,
+        outcome: Outcome,
+        looks: &[(u64, Phase)],
+    ) -> Result<String, Memory>
+        requires { IsByNumber looks.now }
+        ensures text { IfOk result (λ text. string_bytes text
+            ≡ reply_text (reply self.old id outcome looks.now)) }
+        ensures ok { OnOk result (self.new ≡ after self.old outcome looks.now) }
+        ensures err { OnErr result (self.new ≡ self.old) }
+    {
+        // What needs memory comes first, so that nothing is half done where there is none.
+        let notices = notices(self.alloc, self.told.as_slice(), &outcome, looks)?;
+        self.told.reserve(looks.len())?;
+        let reply = WireReply {
+            id,
+            notices,
+            outcome,
+        };
+        let text = write_reply(self.alloc, &reply)?;
+        self.is_open = opens(self.is_open, &reply.outcome);
+        tell_after(self.alloc, &mut self.told, &reply.outcome, looks);
+        Ok(text)
+    }
+
+    /// `finish_changed` for a caller that looks at every request: those of `live`, the new one, and not the one that
+    /// the agent released. A request of `live` that isn't named is taken as released. It goes over the whole list.
+    pub fn finish(
+        &mut self,
+        id: Option<u64>,
+        outcome: Outcome,
+        looks: &[(u64, Phase)],
+    ) -> Result<String, Memory>
+        requires { IsByNumber looks.now }
+        ensures text { IfOk result (λ text. string_bytes text
+            ≡ reply_text (reply self.old id outcome (completed self.old.told looks.now))) }
+        ensures ok { OnOk result
+            (self.new ≡ after self.old outcome (completed self.old.told looks.now)) }
+        ensures err { OnErr result (self.new ≡ self.old) }
+    {
+        let looks = completed(self.alloc, self.told.as_slice(), looks)?;
+        self.finish_changed(id, outcome, looks.as_slice())
+    }
+}

@@ -1,0 +1,152 @@
+//! The told list: by number, each request whose end wasn't told, with the phase that was told last.
+//!
+//! It is a sorted `Vec`, searched by halves. A new request has the highest number and goes to the end. A request
+//! that leaves from the middle moves those behind it.
+
+ghost use Rattle.std.specs.Prelude.{◌≡◌, ◌+◌, ◌<◌, ◌≤◌, length, filter, map, vec_len, vec_capacity, IfOk, IfErr, OnErr};
+ghost use Rattle.wl_session.specs.Places.{IsAt, IsGapFor};
+ghost use Rattle.wl_session.specs.Told.{IsByNumber, IsToldList, is_live, put, phase_in, phase_told, is_news, news, released, completed, still_told};
+
+use crate::outcomes::is_new;
+use std::alloc::Global;
+use wl_codec::{Notice, Notices, Outcome};
+use wl_types::{Memory, Phase};
+
+/// Where the number stands in the list, or where it would go.
+fn place(list: &[(u64, Phase)], number: u64) -> Result<usize, usize>
+    requires { IsByNumber list.now }
+    ensures found { IfOk result (λ at. IsAt list.now number at) }
+    ensures absent { IfErr result (λ at. IsGapFor list.now number at) }
+{
+    list.binary_search_by_key(&number, |look| look.0)
+}
+
+fn phase_in(told: &[(u64, Phase)], number: u64) -> Phase
+    requires { IsByNumber told.now }
+    ensures { result ≡ phase_in told.now number }
+{
+    match place(told, number) {
+        Ok(at) => told[at].1,
+        Err(_) => Phase::Pending,
+    }
+}
+
+fn phase_told(outcome: &Outcome, told: &[(u64, Phase)], number: u64) -> Phase
+    requires { IsByNumber told.now }
+    ensures { result ≡ phase_told outcome.now told.now number }
+{
+    if is_new(outcome, number) {
+        Phase::Pending
+    } else {
+        phase_in(told, number)
+    }
+}
+
+fn is_news(told: Phase, found: Phase) -> bool
+    ensures { result ≡ is_news told found }
+{
+    match found {
+        Phase::Taken => !matches!(told, Phase::Taken),
+        Phase::Unavailable | Phase::Aborted(_) | Phase::Stolen => true,
+        Phase::Pending | Phase::Granted | Phase::Released => false,
+    }
+}
+
+/// The notices of a reply.
+pub(crate) fn news(
+    alloc: Global,
+    outcome: &Outcome,
+    told: &[(u64, Phase)],
+    looks: &[(u64, Phase)],
+) -> Result<Notices, Memory>
+    requires { IsByNumber told.now }
+    ensures { IfOk result (λ notices. notices ≡ news outcome.now told.now looks.now) }
+{
+    let mut notices = Notices::new(alloc);
+    for look in looks {
+        let (request, phase) = *look;
+        if is_news(phase_told(outcome, told, request), phase) {
+            notices.push(Notice { request, phase })?;
+        }
+    }
+    Ok(notices)
+}
+
+/// Puts a look into a told list. An end leaves the list instead.
+fn tell_one(told: &mut Vec<(u64, Phase)>, look: (u64, Phase))
+    requires list { IsToldList told.old.items }
+    requires room { vec_len told.old < vec_capacity told.old }
+    ensures items { told.new.items ≡ filter is_live (put told.old.items look) }
+    ensures list { IsToldList told.new.items }
+    ensures one_more { vec_len told.new ≤ vec_len told.old + 1 }
+    ensures room { vec_capacity told.old ≤ vec_capacity told.new }
+{
+    let place = place(told.as_slice(), look.0);
+    if look.1.is_end() {
+        if let Ok(at) = place {
+            told.remove(at);
+        }
+    } else {
+        match place {
+            Ok(at) => told[at] = look,
+            Err(at) => {
+                let placed = told.insert(at, look);
+                let has_room = placed.is_ok();
+                prove!(has_room);
+            }
+        }
+    }
+}
+
+/// Puts what was found into a told list, which ends leave. It needs no memory.
+pub(crate) fn tell(told: &mut Vec<(u64, Phase)>, looks: &[(u64, Phase)])
+    requires list { IsToldList told.old.items }
+    requires room { vec_len told.old + length looks.now ≤ vec_capacity told.old }
+    ensures items { told.new.items ≡ still_told told.old.items looks.now }
+    ensures list { IsToldList told.new.items }
+{
+    for look in looks {
+        tell_one(told, *look);
+    }
+}
+
+/// The list with each of its requests released.
+fn all_released(alloc: Global, told: &[(u64, Phase)]) -> Result<Vec<(u64, Phase)>, Memory>
+    ensures { IfOk result (λ list. list.items ≡ map released told.now) }
+{
+    let mut list = Vec::with_capacity(alloc, told.len())?;
+    for look in told {
+        list.push((look.0, Phase::Released))?;
+    }
+    Ok(list)
+}
+
+/// Puts a look into a list.
+fn put(list: &mut Vec<(u64, Phase)>, look: (u64, Phase)) -> Result<(), Memory>
+    requires { IsByNumber list.old.items }
+    ensures ok { IfOk result (λ _. list.new.items ≡ put list.old.items look) }
+    ensures by_number { IsByNumber list.new.items }
+{
+    match place(list.as_slice(), look.0) {
+        Ok(at) => list[at] = look,
+        Err(at) => list.insert(at, look)?,
+    }
+    Ok(())
+}
+
+/// The looks, and as released each request of the told list that they don't name.
+pub(crate) fn completed(
+    alloc: Global,
+    told: &[(u64, Phase)],
+    looks: &[(u64, Phase)],
+) -> Result<Vec<(u64, Phase)>, Memory>
+    requires { IsByNumber told.now }
+    ensures looks { IfOk result (λ list. list.items ≡ completed told.now looks.now) }
+    ensures by_number { IfOk result (λ list. IsByNumber list.items) }
+{
+    let mut list = all_released(alloc, told)?;
+    for look in looks {
+        put(&mut list, *look)?;
+    }
+    Ok(list)
+}
