@@ -1,0 +1,146 @@
+-- The machine numbers its requests upwards, so an operation keeps the requests in order.
+use Rattle.std.proofs.Common.{◌≡◌, ℕ, ◌≤◌, ◌<◌, List, [], ◌∷◌, refl, ap, sym, subst, ◌∙◌, Bool, true, false, Option, Some, None, not, arith}
+use Rattle.std.specs.Prelude.{if◌then◌else◌, ◌==◌, ◌&&◌, is_some, Result, Ok, Err, is_err, IfOk}
+use Rattle.std.specs.List.{fold, list_any}
+use Rattle.wl_types.specs.declared.refusal.Refusal.{Refusal}
+use Rattle.wl_types.specs.declared.memory.Memory as memory
+use Rattle.wl_types.specs.declared.phases.Numbers.{Numbers}
+use Rattle.wl_machine.specs.State.{State}
+use Rattle.wl_machine.specs.Step as machine
+use Rattle.wl_machine.specs.Refusals.{refusal, reason_in}
+use Rattle.wl_machine.specs.declared.command.Command.{Command}
+use Rattle.wl_machine.specs.declared.command.Command.TheVariants as command
+use Rattle.wl_machine.specs.declared.command.Reply.{Reply}
+use Rattle.wl_machine.specs.declared.command.Reply.TheVariants as reply
+use Rattle.wl_codec.specs.declared.message.Body.{Body}
+use Rattle.wl_codec.specs.declared.message.Body.TheVariants as body
+use Rattle.wl_codec.specs.declared.reply.Outcome.{Outcome}
+use Rattle.wl_session.specs.Told.{IsByNumber, Look}
+use Rattle.wl_world.specs.declared.requests.Request.{Request}
+use Rattle.wl_types.specs.declared.answers.TakeAnswer.TheVariants as took
+use Rattle.std.proofs.Common.{map}
+use Rattle.wl_world.specs.Requests.{IsRising, listed, news_of, told, without}
+use Rattle.wl_world.specs.Origins.{Origin, Acted, act, as_taken, is_granted, outcome_of, stepped, take_look}
+use Rattle.wl_world.specs.Views.{made}
+use Rattle.wl_world.proofs.Rising.{added, filtered, higher, news_rising, noted_rising, told_rising}
+
+-- a new request has a number from low on, and the next is above it
+abbrev Counted : ℕ → ℕ → Reply → Type 0
+Counted low high (reply.Request n) = (low ≤ n) × (n < high)
+Counted low high (reply.Agent n) = low ≤ high
+Counted low high (reply.Signal n) = low ≤ high
+Counted low high (reply.Took a) = low ≤ high
+Counted low high (reply.Released a) = low ≤ high
+Counted low high (reply.Aborted a) = low ≤ high
+Counted low high reply.Done = low ≤ high
+Counted low high (reply.Seen s) = low ≤ high
+Counted low high (reply.Refused r) = low ≤ high
+
+abbrev IsCounted : State → machine.Outcome → Type 0
+IsCounted s out = Counted s.next.request out.state.next.request out.reply
+
+either : (s : State) (c : Bool) (a b : machine.Outcome) → IsCounted s a → IsCounted s b → IsCounted s (if c then a else b)
+either s true a b x y = x
+either s false a b x y = y
+
+accepted_counted : (s : State) (c : Command) → IsCounted s (machine.accepted s c)
+accepted_counted s (command.Enter kind) = omega arith
+accepted_counted s (command.SetActive agent active) = omega arith
+accepted_counted s (command.NewSignal agent) = omega arith
+accepted_counted s (command.Request agent ask) =
+    either s ask.steal _ _ (omega arith, omega arith) (either s (ask.if_available && not (machine.available s (machine.new_request s agent ask))) _ _ (omega arith, omega arith) (omega arith, omega arith))
+accepted_counted s (command.Take id) = either s (list_any (machine.is_untaken id) s.held) _ _ (omega arith) (omega arith)
+accepted_counted s (command.Release agent id) = either s (list_any (machine.is_lock_of agent id) s.held) _ _ (omega arith) (omega arith)
+accepted_counted s (command.Abort agent signal reason) = either s (is_some (reason_in s.signals agent signal)) _ _ (omega arith) (omega arith)
+accepted_counted s (command.Terminate agent) = omega arith
+accepted_counted s (command.Query agent) = omega arith
+
+step_counted : (s : State) (c : Command) → IsCounted s (machine.step s c)
+step_counted s c = go (refusal s c)
+  where
+    go : (r : Option Refusal) → IsCounted s (machine.unless_refused r s c)
+    go None = accepted_counted s c
+    go (Some r) = omega arith
+
+done_rising : (b : Body) (agent low high : ℕ) (requests : List Request) → low ≤ high → IsRising 0 low requests → IsRising 0 high (listed agent (outcome_of b reply.Done) requests)
+done_rising (body.Enter url kind) agent low high requests le r = higher 0 low high _ le (filtered (λ request. not (request.agent == agent)) 0 low requests r)
+done_rising body.Signal agent low high requests le r = higher 0 low high _ le (filtered (λ request. not (request.agent == agent)) 0 low requests r)
+done_rising (body.Request ask) agent low high requests le r = higher 0 low high _ le (filtered (λ request. not (request.agent == agent)) 0 low requests r)
+done_rising (body.Release n) agent low high requests le r = higher 0 low high _ le (filtered (λ request. not (request.agent == agent)) 0 low requests r)
+done_rising (body.Abort n reason) agent low high requests le r = higher 0 low high _ le (filtered (λ request. not (request.agent == agent)) 0 low requests r)
+done_rising (body.Active active) agent low high requests le r = higher 0 low high requests le r
+done_rising body.Query agent low high requests le r = higher 0 low high _ le (filtered (λ request. not (request.agent == agent)) 0 low requests r)
+done_rising body.Poll agent low high requests le r = higher 0 low high _ le (filtered (λ request. not (request.agent == agent)) 0 low requests r)
+done_rising body.Close agent low high requests le r = higher 0 low high _ le (filtered (λ request. not (request.agent == agent)) 0 low requests r)
+
+listed_rising : (answer : Reply) (b : Body) (agent low high : ℕ) (requests : List Request) → Counted low high answer → IsRising 0 low requests → IsRising 0 high (listed agent (outcome_of b answer) requests)
+listed_rising (reply.Request n) b agent low high requests (from, below) r = added 0 low high requests _ (omega arith) from below r
+listed_rising (reply.Agent n) b agent low high requests le r = higher 0 low high requests le r
+listed_rising (reply.Signal n) b agent low high requests le r = higher 0 low high requests le r
+listed_rising (reply.Took a) b agent low high requests le r = higher 0 low high requests le r
+listed_rising (reply.Released a) b agent low high requests le r = higher 0 low high requests le r
+listed_rising (reply.Aborted a) b agent low high requests le r = higher 0 low high requests le r
+listed_rising reply.Done b agent low high requests le r = done_rising b agent low high requests le r
+listed_rising (reply.Seen s) b agent low high requests le r = higher 0 low high requests le r
+listed_rising (reply.Refused x) b agent low high requests le r = higher 0 low high requests le r
+
+-- an origin whose requests are in order
+abbrev pub InOrder : Origin → Type 0
+InOrder o = IsRising 0 o.state.next.request o.requests
+
+stepped_in_order : (o : Origin) (agent : ℕ) (b : Body) (c : Command) → InOrder o → InOrder (stepped o agent b c).origin
+stepped_in_order o agent b c r =
+    unfold stepped in noted_rising 0 (machine.step o.state c).state.next.request (machine.step o.state c).changes (listed agent (outcome_of b (machine.step o.state c).reply) o.requests)
+    (listed_rising (machine.step o.state c).reply b agent o.state.next.request (machine.step o.state c).state.next.request o.requests (step_counted o.state c) r)
+
+act_in_order : (o : Origin) (agent : ℕ) (b : Body) → InOrder o → InOrder (act o agent b).origin
+act_in_order o agent (body.Enter url kind) r = r
+act_in_order o agent body.Signal r = stepped_in_order o agent body.Signal _ r
+act_in_order o agent (body.Request ask) r = stepped_in_order o agent (body.Request ask) _ r
+act_in_order o agent (body.Release n) r = stepped_in_order o agent (body.Release n) _ r
+act_in_order o agent (body.Abort n reason) r = stepped_in_order o agent (body.Abort n reason) _ r
+act_in_order o agent (body.Active active) r = stepped_in_order o agent (body.Active active) _ r
+act_in_order o agent body.Query r = stepped_in_order o agent body.Query _ r
+act_in_order o agent body.Poll r = r
+act_in_order o agent body.Close r = stepped_in_order o agent body.Close _ r
+
+result_in_order : (result : Result Outcome memory.Memory) (o : Origin) (a : Acted) → is_err result ≡ false
+    → IfOk result (λ outcome. made o.state o.requests outcome ≡ a) → InOrder a.origin → InOrder o
+result_in_order (Err e) o a ok is r = absurd cc
+result_in_order (Ok outcome) o a ok is r = subst (λ (x : Acted). InOrder x.origin) (sym is) r
+
+-- what was done keeps the order
+pub acted_in_order : (result : Result Outcome memory.Memory) (old new : Origin) (agent : ℕ) (b : Body) → is_err result ≡ false
+    → IfOk result (λ outcome. made new.state new.requests outcome ≡ act old agent b) → InOrder old → InOrder new
+acted_in_order result old new agent b ok is r = result_in_order result new (act old agent b) ok is (act_in_order old agent b r)
+
+pub entered_in_order : (result : Result Outcome memory.Memory) (old new : Origin) (agent : ℕ) (b : Body) (c : Command) → is_err result ≡ false
+    → IfOk result (λ outcome. made new.state new.requests outcome ≡ stepped old agent b c) → InOrder old → InOrder new
+entered_in_order result old new agent b c ok is r = result_in_order result new (stepped old agent b c) ok is (stepped_in_order old agent b c r)
+
+-- a take numbers nothing
+take_next : (s : State) (look : Look) → (take_look s look).next ≡ s.next
+take_next s look = granted (is_granted look.1)
+  where
+    untaken : (c : Bool) → (if c then machine.no_changes (record s { held = map (machine.with_taken look.0) s.held }) (reply.Took took.Taken) else machine.no_changes s (reply.Took took.NotGranted)).state.next ≡ s.next
+    untaken true = refl
+    untaken false = refl
+
+    granted : (c : Bool) → (if c then (machine.step s (command.Take look.0)).state else s).next ≡ s.next
+    granted true = untaken (list_any (machine.is_untaken look.0) s.held)
+    granted false = refl
+
+takes_next : (s : State) (looks : List Look) → (fold take_look s looks).next ≡ s.next
+takes_next s [] = refl
+takes_next s (look ∷ looks) = takes_next (take_look s look) looks ∙ take_next s look
+
+pub news_in_order : {A E : Type 0} (items : A → List Look) (result : Result A E) (agent high : ℕ) (requests given : List Request) → given ≡ requests → IsRising 0 high requests
+    → IfOk result (λ found. items found ≡ news_of agent given) → IfOk result (λ found. IsByNumber (items found))
+news_in_order items (Err e) agent high requests given same r is = tt
+news_in_order items (Ok found) agent high requests given same r is = subst IsByNumber (sym (is ∙ ap (news_of agent) same)) (news_rising agent 0 high requests r)
+
+pub told_in_order : (agent : ℕ) (s t : State) (looks : List Look) (old new : List Request) → t ≡ fold take_look s looks → new ≡ told agent old
+    → IsRising 0 s.next.request old → IsRising 0 t.next.request new
+told_in_order agent s t looks old new is mark r =
+    subst (λ (n : Numbers). IsRising 0 n.request new) (sym (ap (λ (s : State). s.next) is ∙ takes_next s looks))
+    (subst (IsRising 0 s.next.request) (sym mark) (told_rising agent 0 s.next.request old r))

@@ -1,0 +1,11 @@
+use Rattle.std.proofs.Common.{◌≡◌, ◌++◌, map, take, drop}
+use Rattle.std.specs.List.{fold}
+use Rattle.wl_world.specs.Origins.{as_taken, take_look}
+use Rattle.wl_world.proofs.origin.take_all.Given as goal
+
+-- taking the rest from here is taking all from the start
+abbrev pub invariant-loop-look : goal.invariant-loop-look
+invariant-loop-look g l = record {
+  state : fold take_look (g.C.LockCore.state l.core) (drop l.look-index l.news) ≡ fold take_look (g.C.LockCore.state l.fn.core) l.fn.news;
+  news : take l.look-index l.news ++ map as_taken (drop l.look-index l.news) ≡ map as_taken l.fn.news;
+}

@@ -1,0 +1,9 @@
+pub mod Requests
+pub mod Origins
+pub mod Views
+pub mod Agents
+pub mod Labels
+pub mod World
+pub mod Realms
+pub mod Worlds
+pub mod Isolation

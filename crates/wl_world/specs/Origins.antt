@@ -1,0 +1,95 @@
+-- The manager of one origin, and what an agent's operation makes of it (own; the operations are Web Locks').
+use Rattle.std.specs.Prelude.{ℕ, List, [], map, Some, if◌then◌else◌, Bool, true, false}
+use Rattle.std.specs.List.{fold}
+use Rattle.wl_types.specs.declared.phases.Numbers.{Numbers}
+use Rattle.wl_types.specs.declared.phases.Phase.{Phase}
+use Rattle.wl_types.specs.declared.phases.Phase.TheVariants.{Pending, Granted, Taken, Unavailable, Aborted, Released, Stolen}
+use Rattle.wl_machine.specs.State.{State, opening}
+use Rattle.wl_machine.specs.Step as machine
+use Rattle.wl_machine.specs.declared.command.Command.{Command}
+use Rattle.wl_machine.specs.declared.command.Command.TheVariants as command
+use Rattle.wl_machine.specs.declared.command.Reply.{Reply}
+use Rattle.wl_machine.specs.declared.command.Reply.TheVariants as reply
+use Rattle.wl_codec.specs.declared.message.Body.{Body}
+use Rattle.wl_codec.specs.declared.message.Body.TheVariants as body
+use Rattle.wl_codec.specs.declared.reply.Outcome.{Outcome}
+use Rattle.wl_codec.specs.declared.reply.Outcome.TheVariants as outcome
+use Rattle.wl_session.specs.Told.{Look}
+use Rattle.wl_world.specs.declared.requests.Request.{Request}
+use Rattle.wl_world.specs.Requests.{noted, listed, told}
+
+-- the machine's state, and the requests whose ends were not told
+pub record Origin : Type 0 where
+  pub state : State
+  pub requests : List Request
+
+abbrev pub ones : Numbers
+ones = record { agent = 1; request = 1; signal = 1 }
+
+abbrev pub unused : Origin
+unused = record { state = opening ones; requests = [] }
+
+-- an origin after an operation, and what the operation answers
+pub record Acted : Type 0 where
+  pub origin : Origin
+  pub outcome : Outcome
+
+-- The machine answers Done to two operations.
+abbrev pub done : Body → Outcome
+done (body.Active active) = outcome.Active active
+done _ = outcome.Closed
+
+-- what is answered for the machine's reply
+abbrev pub outcome_of : Body → Reply → Outcome
+outcome_of b (reply.Agent number) = outcome.Client (Some number)
+outcome_of b (reply.Signal number) = outcome.Signal number
+outcome_of b (reply.Request number) = outcome.Request number
+outcome_of b (reply.Took answer) = outcome.Polled
+outcome_of b (reply.Released answer) = outcome.Release answer
+outcome_of b (reply.Aborted answer) = outcome.Abort answer
+outcome_of b reply.Done = done b
+outcome_of b (reply.Seen snapshot) = outcome.Seen snapshot
+outcome_of b (reply.Refused refusal) = outcome.Refused refusal
+
+-- what the machine gave is noted
+abbrev pub noting : Origin → ℕ → Body → machine.Outcome → Acted
+noting o agent b gives = record {
+  origin = record { state = gives.state; requests = noted gives.changes (listed agent (outcome_of b gives.reply) o.requests) };
+  outcome = outcome_of b gives.reply;
+}
+
+-- the machine's step
+unfoldable pub stepped : Origin → ℕ → Body → Command → Acted
+stepped o agent b c = noting o agent b (machine.step o.state c)
+
+-- what an agent's operation makes of its origin; `poll` has no step
+abbrev pub act : Origin → ℕ → Body → Acted
+act o agent (body.Enter url kind) = record { origin = o; outcome = outcome.AlreadyOpen }
+act o agent body.Signal = stepped o agent body.Signal (command.NewSignal agent)
+act o agent (body.Request ask) = stepped o agent (body.Request ask) (command.Request agent ask)
+act o agent (body.Release number) = stepped o agent (body.Release number) (command.Release agent number)
+act o agent (body.Abort number reason) = stepped o agent (body.Abort number reason) (command.Abort agent number reason)
+act o agent (body.Active active) = stepped o agent (body.Active active) (command.SetActive agent active)
+act o agent body.Query = stepped o agent body.Query (command.Query agent)
+act o agent body.Poll = record { origin = o; outcome = outcome.Polled }
+act o agent body.Close = stepped o agent body.Close (command.Terminate agent)
+
+abbrev pub is_granted : Phase → Bool
+is_granted Pending = false
+is_granted Granted = true
+is_granted Taken = false
+is_granted Unavailable = false
+is_granted (Aborted reason) = false
+is_granted Released = false
+is_granted Stolen = false
+
+-- a lock that is granted is taken, as its agent is told of it now
+abbrev pub take_look : State → Look → State
+take_look s look = if is_granted look.1 then (machine.step s (command.Take look.0)).state else s
+
+abbrev pub as_taken : Look → Look
+as_taken look = (look.0, (if is_granted look.1 then Taken else look.1))
+
+-- The agent is told its news: each granted lock in it is taken, in order of number.
+unfoldable pub telling : ℕ → List Look → Origin → Origin
+telling agent news o = record { state = fold take_look o.state news; requests = told agent o.requests }

@@ -1,0 +1,58 @@
+//! What answers the lines of a script.
+
+ghost use Rattle.std.specs.Prelude.{◌≡◌, IfOk, OnOk, string_bytes};
+ghost use Rattle.wl_world.specs.World.{next, opening, reply};
+ghost use Rattle.wl_world.specs.Worlds.{world_of};
+
+use crate::label::Label;
+use crate::labels::serve_named;
+use crate::origin::Origin;
+use crate::serve_label::plain_text;
+use std::alloc::Global;
+use std::collections::BTreeMap;
+use wl_codec::{Line, Outcome, read_line};
+use wl_core::lock_core::LockCore;
+use wl_origin::OriginKey;
+use wl_types::Memory;
+
+/// The managers of all origins, over cores of any kind, and the labels that are open. Contracts see the world
+/// that these stand for.
+#[derive(Drop)]
+pub struct Engine<C: LockCore> {
+    alloc: Global,
+    realm: BTreeMap<OriginKey, Origin<C>>,
+    labels: BTreeMap<String, Label>,
+}
+
+impl<C: LockCore<Seed = ()>> Engine<C> {
+    /// A world in which nobody has opened.
+    pub fn new(alloc: Global) -> Engine<C>
+        ensures { world_of result ≡ opening }
+    {
+        Engine {
+            alloc,
+            realm: BTreeMap::new(alloc),
+            labels: BTreeMap::new(alloc),
+        }
+    }
+
+    /// Answers a line, which is given without its LF, by the reply without its own. After want of memory the engine
+    /// promises nothing more.
+    #[tactic(auto, unfolding(crate::specs::World::answered, crate::specs::World::next, crate::specs::World::reply))]
+    pub fn answer(&mut self, line: &[u8]) -> Result<String, Memory>
+        ensures reply { IfOk result (λ text. string_bytes text ≡ reply (world_of self.old) line.now) }
+        ensures next { OnOk result (world_of self.new ≡ next (world_of self.old) line.now) }
+    {
+        match read_line(self.alloc, line)? {
+            Line::Bad(id, fault) => plain_text(self.alloc, id, Outcome::Fault(fault)),
+            Line::Good(name, message) => serve_named(
+                self.alloc,
+                &mut self.realm,
+                &mut self.labels,
+                name.as_str(),
+                message.id,
+                &message.body,
+            ),
+        }
+    }
+}

@@ -1,0 +1,17 @@
+//! The world of a script: the managers of all origins, and what each label is.
+#![tactic(auto)]
+
+mod engine;
+mod label;
+mod labels;
+pub mod laws;
+mod opaque;
+mod open_label;
+mod origin;
+mod realm;
+mod requests;
+mod serve;
+mod serve_label;
+mod steps;
+
+pub use engine::Engine;

@@ -1,0 +1,99 @@
+//! One line of an unopened label.
+
+ghost use Rattle.std.specs.Prelude.{◌≡◌, IfOk, OnOk, string_bytes, Some, None};
+ghost use Rattle.wl_codec.specs.Replies.{reply_text};
+ghost use Rattle.wl_origin.specs.Standing.{standing_of};
+ghost use Rattle.wl_world.specs.Labels.{entered, from_unopened, opened, plain};
+ghost use Rattle.wl_world.specs.Realms.{realm_of};
+
+use crate::label::Label;
+use crate::origin::Origin;
+use crate::realm::enter_at;
+use crate::serve_label::plain_text;
+use std::alloc::Global;
+use std::collections::BTreeMap;
+use wl_codec::{Body, Outcome};
+use wl_core::lock_core::LockCore;
+use wl_origin::{KeyFault, OriginKey, Standing, key_of};
+use wl_session::Session;
+use wl_types::{Kind, Memory};
+
+/// What a line is answered, and the label that it opened.
+#[derive(Drop)]
+pub(crate) struct Opening {
+    pub text: String,
+    pub label: Option<Label>,
+}
+
+/// The label of a new agent.
+fn entered(alloc: Global, key: OriginKey, id: u64, outcome: Outcome) -> Result<Opening, Memory>
+    ensures text { IfOk result (λ opening. string_bytes opening.text ≡ reply_text (plain (Some id) outcome)) }
+    ensures label { IfOk result (λ opening. opening.label ≡ entered key outcome) }
+{
+    let agent = match &outcome {
+        Outcome::Client(Some(agent)) => *agent,
+        _ => {
+            let text = plain_text(alloc, Some(id), outcome)?;
+            return Ok(Opening { text, label: None });
+        }
+    };
+    let mut session = Session::new(alloc);
+    let text = session.finish_changed(Some(id), outcome, &[])?;
+    let label = Some(Label::Agent(key, agent, session));
+    Ok(Opening { text, label })
+}
+
+fn open_label<C: LockCore<Seed = ()>>(
+    alloc: Global,
+    realm: &mut BTreeMap<OriginKey, Origin<C>>,
+    id: u64,
+    url: &str,
+    kind: Kind,
+    body: &Body,
+) -> Result<Opening, Memory>
+    ensures text { IfOk result (λ opening. string_bytes opening.text
+        ≡ reply_text (opened (realm_of realm.old) id body.now kind (standing_of url.now)).reply) }
+    ensures label { IfOk result (λ opening. opening.label
+        ≡ (opened (realm_of realm.old) id body.now kind (standing_of url.now)).label) }
+    ensures realm { OnOk result (realm_of realm.new
+        ≡ (opened (realm_of realm.old) id body.now kind (standing_of url.now)).realm) }
+{
+    match key_of(alloc, url) {
+        Ok(Standing::Tuple(key)) => {
+            let outcome = enter_at(alloc, realm, &key, kind, body)?;
+            entered(alloc, key, id, outcome)
+        }
+        Ok(Standing::Opaque) => {
+            let text = plain_text(alloc, Some(id), Outcome::Client(None))?;
+            let label = Some(Label::Opaque(kind, true));
+            Ok(Opening { text, label })
+        }
+        Err(KeyFault::BadUrl) => {
+            let text = plain_text(alloc, Some(id), Outcome::BadUrl)?;
+            Ok(Opening { text, label: None })
+        }
+        Err(KeyFault::Memory) => Err(Memory),
+    }
+}
+
+pub(crate) fn serve_unopened<C: LockCore<Seed = ()>>(
+    alloc: Global,
+    realm: &mut BTreeMap<OriginKey, Origin<C>>,
+    id: u64,
+    body: &Body,
+) -> Result<Opening, Memory>
+    ensures text { IfOk result (λ opening. string_bytes opening.text
+        ≡ reply_text (from_unopened (realm_of realm.old) id body.now).reply) }
+    ensures label { IfOk result (λ opening. opening.label
+        ≡ (from_unopened (realm_of realm.old) id body.now).label) }
+    ensures realm { OnOk result (realm_of realm.new
+        ≡ (from_unopened (realm_of realm.old) id body.now).realm) }
+{
+    match body {
+        Body::Enter { url, kind } => open_label(alloc, realm, id, url.as_str(), *kind, body),
+        _ => {
+            let text = plain_text(alloc, Some(id), Outcome::NotOpen)?;
+            Ok(Opening { text, label: None })
+        }
+    }
+}

@@ -1,0 +1,122 @@
+//! The manager of one origin.
+
+ghost use Rattle.std.specs.Prelude.{◌≡◌, IfOk, map};
+ghost use Rattle.std.specs.List.{fold};
+ghost use Rattle.wl_machine.specs.declared.command.Command.TheVariants as command;
+ghost use Rattle.wl_session.specs.Told.{IsByNumber};
+ghost use Rattle.wl_world.specs.Origins.{act, as_taken, is_granted, stepped, take_look, telling, unused};
+ghost use Rattle.wl_world.specs.Requests.{news_of};
+ghost use Rattle.wl_world.specs.Views.{made_of};
+
+use crate::requests::Requests;
+use crate::steps::{act, enter};
+use std::alloc::Global;
+use std::marker::Model;
+use wl_codec::{Body, Outcome};
+use wl_core::lock_core::LockCore;
+use wl_types::{Kind, Memory, Numbers, Phase};
+
+/// A core, and the requests whose ends were not told. After a want of memory it promises nothing more.
+#[derive(Drop)]
+pub(crate) struct Origin<C: LockCore> {
+    core: C,
+    requests: Requests,
+}
+
+impl<C: LockCore> Model for Origin<C> {
+    ghost use Rattle.wl_world.specs.Origins as origins;
+    ghost use Rattle.wl_world.specs.Requests.{IsRising};
+
+    ghost Value = { origins.Origin };
+
+    ghost view = { λ o. record { state = C.state o.core; requests = o.requests } };
+
+    // Each request is older than the next, and all are older than the one to come.
+    ghost invariant = { λ o. IsRising 0 (C.state o.core).next.request o.requests };
+}
+
+impl<C: LockCore<Seed = ()>> Origin<C> {
+    pub(crate) fn new(alloc: Global) -> Origin<C>
+        ensures { result ≡ unused }
+    {
+        let next = Numbers {
+            agent: 1,
+            request: 1,
+            signal: 1,
+        };
+        Origin {
+            core: C::make(alloc, (), next),
+            requests: Requests::new(alloc),
+        }
+    }
+}
+
+impl<C: LockCore> Origin<C> {
+    /// A new agent, which the machine numbers.
+    pub(crate) fn enter(&mut self, kind: Kind, body: &Body) -> Result<Outcome, Memory>
+        ensures { IfOk result (λ outcome. made_of self.new outcome ≡ stepped self.old 0 body.now (command.Enter kind)) }
+    {
+        let result = enter(&mut self.core, &mut self.requests, kind, body);
+        if result.is_err() {
+            self.requests.clear();
+        }
+        result
+    }
+
+    /// Does what an agent asks for.
+    pub(crate) fn act(&mut self, agent: u64, body: &Body) -> Result<Outcome, Memory>
+        ensures { IfOk result (λ outcome. made_of self.new outcome ≡ act self.old agent body.now) }
+    {
+        let result = act(&mut self.core, &mut self.requests, agent, body);
+        if result.is_err() {
+            self.requests.clear();
+        }
+        result
+    }
+
+    /// The news of an agent, by number.
+    pub(crate) fn news_of(&self, alloc: Global, agent: u64) -> Result<Vec<(u64, Phase)>, Memory>
+        ensures found { IfOk result (λ news. news.items ≡ news_of agent self.now.requests) }
+        ensures by_number { IfOk result (λ news. IsByNumber news.items) }
+    {
+        self.requests.news_of(alloc, agent)
+    }
+
+    /// Tells the agent its news: takes each granted lock in it.
+    #[tactic(auto, unfolding(crate::specs::Origins::telling))]
+    pub(crate) fn tell(&mut self, agent: u64, news: &mut [(u64, Phase)])
+        requires { IsByNumber news.old }
+        ensures told { self.new ≡ telling agent news.old self.old }
+        ensures taken { news.new ≡ map as_taken news.old }
+        ensures by_number { IsByNumber news.new }
+    {
+        take_all(&mut self.core, news);
+        self.requests.tell(agent);
+    }
+}
+
+/// Takes each lock that is granted, in order.
+fn take_all<C: LockCore>(core: &mut C, news: &mut [(u64, Phase)])
+    ensures state { C.state core.new ≡ fold take_look (C.state core.old) news.old }
+    ensures taken { news.new ≡ map as_taken news.old }
+{
+    for look in news.iter_mut() {
+        take_one(core, look);
+    }
+}
+
+fn take_one<C: LockCore>(core: &mut C, look: &mut (u64, Phase))
+    ensures state { C.state core.new ≡ take_look (C.state core.old) look.old }
+    ensures taken { look.new ≡ as_taken look.old }
+{
+    if is_granted(look.1) {
+        core.take(look.0);
+        look.1 = Phase::Taken;
+    }
+}
+
+fn is_granted(phase: Phase) -> bool
+    ensures { result ≡ is_granted phase }
+{
+    matches!(phase, Phase::Granted)
+}
