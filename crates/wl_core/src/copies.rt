@@ -1,71 +1,66 @@
-//! Copies of the lists.
-ghost use Rattle.std.specs.Prelude.{◌≡◌, ◌<◌, length, vec_len, IfOk};
-ghost use Rattle.wl_machine.specs.Grants.{locks};
+//! Copies of the plain core's lists.
 
+ghost use Rattle.std.specs.Prelude.{◌≡◌, ◌≤◌, length, vec_len, vec_capacity, IfOk};
+
+use crate::room::push_in_room;
 use std::alloc::Global;
-use wl_machine::rows::{AgentRow, HeldRow, PendingRow, SignalRow};
+use wl_machine::rows::{HeldRow, PendingRow};
 use wl_types::{Memory, Name};
 
-/// A copy of the agents.
-pub fn copy_agents(alloc: Global, agents: &[AgentRow]) -> Result<Vec<AgentRow>, Memory>
-    ensures { IfOk result (λ copy. copy.items ≡ agents.now) }
-{
-    Ok(Vec::from_slice(alloc, agents)?)
+/// A row with a name in it, so that a copy takes memory.
+pub(crate) trait Row: Drop {
+    fn copied(&self, alloc: Global) -> Result<Self, Memory>
+        ensures { IfOk result (λ copy. copy ≡ self.now) };
 }
 
-/// A copy of the signals.
-pub fn copy_signals(alloc: Global, signals: &[SignalRow]) -> Result<Vec<SignalRow>, Memory>
-    ensures { IfOk result (λ copy. copy.items ≡ signals.now) }
-{
-    Ok(Vec::from_slice(alloc, signals)?)
+impl Row for Name {
+    fn copied(&self, alloc: Global) -> Result<Name, Memory> {
+        self.copy(alloc)
+    }
 }
 
-/// A copy of the names.
-pub fn copy_names(alloc: Global, names: &[Name]) -> Result<Vec<Name>, Memory>
-    ensures { IfOk result (λ copy. copy.items ≡ names.now) }
+impl Row for HeldRow {
+    fn copied(&self, alloc: Global) -> Result<HeldRow, Memory> {
+        Ok(HeldRow {
+            number: self.number,
+            agent: self.agent,
+            name: self.name.copy(alloc)?,
+            mode: self.mode,
+            signal: self.signal,
+            taken: self.taken,
+        })
+    }
+}
+
+impl Row for PendingRow {
+    fn copied(&self, alloc: Global) -> Result<PendingRow, Memory> {
+        Ok(PendingRow {
+            number: self.number,
+            agent: self.agent,
+            name: self.name.copy(alloc)?,
+            mode: self.mode,
+            signal: self.signal,
+        })
+    }
+}
+
+/// A copy of the rows with room for this many, reserved at once.
+pub(crate) fn copy_rows<T: Row>(alloc: Global, rows: &[T], room: usize) -> Result<Vec<T>, Memory>
+    requires { length rows.now ≤ room }
+    ensures items { IfOk result (λ copy. copy.items ≡ rows.now) }
+    ensures len { IfOk result (λ copy. vec_len copy ≡ length rows.now) }
+    ensures room { IfOk result (λ copy. room ≤ vec_capacity copy) }
 {
-    let mut copy = Vec::new(alloc);
-    for name in names {
-        copy.push(name.copy(alloc)?)?;
+    let mut copy = Vec::with_capacity(alloc, room)?;
+    for row in rows {
+        push_in_room(&mut copy, row.copied(alloc)?);
     }
     Ok(copy)
 }
 
-/// A copy of the locks.
-pub fn copy_held(alloc: Global, held: &[HeldRow]) -> Result<Vec<HeldRow>, Memory>
-    ensures items { IfOk result (λ copy. copy.items ≡ held.now) }
-    ensures len { IfOk result (λ copy. vec_len copy ≡ length held.now) }
+/// A copy of rows that own nothing.
+pub(crate) fn copy_values<T: Copy + Drop>(alloc: Global, rows: &[T]) -> Result<Vec<T>, Memory>
+    ensures { IfOk result (λ copy. copy.items ≡ rows.now) }
 {
-    let mut copy = Vec::new(alloc);
-    for lock in held {
-        let name = lock.name.copy(alloc)?;
-        copy.push(HeldRow {
-            number: lock.number,
-            agent: lock.agent,
-            name,
-            mode: lock.mode,
-            signal: lock.signal,
-            taken: lock.taken,
-        })?;
-    }
-    Ok(copy)
-}
-
-/// A copy of the requests.
-pub fn copy_pending(alloc: Global, pending: &[PendingRow]) -> Result<Vec<PendingRow>, Memory>
-    ensures items { IfOk result (λ copy. copy.items ≡ pending.now) }
-    ensures len { IfOk result (λ copy. vec_len copy ≡ length pending.now) }
-{
-    let mut copy = Vec::new(alloc);
-    for request in pending {
-        let name = request.name.copy(alloc)?;
-        copy.push(PendingRow {
-            number: request.number,
-            agent: request.agent,
-            name,
-            mode: request.mode,
-            signal: request.signal,
-        })?;
-    }
-    Ok(copy)
+    Ok(Vec::from_slice(alloc, rows)?)
 }

@@ -11,7 +11,7 @@ use wl_types::{Change, Name, Phase};
 
 /// Which locks an event ends.
 #[derive(Drop)]
-pub enum LocksToEnd<'a> {
+pub(crate) enum LocksToEnd<'a> {
     /// The agent's lock of this number.
     Number(u64, u64),
     /// The locks of a name.
@@ -24,14 +24,14 @@ pub enum LocksToEnd<'a> {
 
 /// Which requests an event ends.
 #[derive(Drop)]
-pub enum RequestsToEnd {
+pub(crate) enum RequestsToEnd {
     /// The agent's requests with this signal.
     Signal(u64, u64),
     /// The agent's requests.
     Agent(u64),
 }
 
-pub fn has_signal_number(signal: Option<u64>, number: u64) -> bool
+pub(crate) fn has_signal_number(signal: Option<u64>, number: u64) -> bool
     ensures { result ≡ is_signal number signal }
 {
     match signal {
@@ -41,13 +41,13 @@ pub fn has_signal_number(signal: Option<u64>, number: u64) -> bool
 }
 
 /// Whether an abort of the agent's signal ends the lock.
-pub fn is_abortable_lock(lock: &HeldRow, agent: u64, signal: u64) -> bool
+pub(crate) fn is_abortable_lock(lock: &HeldRow, agent: u64, signal: u64) -> bool
     ensures { result ≡ is_abortable agent signal lock.now }
 {
     lock.agent == agent && has_signal_number(lock.signal, signal) && !lock.taken
 }
 
-pub fn is_ended_lock(test: &LocksToEnd, lock: &HeldRow) -> bool
+pub(crate) fn is_ended_lock(test: &LocksToEnd, lock: &HeldRow) -> bool
     ensures { result ≡ selects_lock test.now lock.now }
 {
     match test {
@@ -58,7 +58,7 @@ pub fn is_ended_lock(test: &LocksToEnd, lock: &HeldRow) -> bool
     }
 }
 
-pub fn is_ended_request(test: &RequestsToEnd, request: &PendingRow) -> bool
+pub(crate) fn is_ended_request(test: &RequestsToEnd, request: &PendingRow) -> bool
     ensures { result ≡ selects_request test.now request.now }
 {
     match test {
@@ -69,7 +69,7 @@ pub fn is_ended_request(test: &RequestsToEnd, request: &PendingRow) -> bool
 }
 
 /// Ends locks.
-pub fn end_locks(
+pub(crate) fn end_locks(
     held: &mut Vec<HeldRow>,
     changes: &mut Vec<Change>,
     test: &LocksToEnd,
@@ -98,7 +98,7 @@ pub fn end_locks(
 }
 
 /// Ends requests.
-pub fn end_requests(
+pub(crate) fn end_requests(
     pending: &mut Vec<PendingRow>,
     changes: &mut Vec<Change>,
     test: &RequestsToEnd,
@@ -126,7 +126,7 @@ pub fn end_requests(
 }
 
 /// Whether an agent has the lock of this number.
-pub fn has_lock(held: &[HeldRow], agent: u64, id: u64) -> bool
+pub(crate) fn has_lock(held: &[HeldRow], agent: u64, id: u64) -> bool
     ensures { result ≡ list_any (is_lock_of agent id) held.now }
 {
     held.iter()
@@ -134,21 +134,21 @@ pub fn has_lock(held: &[HeldRow], agent: u64, id: u64) -> bool
 }
 
 /// Whether a lock is of this number and untaken.
-pub fn is_untaken_lock(lock: &HeldRow, id: u64) -> bool
+pub(crate) fn is_untaken_lock(lock: &HeldRow, id: u64) -> bool
     ensures { result ≡ is_untaken id lock.now }
 {
     lock.number == id && !lock.taken
 }
 
 /// Whether there is an untaken lock of this number.
-pub fn has_untaken(held: &[HeldRow], id: u64) -> bool
+pub(crate) fn has_untaken(held: &[HeldRow], id: u64) -> bool
     ensures { result ≡ list_any (is_untaken id) held.now }
 {
     held.iter().any(|lock| is_untaken_lock(lock, id))
 }
 
 /// Sets the flag of the lock of this number.
-pub fn take_lock(held: &mut Vec<HeldRow>, id: u64)
+pub(crate) fn take_lock(held: &mut Vec<HeldRow>, id: u64)
     ensures held { held.new.items ≡ map (with_taken id) held.old.items }
     ensures len { vec_len held.new ≡ vec_len held.old }
     ensures room { vec_capacity held.new ≡ vec_capacity held.old }
@@ -161,7 +161,7 @@ pub fn take_lock(held: &mut Vec<HeldRow>, id: u64)
 }
 
 /// The number at a place among the agent's untaken locks with a signal.
-pub fn nth_untaken(held: &[HeldRow], agent: u64, signal: u64, i: u64) -> Option<u64>
+pub(crate) fn nth_untaken(held: &[HeldRow], agent: u64, signal: u64, i: u64) -> Option<u64>
     ensures { result ≡ slice_get (map (λ lock. lock.number) (filter (is_abortable agent signal) held.now)) i }
 {
     let mut left = i;

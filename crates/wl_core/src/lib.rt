@@ -1,17 +1,20 @@
-//! A lock manager's core as a trait, and its plain body over lists.
+//! A lock manager's core: the trait that every representation meets, a plain body over lists, realms of cores by
+//! key, and lists of commands run on any core.
 #![tactic(auto)]
 
+mod copies;
+mod ends;
+pub mod lock_core;
+mod names;
+mod owners;
+pub mod plain;
+mod queues;
+mod room;
+mod settling;
+mod snapshots;
+
+pub use lock_core::LockCore;
+pub use plain::PlainCore;
 pub use wl_machine::command::{Command, Reply};
 pub use wl_machine::rows::{AgentRow, HeldRow, PendingRow, SignalRow};
 pub use wl_types::{AbortAnswer, ReleaseAnswer, TakeAnswer};
-
-pub mod copies;
-pub mod ends;
-pub mod limits;
-pub mod lock_core;
-pub mod names;
-pub mod owners;
-pub mod plain;
-pub mod room;
-pub mod settling;
-pub mod snapshots;

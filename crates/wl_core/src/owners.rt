@@ -8,7 +8,7 @@ use wl_machine::rows::{AgentRow, SignalRow};
 use wl_types::{Kind, Reason};
 
 /// Whether there is an agent of this number.
-pub fn has_agent(agents: &[AgentRow], agent: u64) -> bool
+pub(crate) fn has_agent(agents: &[AgentRow], agent: u64) -> bool
     ensures { result ≡ list_any (λ row. row.number == agent) agents.now }
 {
     agents.iter().any(|row| row.number == agent)
@@ -21,7 +21,7 @@ fn is_inactive_row(row: &AgentRow, agent: u64) -> bool
 }
 
 /// Whether the agent is a window made inactive.
-pub fn is_inactive_in(agents: &[AgentRow], agent: u64) -> bool
+pub(crate) fn is_inactive_in(agents: &[AgentRow], agent: u64) -> bool
     ensures { result ≡ list_any (λ row. row.number == agent && is_window row.kind && not row.active) agents.now }
 {
     agents.iter().any(|row| is_inactive_row(row, agent))
@@ -33,14 +33,14 @@ fn is_worker_row(row: &AgentRow, agent: u64) -> bool
     row.number == agent && row.kind == Kind::Worker
 }
 
-pub fn is_worker_in(agents: &[AgentRow], agent: u64) -> bool
+pub(crate) fn is_worker_in(agents: &[AgentRow], agent: u64) -> bool
     ensures { result ≡ list_any (λ row. row.number == agent && not (is_window row.kind)) agents.now }
 {
     agents.iter().any(|row| is_worker_row(row, agent))
 }
 
 /// Makes an agent active or inactive.
-pub fn set_active_in(agents: &mut Vec<AgentRow>, agent: u64, active: bool)
+pub(crate) fn set_active_in(agents: &mut Vec<AgentRow>, agent: u64, active: bool)
     ensures { agents.new.items ≡ map (with_active agent active) agents.old.items }
 {
     for row in agents.iter_mut() {
@@ -51,13 +51,13 @@ pub fn set_active_in(agents: &mut Vec<AgentRow>, agent: u64, active: bool)
 }
 
 /// Lets an agent go.
-pub fn remove_agent(agents: &mut Vec<AgentRow>, agent: u64)
+pub(crate) fn remove_agent(agents: &mut Vec<AgentRow>, agent: u64)
     ensures { agents.new.items ≡ filter (λ row. not (row.number == agent)) agents.old.items }
 {
     agents.retain(|row| !(row.number == agent));
 }
 
-pub fn has_signal_in(signals: &[SignalRow], agent: u64, signal: u64) -> bool
+pub(crate) fn has_signal_in(signals: &[SignalRow], agent: u64, signal: u64) -> bool
     ensures { result ≡ list_any (λ row. row.agent == agent && row.number == signal) signals.now }
 {
     signals
@@ -66,14 +66,14 @@ pub fn has_signal_in(signals: &[SignalRow], agent: u64, signal: u64) -> bool
 }
 
 /// How many signals an agent has made.
-pub fn signal_count(signals: &[SignalRow], agent: u64) -> usize
+pub(crate) fn signal_count(signals: &[SignalRow], agent: u64) -> usize
     ensures { result ≡ length (signals_of agent signals.now) }
 {
     signals.iter().filter(|row| row.agent == agent).count()
 }
 
 /// The reason of the agent's signal of this number.
-pub fn reason_of(signals: &[SignalRow], agent: u64, signal: u64) -> Option<Reason>
+pub(crate) fn reason_of(signals: &[SignalRow], agent: u64, signal: u64) -> Option<Reason>
     ensures { result ≡ reason_in signals.now agent signal }
 {
     for row in signals {
@@ -85,7 +85,7 @@ pub fn reason_of(signals: &[SignalRow], agent: u64, signal: u64) -> Option<Reaso
 }
 
 /// Aborts a signal.
-pub fn set_reason(signals: &mut Vec<SignalRow>, agent: u64, signal: u64, reason: Reason)
+pub(crate) fn set_reason(signals: &mut Vec<SignalRow>, agent: u64, signal: u64, reason: Reason)
     ensures { signals.new.items ≡ map (with_reason agent signal reason) signals.old.items }
 {
     for row in signals.iter_mut() {
@@ -96,7 +96,7 @@ pub fn set_reason(signals: &mut Vec<SignalRow>, agent: u64, signal: u64, reason:
 }
 
 /// Lets an agent's signals go.
-pub fn remove_signals(signals: &mut Vec<SignalRow>, agent: u64)
+pub(crate) fn remove_signals(signals: &mut Vec<SignalRow>, agent: u64)
     ensures { signals.new.items ≡ filter (λ row. not (row.agent == agent)) signals.old.items }
 {
     signals.retain(|row| !(row.agent == agent));

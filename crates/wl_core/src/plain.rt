@@ -1,33 +1,37 @@
-//! The machine over lists.
+//! The lock machine over lists.
+
 ghost use Rattle.std.specs.Prelude.{◌≡◌, ℕ, ◌+◌, ◌≤◌, ◌<◌, List, [], ◌∷◌, ◌++◌, IfOk, IfErr, OnErr, OnOk, Option, None, Some, true};
 ghost use Rattle.wl_machine.specs.State.{State, opening, AreNumbers};
 ghost use Rattle.wl_machine.specs.Refusals.{refusal};
+ghost use Rattle.wl_machine.specs.Step.{Gives};
 
-use crate::copies::{copy_agents, copy_held, copy_names, copy_pending, copy_signals};
+use crate::copies::{copy_rows, copy_values};
 use crate::ends::{
     LocksToEnd, RequestsToEnd, end_locks, end_requests, has_lock, has_untaken, nth_untaken,
     take_lock,
 };
-use crate::limits::{is_full, unless_refused};
 use crate::lock_core::LockCore;
-use crate::names::{add_name, keep_used};
-use crate::owners::{
-    has_agent, has_signal_in, is_inactive_in, is_worker_in, reason_of, remove_agent,
-    remove_signals, set_active_in, set_reason, signal_count,
-};
-use crate::room::{make_room, make_room_for_all, push_front_in_room, push_in_room};
-use crate::settling::{is_unavailable, settle_all};
+use crate::names::add_name;
+use crate::owners::{reason_of, remove_agent, remove_signals, set_active_in, set_reason};
+use crate::plain::refusals::unless_refused;
+use crate::queues::{enter, is_unavailable};
+use crate::room::{make_room, push_in_room};
+use crate::settling::settle;
 use crate::snapshots::shown;
 use std::alloc::Global;
 use std::marker::Model;
 use wl_machine::command::{Command, Reply};
-use wl_machine::rows::{AgentRow, HeldRow, PendingRow, SignalRow, same_next};
+use wl_machine::rows::{AgentRow, HeldRow, PendingRow, SignalRow};
 use wl_types::{
     AbortAnswer, Ask, Change, Kind, Memory, Name, Numbers, Phase, Reason, Refusal, ReleaseAnswer,
     Snapshot, TakeAnswer,
 };
 
-/// A core that keeps lists. It has room for what the end of each live request needs.
+mod equality;
+mod refusals;
+
+/// A core that keeps the machine's lists as they are and scans them: the plain program of the definitions, with
+/// which faster cores are compared. It has room for what the end of each live request needs.
 #[derive(Drop)]
 pub struct PlainCore {
     agents: Vec<AgentRow>,
@@ -55,92 +59,48 @@ impl Model for PlainCore {
 }
 
 impl PlainCore {
-    /// Why an agent may not open, memory aside.
-    pub fn open_refusal(&self) -> Option<Refusal>
-        ensures { result ≡ refusal self.now.state (Command.Enter Kind.Window) }
+    /// A request that nothing refuses. All that can fail comes first.
+    fn admit(&mut self, agent: u64, ask: &Ask) -> Result<u64, Memory>
+        requires accepted { refusal self.old.state (Command.Request agent ask.now) ≡ None }
+        requires no_changes { self.old.recent ≡ [] }
+        ensures admitted { IfOk result (λ id. Gives self.old.state (Command.Request agent ask.now) self.new.state (Reply.Request id) self.new.recent) }
+        ensures unchanged { OnErr result (self.new ≡ self.old) }
     {
-        if self.agents.len() >= 4096 {
-            return Some(Refusal::TooManyAgents);
+        let number = self.next.request;
+        let name = match Name::of(self.alloc, ask.name.as_str()) {
+            Ok(name) => name,
+            Err(_) => return Err(Memory),
+        };
+        let row = PendingRow {
+            number,
+            agent,
+            name,
+            mode: ask.mode,
+            signal: ask.signal,
+        };
+        make_room(&mut self.held, &mut self.pending, &mut self.changes)?;
+        if is_unavailable(&self.held, &self.pending, &row, ask) {
+            let phase = Phase::Unavailable;
+            push_in_room(&mut self.changes, Change { id: number, phase });
+            self.next.request = number + 1;
+            return Ok(number);
         }
-        if self.next.agent >= 9007199254740992 {
-            return Some(Refusal::NumbersSpent);
-        }
-        None
-    }
-
-    /// Why an agent may not be made active or inactive, memory aside.
-    pub fn set_refusal(&self, agent: u64) -> Option<Refusal>
-        ensures { result ≡ refusal self.now.state (Command.SetActive agent true) }
-    {
-        if !has_agent(&self.agents, agent) {
-            return Some(Refusal::NoSuchAgent);
-        }
-        if is_worker_in(&self.agents, agent) {
-            return Some(Refusal::NotAWindow);
-        }
-        None
-    }
-
-    /// Why an agent may have no new signal, memory aside.
-    pub fn signal_refusal(&self, agent: u64) -> Option<Refusal>
-        ensures { result ≡ refusal self.now.state (Command.NewSignal agent) }
-    {
-        if !has_agent(&self.agents, agent) {
-            return Some(Refusal::NoSuchAgent);
-        }
-        if signal_count(&self.signals, agent) >= 1024 {
-            return Some(Refusal::TooManySignals);
-        }
-        if self.next.signal >= 9007199254740992 {
-            return Some(Refusal::NumbersSpent);
-        }
-        None
-    }
-
-    /// Why a request is refused, memory aside.
-    pub fn request_refusal(&self, agent: u64, ask: &Ask) -> Option<Refusal>
-        ensures { result ≡ refusal self.now.state (Command.Request agent ask.now) }
-    {
-        if !has_agent(&self.agents, agent) {
-            return Some(Refusal::NoSuchAgent);
-        }
-        if is_inactive_in(&self.agents, agent) {
-            return Some(Refusal::InvalidState);
-        }
-        if let Err(refusal) = ask.check() {
-            return Some(refusal);
-        }
-        if let Some(signal) = ask.signal {
-            if !has_signal_in(&self.signals, agent, signal) {
-                return Some(Refusal::NoSuchSignal);
-            }
-            if let Some(reason) = reason_of(&self.signals, agent, signal) {
-                return Some(Refusal::SignalAborted(reason));
-            }
-        }
-        if ask.name.as_str().len() > 1024 {
-            return Some(Refusal::NameTooLong);
-        }
-        if is_full(&self.held, &self.pending) {
-            return Some(Refusal::TooManyRequests);
-        }
-        if self.next.request >= 9007199254740992 {
-            return Some(Refusal::NumbersSpent);
-        }
-        None
-    }
-
-    /// Why a query is refused, memory aside.
-    pub fn query_refusal(&self, agent: u64) -> Option<Refusal>
-        ensures { result ≡ refusal self.now.state (Command.Query agent) }
-    {
-        if !has_agent(&self.agents, agent) {
-            return Some(Refusal::NoSuchAgent);
-        }
-        if is_inactive_in(&self.agents, agent) {
-            return Some(Refusal::InvalidState);
-        }
-        None
+        add_name(self.alloc, &mut self.names, &row.name)?;
+        enter(
+            &mut self.held,
+            &mut self.pending,
+            &mut self.changes,
+            row,
+            ask.steal,
+        );
+        settle(
+            &mut self.held,
+            &mut self.pending,
+            &mut self.changes,
+            &mut self.names,
+        );
+        self.next.request = number + 1;
+        Ok(number)
     }
 }
 
@@ -182,92 +142,6 @@ impl LockCore for PlainCore {
         Ok(number)
     }
 
-    fn request(&mut self, agent: u64, ask: &Ask) -> Result<u64, Refusal> {
-        self.changes.clear();
-        if let Some(refusal) = self.request_refusal(agent, ask) {
-            return Err(refusal);
-        }
-        let Ok(name) = Name::of(self.alloc, ask.name.as_str()) else {
-            return Err(Refusal::Memory);
-        };
-        if make_room(&mut self.held, &mut self.pending, &mut self.changes).is_err() {
-            return Err(Refusal::Memory);
-        }
-        let number = self.next.request;
-        let row = PendingRow {
-            number,
-            agent,
-            name,
-            mode: ask.mode,
-            signal: ask.signal,
-        };
-        if ask.steal {
-            if add_name(self.alloc, &mut self.names, &row.name).is_err() {
-                return Err(Refusal::Memory);
-            }
-            self.next.request = number + 1;
-            let test = LocksToEnd::Named(&row.name);
-            end_locks(&mut self.held, &mut self.changes, &test, Phase::Stolen);
-            push_front_in_room(&mut self.pending, row);
-            settle_all(
-                &mut self.held,
-                &mut self.pending,
-                &mut self.changes,
-                &self.names,
-            );
-            keep_used(&mut self.names, &self.held, &self.pending);
-            return Ok(number);
-        }
-        if is_unavailable(&self.held, &self.pending, &row, ask.if_available) {
-            let change = Change {
-                id: number,
-                phase: Phase::Unavailable,
-            };
-            push_in_room(&mut self.changes, change);
-            self.next.request = number + 1;
-            return Ok(number);
-        }
-        if add_name(self.alloc, &mut self.names, &row.name).is_err() {
-            return Err(Refusal::Memory);
-        }
-        self.next.request = number + 1;
-        push_in_room(&mut self.pending, row);
-        settle_all(
-            &mut self.held,
-            &mut self.pending,
-            &mut self.changes,
-            &self.names,
-        );
-        keep_used(&mut self.names, &self.held, &self.pending);
-        Ok(number)
-    }
-
-    fn take(&mut self, id: u64) -> TakeAnswer {
-        self.changes.clear();
-        if !has_untaken(&self.held, id) {
-            return TakeAnswer::NotGranted;
-        }
-        take_lock(&mut self.held, id);
-        TakeAnswer::Taken
-    }
-
-    fn release(&mut self, agent: u64, id: u64) -> ReleaseAnswer {
-        self.changes.clear();
-        if !has_lock(&self.held, agent, id) {
-            return ReleaseAnswer::NotHeld;
-        }
-        let test = LocksToEnd::Number(agent, id);
-        end_locks(&mut self.held, &mut self.changes, &test, Phase::Released);
-        settle_all(
-            &mut self.held,
-            &mut self.pending,
-            &mut self.changes,
-            &self.names,
-        );
-        keep_used(&mut self.names, &self.held, &self.pending);
-        ReleaseAnswer::Released
-    }
-
     fn set_active(&mut self, agent: u64, active: bool) -> Result<(), Refusal> {
         self.changes.clear();
         if let Some(refusal) = self.set_refusal(agent) {
@@ -295,65 +169,83 @@ impl LockCore for PlainCore {
         Ok(number)
     }
 
+    fn request(&mut self, agent: u64, ask: &Ask) -> Result<u64, Refusal> {
+        self.changes.clear();
+        if let Some(refusal) = self.request_refusal(agent, ask) {
+            return Err(refusal);
+        }
+        match self.admit(agent, ask) {
+            Ok(number) => Ok(number),
+            Err(_) => Err(Refusal::Memory),
+        }
+    }
+
+    fn take(&mut self, id: u64) -> TakeAnswer {
+        self.changes.clear();
+        if !has_untaken(&self.held, id) {
+            return TakeAnswer::NotGranted;
+        }
+        take_lock(&mut self.held, id);
+        TakeAnswer::Taken
+    }
+
+    fn release(&mut self, agent: u64, id: u64) -> ReleaseAnswer {
+        self.changes.clear();
+        if !has_lock(&self.held, agent, id) {
+            return ReleaseAnswer::NotHeld;
+        }
+        let lock = LocksToEnd::Number(agent, id);
+        end_locks(&mut self.held, &mut self.changes, &lock, Phase::Released);
+        settle(
+            &mut self.held,
+            &mut self.pending,
+            &mut self.changes,
+            &mut self.names,
+        );
+        ReleaseAnswer::Released
+    }
+
     fn abort(&mut self, agent: u64, signal: u64, reason: Reason) -> Result<AbortAnswer, Refusal> {
         self.changes.clear();
-        if !has_agent(&self.agents, agent) {
-            return Err(Refusal::NoSuchAgent);
-        }
-        if !has_signal_in(&self.signals, agent, signal) {
-            return Err(Refusal::NoSuchSignal);
+        if let Some(refusal) = self.abort_refusal(agent, signal) {
+            return Err(refusal);
         }
         if reason_of(&self.signals, agent, signal).is_some() {
             return Ok(AbortAnswer::AlreadyAborted);
         }
         set_reason(&mut self.signals, agent, signal, reason);
+        let phase = Phase::Aborted(reason);
         let requests = RequestsToEnd::Signal(agent, signal);
-        end_requests(
-            &mut self.pending,
-            &mut self.changes,
-            &requests,
-            Phase::Aborted(reason),
-        );
+        end_requests(&mut self.pending, &mut self.changes, &requests, phase);
         let locks = LocksToEnd::Signal(agent, signal);
-        end_locks(
-            &mut self.held,
-            &mut self.changes,
-            &locks,
-            Phase::Aborted(reason),
-        );
-        settle_all(
+        end_locks(&mut self.held, &mut self.changes, &locks, phase);
+        settle(
             &mut self.held,
             &mut self.pending,
             &mut self.changes,
-            &self.names,
+            &mut self.names,
         );
-        keep_used(&mut self.names, &self.held, &self.pending);
         Ok(AbortAnswer::Done)
     }
 
     fn terminate(&mut self, agent: u64) -> Result<(), Refusal> {
         self.changes.clear();
-        if !has_agent(&self.agents, agent) {
-            return Err(Refusal::NoSuchAgent);
+        if let Some(refusal) = self.terminate_refusal(agent) {
+            return Err(refusal);
         }
         let requests = RequestsToEnd::Agent(agent);
-        end_requests(
-            &mut self.pending,
-            &mut self.changes,
-            &requests,
-            Phase::Aborted(Reason::AbortError),
-        );
+        let phase = Phase::Aborted(Reason::AbortError);
+        end_requests(&mut self.pending, &mut self.changes, &requests, phase);
         let locks = LocksToEnd::Agent(agent);
         end_locks(&mut self.held, &mut self.changes, &locks, Phase::Released);
         remove_signals(&mut self.signals, agent);
         remove_agent(&mut self.agents, agent);
-        settle_all(
+        settle(
             &mut self.held,
             &mut self.pending,
             &mut self.changes,
-            &self.names,
+            &mut self.names,
         );
-        keep_used(&mut self.names, &self.held, &self.pending);
         Ok(())
     }
 
@@ -393,40 +285,16 @@ impl LockCore for PlainCore {
 
     fn copy_plain(&self) -> Result<PlainCore, Memory> {
         let alloc = self.alloc;
-        let mut held = copy_held(alloc, &self.held)?;
-        let mut pending = copy_pending(alloc, &self.pending)?;
-        let mut changes = Vec::new(alloc);
-        make_room_for_all(&mut held, &mut pending, &mut changes)?;
+        let live = self.held.len() + self.pending.len();
         Ok(PlainCore {
-            agents: copy_agents(alloc, &self.agents)?,
-            signals: copy_signals(alloc, &self.signals)?,
-            names: copy_names(alloc, &self.names)?,
-            held,
-            pending,
+            agents: copy_values(alloc, &self.agents)?,
+            signals: copy_values(alloc, &self.signals)?,
+            names: copy_rows(alloc, &self.names, self.names.len())?,
+            held: copy_rows(alloc, &self.held, live)?,
+            pending: copy_rows(alloc, &self.pending, self.pending.len())?,
             next: self.next,
-            changes,
+            changes: Vec::with_capacity(alloc, live)?,
             alloc,
         })
-    }
-}
-
-impl PartialEq for PlainCore {
-    ghost use Rattle.std.specs.Cmp.{partial_equiv_from_equiv};
-    ghost use Rattle.std.proofs.lemmas.Cmp.{on_equiv};
-    ghost use Rattle.std.specs.Ordering.{on};
-    ghost use Rattle.wl_machine.specs.Same.{same_state, same_state_equiv};
-
-    ghost eq = { on (λ c. c.state) same_state };
-
-    ghost laws = { partial_equiv_from_equiv (on_equiv (λ c. c.state) same_state_equiv) };
-
-    /// Compares the states alone, and not the changes of the last call.
-    fn eq(&self, other: &PlainCore) -> bool {
-        self.agents == other.agents
-            && self.signals == other.signals
-            && self.names == other.names
-            && self.held == other.held
-            && self.pending == other.pending
-            && same_next(self.next, other.next)
     }
 }

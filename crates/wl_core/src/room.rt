@@ -6,7 +6,7 @@ use wl_machine::rows::{HeldRow, PendingRow};
 use wl_types::Change;
 
 /// Puts a value into room that is there.
-pub fn push_in_room<T: Drop>(items: &mut Vec<T>, item: T)
+pub(crate) fn push_in_room<T: Drop>(items: &mut Vec<T>, item: T)
     requires { vec_len items.old < vec_capacity items.old }
     ensures items { items.new.items ≡ items.old.items ++ item ∷ [] }
     ensures len { vec_len items.new ≡ vec_len items.old + 1 }
@@ -16,7 +16,7 @@ pub fn push_in_room<T: Drop>(items: &mut Vec<T>, item: T)
 }
 
 /// Puts a request in front, into room that is there.
-pub fn push_front_in_room(pending: &mut Vec<PendingRow>, row: PendingRow)
+pub(crate) fn push_front_in_room(pending: &mut Vec<PendingRow>, row: PendingRow)
     requires { vec_len pending.old < vec_capacity pending.old }
     ensures items { pending.new.items ≡ row ∷ pending.old.items }
     ensures len { vec_len pending.new ≡ vec_len pending.old + 1 }
@@ -25,7 +25,7 @@ pub fn push_front_in_room(pending: &mut Vec<PendingRow>, row: PendingRow)
 }
 
 /// Makes room for one more live request.
-pub fn make_room(
+pub(crate) fn make_room(
     held: &mut Vec<HeldRow>,
     pending: &mut Vec<PendingRow>,
     changes: &mut Vec<Change>,
@@ -49,25 +49,5 @@ pub fn make_room(
     held.reserve(pending.len() + 1)?;
     changes.reserve(live + 1)?;
     pending.reserve(1)?;
-    Ok(())
-}
-
-/// Makes room for the end of each live request.
-pub fn make_room_for_all(
-    held: &mut Vec<HeldRow>,
-    pending: &mut Vec<PendingRow>,
-    changes: &mut Vec<Change>,
-) -> Result<(), AllocError>
-    requires few { vec_len held.old + vec_len pending.old < 18446744073709551616 }
-    requires none { changes.old.items ≡ [] }
-
-    ensures held { held.new.items ≡ held.old.items }
-    ensures pending { pending.new.items ≡ pending.old.items }
-    ensures changes { changes.new.items ≡ changes.old.items }
-    ensures held_room { OnOk result (vec_len held.new + vec_len pending.new ≤ vec_capacity held.new) }
-    ensures changes_room { OnOk result (vec_len held.new + vec_len pending.new ≤ vec_capacity changes.new) }
-{
-    held.reserve(pending.len())?;
-    changes.reserve(held.len() + pending.len())?;
     Ok(())
 }

@@ -1,72 +1,16 @@
-//! What the queues grant.
-ghost use Rattle.std.specs.Prelude.{◌≡◌, ◌+◌, ◌≤◌, ◌<◌, [], ◌∷◌, ◌++◌, map, not, length, vec_len, vec_capacity, ◌==◌, ◌&&◌, ◌||◌};
-ghost use Rattle.wl_machine.specs.Grants.{is_exclusive, is_empty, any_exclusive, locks, queue, grants, first_requests, without_first, granted_lock, grant_change, settle_name, settle_names, lists_of};
-ghost use Rattle.wl_machine.specs.Step.{is_nil};
+//! Processing the queues.
 
+ghost use Rattle.std.specs.Prelude.{◌≡◌, ◌+◌, ◌≤◌, ◌<◌, ◌++◌, map, filter, length, vec_len, vec_capacity};
+ghost use Rattle.wl_machine.specs.Grants.{locks, queue, grants, first_requests, without_first, granted_lock, grant_change, settle_name, settle_names, lists_of, in_use};
+
+use crate::names::keep_used;
+use crate::queues::{has_exclusive, has_none};
 use crate::room::push_in_room;
 use wl_machine::rows::{HeldRow, PendingRow, exclusive};
-use wl_types::{Change, Mode, Name, Phase};
-
-/// Whether a name has an exclusive lock.
-pub fn has_exclusive(held: &[HeldRow], name: &Name) -> bool
-    ensures { result ≡ any_exclusive (locks name.now held.now) }
-{
-    for lock in held {
-        if lock.name.same(name) && exclusive(lock.mode) {
-            return true;
-        }
-    }
-    false
-}
-
-/// Whether a name has no lock.
-pub fn has_none(held: &[HeldRow], name: &Name) -> bool
-    ensures { result ≡ is_empty (locks name.now held.now) }
-{
-    for lock in held {
-        if lock.name.same(name) {
-            return false;
-        }
-    }
-    true
-}
-
-/// Whether a name has no request.
-pub fn has_no_request(pending: &[PendingRow], name: &Name) -> bool
-    ensures { result ≡ is_nil (queue name.now pending.now) }
-{
-    for request in pending {
-        if request.name.same(name) {
-            return false;
-        }
-    }
-    true
-}
-
-/// Whether a request would be granted at once.
-pub fn is_free(held: &[HeldRow], pending: &[PendingRow], row: &PendingRow) -> bool
-    ensures { result ≡ (is_nil (queue row.now.name pending.now) && not (is_nil (grants (locks row.now.name held.now) (row.now ∷ [])))) }
-{
-    if !has_no_request(pending, &row.name) || has_exclusive(held, &row.name) {
-        return false;
-    }
-    !exclusive(row.mode) || has_none(held, &row.name)
-}
-
-/// Whether a request that must be free at once is not.
-pub fn is_unavailable(
-    held: &[HeldRow],
-    pending: &[PendingRow],
-    row: &PendingRow,
-    if_available: bool,
-) -> bool
-    ensures { result ≡ (if_available && not (is_nil (queue row.now.name pending.now) && not (is_nil (grants (locks row.now.name held.now) (row.now ∷ []))))) }
-{
-    if_available && !is_free(held, pending, row)
-}
+use wl_types::{Change, Name, Phase};
 
 /// How many requests of a name are granted.
-pub fn grant_count(held: &[HeldRow], pending: &[PendingRow], name: &Name) -> usize
+fn grant_count(held: &[HeldRow], pending: &[PendingRow], name: &Name) -> usize
     ensures { result ≡ length (grants (locks name.now held.now) (queue name.now pending.now)) }
 {
     if has_exclusive(held, name) {
@@ -89,7 +33,7 @@ pub fn grant_count(held: &[HeldRow], pending: &[PendingRow], name: &Name) -> usi
 }
 
 /// The first requests of a name become locks.
-pub fn move_first(
+fn move_first(
     held: &mut Vec<HeldRow>,
     pending: &mut Vec<PendingRow>,
     changes: &mut Vec<Change>,
@@ -145,7 +89,7 @@ pub fn move_first(
 }
 
 /// Grants what one name's queue grants.
-pub fn settle_one(
+fn settle_one(
     held: &mut Vec<HeldRow>,
     pending: &mut Vec<PendingRow>,
     changes: &mut Vec<Change>,
@@ -166,7 +110,7 @@ pub fn settle_one(
 }
 
 /// Grants what the queues grant, name by name.
-pub fn settle_all(
+fn settle_all(
     held: &mut Vec<HeldRow>,
     pending: &mut Vec<PendingRow>,
     changes: &mut Vec<Change>,
@@ -185,4 +129,25 @@ pub fn settle_all(
     for name in names {
         settle_one(held, pending, changes, name);
     }
+}
+
+/// Processes the queues, name by name, and lets the names go that nobody uses any more.
+pub(crate) fn settle(
+    held: &mut Vec<HeldRow>,
+    pending: &mut Vec<PendingRow>,
+    changes: &mut Vec<Change>,
+    names: &mut Vec<Name>,
+)
+    requires held_room { vec_len held.old + vec_len pending.old ≤ vec_capacity held.old }
+    requires changes_room { vec_len changes.old + vec_len pending.old ≤ vec_capacity changes.old }
+
+    ensures lists { lists_of held.new.items pending.new.items changes.new.items ≡ settle_names (lists_of held.old.items pending.old.items changes.old.items) names.old.items }
+    ensures names { names.new.items ≡ filter (in_use held.new.items pending.new.items) names.old.items }
+
+    ensures live { vec_len held.new + vec_len pending.new ≡ vec_len held.old + vec_len pending.old }
+    ensures held_room { vec_capacity held.old ≤ vec_capacity held.new }
+    ensures changes_room { vec_capacity changes.old ≤ vec_capacity changes.new }
+{
+    settle_all(held, pending, changes, names);
+    keep_used(names, held, pending);
 }

@@ -9,7 +9,7 @@ use wl_machine::rows::{HeldRow, PendingRow};
 use wl_types::{Infos, LockInfo, Memory, Name, Snapshot};
 
 /// The locks, as a snapshot shows them.
-pub fn held_infos(alloc: Global, held: &[HeldRow]) -> Result<Infos, Memory>
+pub(crate) fn held_infos(alloc: Global, held: &[HeldRow]) -> Result<Infos, Memory>
     ensures { IfOk result (λ infos. infos ≡ map lock_info held.now) }
 {
     let mut infos = Infos::new(alloc);
@@ -25,7 +25,7 @@ pub fn held_infos(alloc: Global, held: &[HeldRow]) -> Result<Infos, Memory>
 }
 
 /// Adds one name's queue, as a snapshot shows it.
-pub fn add_queue(
+pub(crate) fn add_queue(
     alloc: Global,
     infos: &mut Infos,
     pending: &[PendingRow],
@@ -47,7 +47,11 @@ pub fn add_queue(
 }
 
 /// The queues, name by name, as a snapshot shows them.
-pub fn pending_infos(alloc: Global, pending: &[PendingRow], names: &[Name]) -> Result<Infos, Memory>
+pub(crate) fn pending_infos(
+    alloc: Global,
+    pending: &[PendingRow],
+    names: &[Name],
+) -> Result<Infos, Memory>
     ensures { IfOk result (λ infos. infos ≡ flat_map (λ name. map request_info (queue name pending.now)) names.now) }
 {
     let mut infos = Infos::new(alloc);
@@ -58,7 +62,7 @@ pub fn pending_infos(alloc: Global, pending: &[PendingRow], names: &[Name]) -> R
 }
 
 /// What is held and what waits.
-pub fn shown(
+pub(crate) fn shown(
     alloc: Global,
     held: &[HeldRow],
     pending: &[PendingRow],
