@@ -10,7 +10,7 @@ use Rattle.wl_types.specs.declared.words.Kind.{Kind}
 use Rattle.wl_origin.specs.Origin.{Tuple, tuple_cmp}
 use Rattle.wl_origin.proofs.Exact.{exact_tuples}
 use Rattle.wl_origin.specs.Standing.{standing_of}
-use Rattle.wl_origin.specs.declared.KeyFault.{KeyFault}
+use Rattle.wl_origin.specs.declared.standing.KeyFault.{KeyFault}
 use Rattle.wl_machine.specs.declared.command.Command.TheVariants as command
 use Rattle.wl_codec.specs.declared.message.Body.{Body}
 use Rattle.wl_codec.specs.declared.message.Body.TheVariants as body

@@ -6,7 +6,7 @@ use Rattle.wl_types.specs.declared.refusal.Refusal.TheVariants as refusal
 use Rattle.wl_types.specs.declared.answers.ReleaseAnswer.TheVariants.{NotHeld}
 use Rattle.wl_origin.specs.Origin.{Tuple, tuple_cmp}
 use Rattle.wl_origin.specs.Standing.{standing_of}
-use Rattle.wl_origin.specs.declared.KeyFault.{KeyFault}
+use Rattle.wl_origin.specs.declared.standing.KeyFault.{KeyFault}
 use Rattle.wl_machine.specs.Refusals.{is_window}
 use Rattle.wl_machine.specs.declared.command.Command.TheVariants as command
 use Rattle.wl_codec.specs.declared.message.Body.{Body}

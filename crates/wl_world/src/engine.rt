@@ -11,7 +11,7 @@ use crate::serve_label::plain_text;
 use std::alloc::Global;
 use std::collections::BTreeMap;
 use wl_codec::{Line, Outcome, read_line};
-use wl_core::lock_core::LockCore;
+use wl_core::LockCore;
 use wl_origin::OriginKey;
 use wl_types::Memory;
 

@@ -13,7 +13,7 @@ use crate::serve_label::plain_text;
 use std::alloc::Global;
 use std::collections::BTreeMap;
 use wl_codec::{Body, Outcome};
-use wl_core::lock_core::LockCore;
+use wl_core::LockCore;
 use wl_origin::{KeyFault, OriginKey, Standing, key_of};
 use wl_session::Session;
 use wl_types::{Kind, Memory};

@@ -13,7 +13,7 @@ use crate::steps::{act, enter};
 use std::alloc::Global;
 use std::marker::Model;
 use wl_codec::{Body, Outcome};
-use wl_core::lock_core::LockCore;
+use wl_core::LockCore;
 use wl_types::{Kind, Memory, Numbers, Phase};
 
 /// A core, and the requests whose ends were not told. After a want of memory it promises nothing more.

@@ -15,7 +15,7 @@ use crate::serve::{Answer, serve};
 use std::alloc::Global;
 use std::collections::BTreeMap;
 use wl_codec::{Body, Outcome};
-use wl_core::lock_core::LockCore;
+use wl_core::LockCore;
 use wl_origin::OriginKey;
 use wl_session::Session;
 use wl_types::{Kind, Memory};

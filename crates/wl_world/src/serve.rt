@@ -8,7 +8,7 @@ ghost use Rattle.wl_world.specs.Labels.{closes};
 use crate::origin::Origin;
 use std::alloc::Global;
 use wl_codec::{Body, Outcome};
-use wl_core::lock_core::LockCore;
+use wl_core::LockCore;
 use wl_session::{Session, tells};
 use wl_types::Memory;
 

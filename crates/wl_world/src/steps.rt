@@ -8,7 +8,7 @@ ghost use Rattle.wl_world.specs.Views.{made, origin, Told};
 
 use crate::requests::Requests;
 use wl_codec::{Body, Outcome};
-use wl_core::lock_core::LockCore;
+use wl_core::LockCore;
 use wl_types::{Ask, Kind, Memory, Reason, Refusal};
 
 /// A refusal for want of memory is none of the machine.
