@@ -51,9 +51,9 @@ all_found : (o : Outcome) (es : List Entry) (low : ℕ) → IsFrom low (map told
 all_found o [] low h s = refl
 all_found o (e ∷ es) low h s =
     one_more (is_new o e.request) e.is_named e (filter (λ x. not (is_new o x.request)) es) (filter (λ x. x.is_named) es) (map found_of es)
-      s.0.new_is_named s.0.left_out_is_same
-      (part_from (λ x. not (is_new o x.request)) (λ x. x.told) es (e.request + 1) h.1) (part_from (λ x. x.is_named) (λ x. x.found) es (e.request + 1) h.1)
-      (all_found o es (e.request + 1) h.1 s.1)
+    s.0.new_is_named s.0.left_out_is_same
+    (part_from (λ x. not (is_new o x.request)) (λ x. x.told) es (e.request + 1) h.1) (part_from (λ x. x.is_named) (λ x. x.found) es (e.request + 1) h.1)
+    (all_found o es (e.request + 1) h.1 s.1)
 
 left_at : (b : Bool) (e : Entry) (looks : List Look) (es : List Entry) → looks ≡ map found_of es → cond b (found_of e ∷ looks) looks ≡ map found_of (cond b (e ∷ es) es)
 left_at true e looks es h = ap (λ (ls : List Look). found_of e ∷ ls) h
@@ -90,9 +90,9 @@ rest_told false o e listed es above h = push_told o (told_of e) (map told_of lis
 each_told : (o : Outcome) (es : List Entry) (low : ℕ) → IsFrom low (map told_of es) → AllByRecursion (Stands o) es → AllByRecursion (IsToldIn o (told_before o es)) es
 each_told o [] low h s = tt
 each_told o (e ∷ es) low h s = (
-    first_told (is_new o e.request) e (filter (λ x. not (is_new o x.request)) es) s.0.new_is_pending,
-    rest_told (is_new o e.request) o e (filter (λ x. not (is_new o x.request)) es) es h.1 (each_told o es (e.request + 1) h.1 s.1)
-  )
+  first_told (is_new o e.request) e (filter (λ x. not (is_new o x.request)) es) s.0.new_is_pending,
+  rest_told (is_new o e.request) o e (filter (λ x. not (is_new o x.request)) es) es h.1 (each_told o es (e.request + 1) h.1 s.1),
+)
 
 no_news : (p : Phase) → is_end p ≡ false → is_news p p ≡ false
 no_news Pending live = refl

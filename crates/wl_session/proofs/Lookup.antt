@@ -139,8 +139,8 @@ passed_released p n told (Some f) fails = refl
 without_released : (p : Look → Bool) (told looks : List Look) → IsByNumber told → IsByNumber looks → ((n : ℕ) → p (n, Released) ≡ false) → filter p (completed told looks) ≡ filter p looks
 without_released p told looks ht hl fails =
     same_if_found (filter p (completed told looks)) (filter p looks) 0 (from_filter p _ 0 (by_number_completed told looks ht)) (from_filter p looks 0 hl) (λ n.
-      in_filter p (completed told looks) 0 n (by_number_completed told looks ht) ∙ ap (passed p n) (in_completed told looks n ht hl)
-      ∙ passed_released p n (found_in told n) (found_in looks n) (fails n) ∙ sym (in_filter p looks 0 n hl))
+    in_filter p (completed told looks) 0 n (by_number_completed told looks ht) ∙ ap (passed p n) (in_completed told looks n ht hl)
+    ∙ passed_released p n (found_in told n) (found_in looks n) (fails n) ∙ sym (in_filter p looks 0 n hl))
 
 -- each request that was told is named
 none_left : (told found : Option Phase) → or_else (or_else found (let_go told)) told ≡ or_else found (let_go told)
@@ -152,9 +152,9 @@ all_named : (told looks : List Look) → IsByNumber told → IsByNumber looks �
 all_named told looks ht hl =
     let hc = by_number_completed told looks ht in
     same_if_found (fold put told (completed told looks)) (completed told looks) 0 (by_number_fold (completed told looks) told ht) hc (λ n.
-      in_fold (completed told looks) told 0 n hc ht
-      ∙ ap (λ (found : Option Phase). or_else found (found_in told n)) (in_completed told looks n ht hl)
-      ∙ none_left (found_in told n) (found_in looks n) ∙ sym (in_completed told looks n ht hl))
+    in_fold (completed told looks) told 0 n hc ht
+    ∙ ap (λ (found : Option Phase). or_else found (found_in told n)) (in_completed told looks n ht hl)
+    ∙ none_left (found_in told n) (found_in looks n) ∙ sym (in_completed told looks n ht hl))
 
 pub looks_are_left : LooksAreLeft
 looks_are_left told looks ht hl = ap (filter is_live) (all_named told looks ht hl) ∙ without_released is_live told looks ht hl (λ n. refl)
