@@ -1,1 +1,6 @@
-
+pub mod Order
+pub mod Place
+pub mod Edits
+pub mod News
+pub mod ByRequest
+pub mod Lookup

@@ -96,7 +96,7 @@ impl Session {
         ensures by_number { IsByNumber result.now }
         ensures live { All (λ look. is_live look ≡ true) result.now }
     {
-        self.told.as_slice()
+        &self.told
     }
 
     /// The text of the reply to a message, given the id that `plan` gave, the outcome, and the phases found of the

@@ -81,15 +81,16 @@ fn tell_one(told: &mut Vec<(u64, Phase)>, look: (u64, Phase))
     ensures one_more { vec_len told.new ≤ vec_len told.old + 1 }
     ensures room { vec_capacity told.old ≤ vec_capacity told.new }
 {
-    let place = place(told.as_slice(), look.0);
-    if look.1.is_end() {
-        if let Ok(at) = place {
-            told.remove(at);
+    match place(told.as_slice(), look.0) {
+        Ok(at) => {
+            if look.1.is_end() {
+                told.remove(at);
+            } else {
+                told[at] = look;
+            }
         }
-    } else {
-        match place {
-            Ok(at) => told[at] = look,
-            Err(at) => {
+        Err(at) => {
+            if !look.1.is_end() {
                 let placed = told.insert(at, look);
                 let has_room = placed.is_ok();
                 prove!(has_room);
