@@ -2,19 +2,24 @@
 //! key, and lists of commands run on any core.
 #![tactic(auto)]
 
+mod commands;
 mod copies;
 mod ends;
+pub mod laws;
 pub mod lock_core;
 mod names;
 mod owners;
 pub mod plain;
 mod queues;
+mod realms;
 mod room;
 mod settling;
 mod snapshots;
 
+pub use commands::{apply, run_commands};
 pub use lock_core::LockCore;
 pub use plain::PlainCore;
+pub use realms::{KeyedRealm, Realm};
 pub use wl_machine::command::{Command, Reply};
 pub use wl_machine::rows::{AgentRow, HeldRow, PendingRow, SignalRow};
 pub use wl_types::{AbortAnswer, ReleaseAnswer, TakeAnswer};
