@@ -1,0 +1,113 @@
+-- Lines are answered as soon as they were read.
+use Rattle.std.proofs.Common.{◌≡◌, ℕ, List, [], ◌∷◌, ◌++◌, ◌<◌, ◌≤◌, ◌+◌, ◌%◌, ◌^◌, ◌∙◌, refl, sym, ap, subst, arith, length, append-nil, length-append, length-take, cond, Bool, Option, All}
+use Rattle.std.proofs.lemmas.List.Elements.{All-head, All-tail}
+use Rattle.std.proofs.lemmas.List.Sums.{sum_by-cons, sum_by-append}
+use Rattle.std.specs.Io.KnownBytes.{Consumes, IsAtEnd}
+use Rattle.std.proofs.KnownBytes.{Consumes-trans}
+use Rattle.std.specs.Prelude.{take, false}
+use Rattle.wl_script.specs.Lines.{HasNoLf, is_lf, line_feeds, with_lfs}
+use Rattle.wl_script.specs.World.{World}
+use Rattle.wl_script.specs.Streams.{one_more, GrewBy, GrewAtMostBy}
+use Rattle.wl_script.specs.Faults.{answered, unanswered_bytes}
+use Rattle.wl_script.specs.Leaves.{AnswersAtOnce}
+use Rattle.wl_script.specs.Progress.{Moment, moment, Fed, Stops, Breaks, IsUnanswered, BreaksAtEnd}
+use Rattle.wl_script.specs.declared.fault.ScriptFault.{ScriptFault}
+use Rattle.wl_script.specs.declared.fault.ScriptFault.TheVariants.{Memory, Read, Write, LineTooLong, TooManyTurns}
+use Rattle.wl_script.proofs.Pieces.{Fed-more}
+
+abbrev weight : Bool → ℕ
+weight is = cond is 1 0
+
+line_feeds-append : (xs ys : List ℕ) → line_feeds (xs ++ ys) ≡ line_feeds xs + line_feeds ys
+line_feeds-append xs ys = sum_by-append (λ byte. cond (is_lf byte) 1 0) xs ys
+
+no_feeds : (bytes : List ℕ) → HasNoLf bytes → line_feeds bytes ≡ 0
+no_feeds [] no_lf = refl
+no_feeds (b ∷ bs) no_lf =
+    let one : weight (is_lf b) ≡ 0 = ap weight (All-head (λ byte. is_lf byte ≡ false) b bs no_lf) in
+    omega (arith, sum_by-cons (λ byte. cond (is_lf byte) 1 0) b bs, one, no_feeds bs (All-tail (λ byte. is_lf byte ≡ false) b bs no_lf))
+
+feeds_of_lines : (ended : List (List ℕ)) → All HasNoLf ended → line_feeds (with_lfs ended) ≡ length ended
+feeds_of_lines [] whole = refl
+feeds_of_lines (line ∷ ended) whole =
+    omega (
+      arith,
+      line_feeds-append (line ++ 10 ∷ []) (with_lfs ended),
+      line_feeds-append line (10 ∷ []),
+      no_feeds line (All-head HasNoLf line ended whole),
+      feeds_of_lines ended (All-tail HasNoLf line ended whole),
+    )
+
+-- as many lines were answered as LFs were read
+pub feeds_fed : (limit : ℕ) (world : World) (old : Option (List ℕ)) (bytes : List ℕ) (now : Moment) → Fed limit (moment [] 0 world old) bytes now → line_feeds bytes ≡ now.count
+feeds_fed limit world old bytes now fed =
+    omega (
+      arith,
+      ap line_feeds fed.split,
+      line_feeds-append (with_lfs fed.ended) now.unfinished,
+      feeds_of_lines fed.ended fed.whole,
+      no_feeds now.unfinished fed.open_end,
+      fed.count,
+    )
+
+at_once : (limit : ℕ) (world : World) (a b c : Option (List ℕ)) (old : Option (List ℕ)) (bytes last : List ℕ) (now : Moment) (fault : ScriptFault) → Consumes a b bytes → Consumes b c last
+    → Fed limit (moment [] 0 world old) bytes now → now.count ≤ answered fault → length last ≤ unanswered_bytes fault → AnswersAtOnce fault a c
+at_once limit world a b c old bytes last now fault p q fed few short =
+    (bytes, last, Consumes-trans a b c bytes last p q, omega (arith, few, feeds_fed limit world old bytes now fed), short)
+
+-- a fault came in a piece
+pub at_once_in_piece : (limit : ℕ) (world : World) (a b c : Option (List ℕ)) (old new : Option (List ℕ)) (bytes piece : List ℕ) (now : Moment) (fault : ScriptFault)
+    → Consumes a b bytes → Consumes b c piece → Fed limit (moment [] 0 world old) bytes now → Breaks limit now piece fault new → length piece ≤ 65536 → AnswersAtOnce fault a c
+at_once_in_piece limit world a b c old new bytes piece now fault p q fed broken short =
+    at_once limit world a b c old bytes piece now fault p q fed (no_fewer fault broken.now broken.back broken.stops (omega (arith, broken.fed.count))) (in_read fault broken.now broken.back broken.stops)
+  where
+    no_fewer : (fault : ScriptFault) (then : Moment) (back : List ℕ) → Stops limit then back fault new → now.count ≤ then.count → now.count ≤ answered fault
+    no_fewer (Memory n) then back s few = omega (arith, s.0, few)
+    no_fewer (Write n) then back s few = omega (arith, s.0, few)
+    no_fewer (LineTooLong n) then back s few = omega (arith, s.0, few)
+    no_fewer (Read n) then back s few = absurd s
+    no_fewer (TooManyTurns n) then back s few = absurd s
+
+    in_read : (fault : ScriptFault) (then : Moment) (back : List ℕ) → Stops limit then back fault new → length piece ≤ unanswered_bytes fault
+    in_read (Memory n) then back s = short
+    in_read (Write n) then back s = short
+    in_read (LineTooLong n) then back s = short
+    in_read (Read n) then back s = absurd s
+    in_read (TooManyTurns n) then back s = absurd s
+
+-- a fault came between reads, or at the last line
+pub at_once_between : (limit : ℕ) (world : World) (a b : Option (List ℕ)) (old : Option (List ℕ)) (bytes : List ℕ) (now : Moment) (fault : ScriptFault)
+    → Consumes a b bytes → Fed limit (moment [] 0 world old) bytes now → answered fault ≡ now.count → AnswersAtOnce fault a b
+at_once_between limit world a b old bytes now fault p fed same =
+    (bytes, [], subst (Consumes a b) (sym (append-nil bytes)) p, omega (arith, same, feeds_fed limit world old bytes now fed), omega arith)
+
+pub at_once_at_end : (limit : ℕ) (world : World) (a b : Option (List ℕ)) (old new : Option (List ℕ)) (bytes : List ℕ) (now : Moment) (fault : ScriptFault)
+    → Consumes a b bytes × IsAtEnd b → Fed limit (moment [] 0 world old) bytes now → BreaksAtEnd now fault new → AnswersAtOnce fault a b
+at_once_at_end limit world a b old new bytes now fault (p, end) fed (some, s) = at_once_between limit world a b old bytes now fault p fed (same fault s)
+  where
+    same : (fault : ScriptFault) → IsUnanswered now.count now.world now.unfinished now.held fault new → answered fault ≡ now.count
+    same (Memory n) s = s.0
+    same (Write n) s = s.0
+    same (Read n) s = absurd s
+    same (LineTooLong n) s = absurd s
+    same (TooManyTurns n) s = absurd s
+
+-- one more piece
+pub fed_more : (limit : ℕ) (a b c : Option (List ℕ)) (bytes piece : List ℕ) (start mid now : Moment) (turn : ℕ)
+    → Consumes a b bytes → Consumes b c piece → Fed limit start bytes mid → Fed limit mid piece now → turn ≤ length bytes → 0 < length piece
+    → ((all : List ℕ) × Consumes a c all × Fed limit start all now × (turn + 1 ≤ length all))
+fed_more limit a b c bytes piece start mid now turn p q first second few some =
+    (bytes ++ piece, Consumes-trans a b c bytes piece p q, Fed-more limit start mid now bytes piece first second, omega (arith, length-append bytes piece, few, some))
+
+-- a read that gave nothing says that the reader is at its end
+pub nothing_more : (a b c : Option (List ℕ)) (bytes buf : List ℕ) (n : ℕ) → Consumes a b bytes → n ≡ 0 → 0 < length buf
+    → Consumes b c (take n buf) × (n ≡ 0 → 0 < length buf → IsAtEnd c) → Consumes a c bytes × IsAtEnd c
+nothing_more a b c bytes buf n p none room (q, end) =
+    (subst (Consumes a c) (ap (λ k. bytes ++ take k buf) none ∙ append-nil bytes) (Consumes-trans a b c bytes (take n buf) p q), end none room)
+
+-- one more read, which is within the limit
+pub one_more_read : (a b c k n : ℕ) → GrewBy a b k → c ≡ one_more b → k < n → GrewAtMostBy a c n
+one_more_read a b c k n grew made few = (k + 1, omega (arith, few), omega (arith, grew, made))
+
+pub short_piece : (n : ℕ) (buf : List ℕ) → length buf ≤ 65536 → length (take n buf) ≤ 65536
+short_piece n buf short = grind (arith, length-take)

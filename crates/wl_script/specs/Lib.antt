@@ -1,0 +1,7 @@
+pub mod World
+pub mod Lines
+pub mod Transcript
+pub mod Streams
+pub mod Faults
+pub mod Leaves
+pub mod Progress
