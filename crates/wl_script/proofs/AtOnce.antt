@@ -6,7 +6,7 @@ use Rattle.std.specs.Io.KnownBytes.{Consumes, IsAtEnd}
 use Rattle.std.proofs.KnownBytes.{Consumes-trans}
 use Rattle.std.specs.Prelude.{take, false}
 use Rattle.wl_script.specs.Lines.{HasNoLf, is_lf, line_feeds, with_lfs}
-use Rattle.wl_script.specs.World.{World}
+use Rattle.wl_world.specs.World.{World}
 use Rattle.wl_script.specs.Streams.{one_more, GrewBy, GrewAtMostBy}
 use Rattle.wl_script.specs.Faults.{answered, unanswered_bytes}
 use Rattle.wl_script.specs.Leaves.{AnswersAtOnce}

@@ -7,7 +7,7 @@ use Rattle.std.specs.List.{slice_split}
 use Rattle.std.specs.Io.KnownBytes.{Appends, Consumes, Keeps, IsAtEnd}
 use Rattle.std.proofs.KnownBytes.{Appends-trans, Appends-kept, Consumes-trans, Consumes-whole, Keeps-refl}
 use Rattle.wl_script.specs.Lines.{HasNoLf, is_lf, lines, lines_of_parts, last_line, with_lfs}
-use Rattle.wl_script.specs.World.{World}
+use Rattle.wl_world.specs.World.{World}
 use Rattle.wl_script.specs.Transcript.{transcript, after, reply_line}
 use Rattle.wl_script.specs.Leaves.{Answered, AnsweredFirst, AnsweredWithin, IsTooLong, Leaves}
 use Rattle.wl_script.specs.Progress.{Moment, moment, Fed, AnsweredPart, IsUnanswered, Stops, Breaks, BreaksAtEnd}

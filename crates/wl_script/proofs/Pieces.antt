@@ -6,7 +6,7 @@ use Rattle.std.proofs.lemmas.Grind.{flat_map-append}
 use Rattle.std.specs.Io.KnownBytes.{Appends, Keeps}
 use Rattle.std.proofs.KnownBytes.{Appends-nil, Appends-trans, Keeps-refl}
 use Rattle.wl_script.specs.Lines.{HasNoLf, is_lf, with_lfs}
-use Rattle.wl_script.specs.World.{World, next}
+use Rattle.wl_world.specs.World.{World, next}
 use Rattle.wl_script.specs.Transcript.{transcript, after, reply_line}
 use Rattle.wl_script.specs.Leaves.{Answered}
 use Rattle.wl_script.specs.Progress.{Moment, moment, Fed, AnsweredPart, IsUnanswered, Stops, Breaks, IsNotKept}

@@ -1,7 +1,7 @@
 -- What a run wrote when it ended (own).
 use Rattle.std.specs.Prelude.{ℕ, List, ◌++◌, ◌≡◌, ◌<◌, ◌≤◌, length, take, slice_get, Some, Option, All}
 use Rattle.std.specs.Io.KnownBytes.{Appends, Consumes}
-use Rattle.wl_script.specs.World.{World}
+use Rattle.wl_world.specs.World.{World}
 use Rattle.wl_script.specs.Lines.{line_feeds}
 use Rattle.wl_script.specs.Transcript.{transcript, after, reply_line}
 use Rattle.wl_script.specs.Faults.{answered, unanswered_bytes}

@@ -1,4 +1,3 @@
-pub mod World
 pub mod Lines
 pub mod Transcript
 pub mod Streams

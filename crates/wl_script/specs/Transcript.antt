@@ -1,6 +1,6 @@
 -- What a run writes (own): the reply to each line, and LF.
 use Rattle.std.specs.Prelude.{ℕ, List, [], ◌∷◌, ◌++◌}
-use Rattle.wl_script.specs.World.{World, next, reply}
+use Rattle.wl_world.specs.World.{World, next, reply}
 
 abbrev pub reply_line : World → List ℕ → List ℕ
 reply_line world line = reply world line ++ 10 ∷ []

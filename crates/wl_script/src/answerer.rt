@@ -1,9 +1,12 @@
 //! What answers one line of a script.
 
 ghost use Rattle.std.specs.Prelude.{◌≡◌, IfOk, OnOk, string_bytes};
-ghost use Rattle.wl_script.specs.World.{World, next, reply};
+ghost use Rattle.wl_world.specs.World.{World, next, reply};
+ghost use Rattle.wl_world.specs.Worlds.{world_of};
 
+use wl_core::LockCore;
 use wl_types::Memory;
+use wl_world::Engine;
 
 /// Answers lines one at a time, each in the world that the lines before it left.
 pub trait Answerer {
@@ -14,4 +17,13 @@ pub trait Answerer {
     fn answer(&mut self, line: &[u8]) -> Result<String, Memory>
         ensures reply { IfOk result (λ text. string_bytes text ≡ reply (world self.old) line.now) }
         ensures next { OnOk result (world self.new ≡ next (world self.old) line.now) };
+}
+
+/// The lock managers of all origins.
+impl<C: LockCore<Seed = ()>> Answerer for Engine<C> {
+    ghost world = { world_of };
+
+    fn answer(&mut self, line: &[u8]) -> Result<String, Memory> {
+        Engine::answer(self, line)
+    }
 }

@@ -14,7 +14,6 @@ mod standard;
 mod streams;
 #[cfg(test)]
 mod tests;
-mod total;
 
 pub use answerer::Answerer;
 pub use fault::ScriptFault;

@@ -6,7 +6,7 @@ ghost use Rattle.wl_script.specs.Streams.{Counts};
 ghost use Rattle.wl_script.specs.Faults.{is_write};
 ghost use Rattle.wl_script.specs.Transcript.{reply_line};
 ghost use Rattle.wl_script.specs.Progress.{IsUnanswered};
-ghost use Rattle.wl_script.specs.World.{next};
+ghost use Rattle.wl_world.specs.World.{next};
 
 use crate::{Answerer, Failed, Output, ScriptFault};
 

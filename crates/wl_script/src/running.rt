@@ -2,7 +2,7 @@
 
 ghost use Rattle.std.specs.Prelude.{◌≡◌, ◌≤◌, ◌<◌, ◌+◌, ◌^◌, length, IfOk, IfErr, IfSome, OnOk};
 ghost use Rattle.std.specs.Io.KnownBytes.{Appends};
-ghost use Rattle.wl_script.specs.World.{opening};
+ghost use Rattle.wl_world.specs.World.{opening};
 ghost use Rattle.wl_script.specs.Streams.{Counts, GrewBy, GrewAtMostBy};
 ghost use Rattle.wl_script.specs.Faults.{is_read, is_write, IsTooManyTurns};
 ghost use Rattle.wl_script.specs.Lines.{lines, last_line};
@@ -12,10 +12,11 @@ ghost use Rattle.wl_script.specs.Progress.{moment, BreaksAtEnd};
 
 use crate::feeding::{Progress, feed};
 use crate::replying::answer_line;
-use crate::total::Total;
 use crate::{Answerer, Failed, Input, Limits, Output, ScriptFault};
 use std::alloc::Global;
+use wl_core::PlainCore;
 use wl_types::Memory;
+use wl_world::Engine;
 
 /// The bytes of one read.
 const READ: usize = 65_536;
@@ -138,8 +139,8 @@ pub fn run_with<R: Input, W: Output>(
     ensures turns { IsTooManyTurns result → GrewBy (R.reads reader.old) (R.reads reader.new) limits.turns
         × GaveBytes (R.rest reader.old) (R.rest reader.new) limits.turns }
 {
-    let mut total = Total::new(alloc);
-    run_lines(alloc, &mut total, reader, writer, limits)
+    let mut engine = Engine::<PlainCore>::new(alloc);
+    run_lines(alloc, &mut engine, reader, writer, limits)
 }
 
 /// Runs a script from the opening world. A line has at most 65,536 bytes, and at most 4,294,967,296 reads are made.
