@@ -45,6 +45,13 @@ pub only_refused : (old : Content) (command : Command) (new : State) (recent : L
     → recent ≡ recent_after command old.recent [] → Answers old command (content new recent) (Refused r)
 only_refused old command new recent r is same told = refused_at old command new recent r (Some r) is refl same told
 
+-- where memory was not refused, the machine's reply and state
+pub answers_reply : (old new : Content) (command : Command) (reply : Reply) → Answers old command new reply → is_memory reply ≡ false → reply ≡ (step old.state command).reply
+answers_reply old new command reply answers other = rw other at answers.reply_is
+
+pub answers_state : (old new : Content) (command : Command) (reply : Reply) → Answers old command new reply → is_memory reply ≡ false → new.state ≡ (step old.state command).state
+answers_state old new command reply answers other = rw other at answers.state_is
+
 pub state_after-append : (xs ys : List Command) (s : State) → state_after (xs ++ ys) s ≡ state_after ys (state_after xs s)
 state_after-append [] ys s = refl
 state_after-append (x ∷ xs) ys s = state_after-append xs ys (step s x).state

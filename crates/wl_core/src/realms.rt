@@ -71,6 +71,7 @@ impl<K: Ord + Drop, C: LockCore> KeyedRealm<K, C> {
         ensures there { IsTrue (is_some (at_key K.cmp self.old key)) → (result ≡ Ok tt) × (self.new ≡ self.old) }
         ensures new { at_key K.cmp self.old key ≡ None → OnOk result ((core : C) × (C.state core ≡ opening all_ones) × (C.recent core ≡ []) × (self.new ≡ insert_entry K.cmp self.old key core)) }
         ensures err { OnErr result (self.new ≡ self.old) }
+        ensures realm { realm_of K.cmp C.state self.new ≡ realm_of K.cmp C.state self.old }
     {
         if self.cores.contains_key(&key) {
             return Ok(());
@@ -90,6 +91,8 @@ impl<K: Ord + Drop, C: LockCore> KeyedRealm<K, C> {
         requires { IsTrue (is_some (at_key K.cmp self.old key.now)) }
         ensures core { (old new : C) × (at_key K.cmp self.old key.now ≡ Some old) × (self.new ≡ with_at K.cmp self.old key.now new)
             × Answers (record { state = C.state old; recent = C.recent old }) command.now (record { state = C.state new; recent = C.recent new }) result }
+        ensures realm { realm_of K.cmp C.state self.new ≡ (if is_memory result then realm_of K.cmp C.state self.old else stepped K.cmp (realm_of K.cmp C.state self.old) key.now command.now) }
+        ensures reply { is_memory result ≡ false → result ≡ (step (realm_of K.cmp C.state self.old key.now) command.now).reply }
     {
         let core = self.cores.get_mut(key).unwrap();
         commands::apply(core, command)
