@@ -1,0 +1,85 @@
+//! The words of the command line.
+
+ghost use Rattle.std.specs.Prelude.{◌≡◌, [], map, IfOk, IfErr, IfSome, OnOk, false};
+ghost use Rattle.clap.specs.Words.{app_of, fault_of, subcommand_of, subcommand_rows_of};
+ghost use Rattle.clap.specs.declared.builder.command.Command.TheViews.{out-Command as fields_of};
+ghost use Rattle.weblocks.specs.Words.{weblocks_app, run_app, IsJob, IsUsageFault};
+
+use clap::error::ErrorKind;
+use clap::{ArgMatches, Command, Error};
+use std::alloc::{AllocError, Global};
+
+const ABOUT: &str = "A lock service with the behaviour of the Web Locks API";
+
+const RUN_ABOUT: &str = "Answer each line of standard input by one line on standard output";
+
+const EXAMPLE: &str = "Example:
+  weblocks run < script.jsonl
+
+  A line of a script, and its reply:
+  {\"agent\":\"a\",\"id\":1,\"op\":\"open\",\"url\":\"https://a.test/\"}
+  {\"id\":1,\"notices\":[],\"ok\":{\"client\":\"client-1\"}}";
+
+/// What the program is asked to do.
+#[derive(Clone, Copy, Debug, PartialEq, Eq, Drop)]
+pub enum Job {
+    /// Answer the script on standard input.
+    Run,
+}
+
+/// Why the words ask for no job.
+#[derive(Debug, Drop)]
+pub enum UsageFault {
+    /// They ask for help, or they are wrong. The error is to be shown.
+    Usage(Error),
+    /// A growth was refused.
+    Memory,
+}
+
+/// What the words ask for. The first is the program's name.
+pub fn job_of<'a>(alloc: Global, words: &'a [&'a str]) -> Result<Job, UsageFault>
+    ensures job { IfOk result (IsJob (subcommand_of weblocks_app (map (λ s. s.now) words.entry.now))) }
+    // A job is given just where the words have no fault, and a fault is one that they have.
+    ensures right { OnOk result (fault_of weblocks_app (map (λ s. s.now) words.entry.now) ≡ []) }
+    ensures wrong { IfErr result (IsUsageFault (fault_of weblocks_app (map (λ s. s.now) words.entry.now))) }
+{
+    let Ok(command) = weblocks_command(alloc) else {
+        return Err(UsageFault::Memory);
+    };
+    match command.try_get_matches_from(words) {
+        // Right words have a job: where one is missing, the command refused them.
+        Ok(matches) => job_in(&matches).ok_or(UsageFault::Memory),
+        Err(error) if error.kind() == ErrorKind::OutOfMemory => Err(UsageFault::Memory),
+        Err(error) => Err(UsageFault::Usage(error)),
+    }
+}
+
+/// The program's command, with each job as a subcommand.
+fn weblocks_command<'a>(alloc: Global) -> Result<Command<'a>, AllocError>
+    ensures app { IfOk result (λ c. app_of c ≡ weblocks_app) }
+    ensures local { IfOk result (λ c. (fields_of c).has_globals ≡ false) }
+{
+    Command::new(alloc, "weblocks")
+        .about(ABOUT)
+        .after_help(EXAMPLE)
+        .subcommand_required(true)
+        .subcommand(run_command(alloc))
+}
+
+fn run_command<'a>(alloc: Global) -> Command<'a>
+    ensures app { app_of result ≡ run_app }
+    ensures local { (fields_of result).has_globals ≡ false }
+{
+    Command::new(alloc, "run")
+        .about(RUN_ABOUT)
+        .after_help(EXAMPLE)
+}
+
+fn job_in(matches: &ArgMatches<'_>) -> Option<Job>
+    ensures { IfSome result (IsJob (subcommand_rows_of matches.now)) }
+{
+    match matches.subcommand() {
+        Some(("run", _)) => Some(Job::Run),
+        _ => None,
+    }
+}

@@ -1,0 +1,76 @@
+//! The program: a lock service with the behaviour of the Web Locks API, at the command line.
+//!
+//! Its status is 0; or 1, with one line on standard error, where a job ends early; or 2 where the words on the
+//! command line are wrong.
+#![tactic(auto)]
+
+mod job;
+#[cfg(test)]
+mod tests;
+
+use job::{Job, UsageFault, job_of};
+use std::alloc::{AllocError, Global};
+use std::io::Write;
+use std::process::ExitCode;
+use std::{env, fmt, io};
+use wl_script::{Reader, ScriptFault, Writer};
+
+fn main(rt: HostRuntime) -> ExitCode {
+    match env::args(&rt) {
+        Ok(words) => match words.collect::<Vec<String>>(rt.alloc()) {
+            Ok(words) => work(&rt, &words),
+            Err(_) => fail(&rt, "out of memory"),
+        },
+        Err(error) if error.kind() == io::ErrorKind::OutOfMemory => fail(&rt, "out of memory"),
+        Err(_) => {
+            // Where standard error is closed, nothing can be told there.
+            let _ = eprintln!(&rt; "error: an argument is no UTF-8 text");
+            ExitCode::from(2)
+        }
+    }
+}
+
+/// Does the job that the words ask for.
+fn work<R: io::Input + Print + Eprint + AllocGlobal>(rt: &R, words: &[String]) -> ExitCode {
+    let Ok(texts) = texts_of(rt.alloc(), words) else {
+        return fail(rt, "out of memory");
+    };
+    match job_of(rt.alloc(), &texts) {
+        Ok(Job::Run) => run(rt),
+        Err(UsageFault::Usage(error)) => answer_usage(rt, &error),
+        Err(UsageFault::Memory) => fail(rt, "out of memory"),
+    }
+}
+
+fn texts_of(alloc: Global, words: &[String]) -> Result<Vec<&str>, AllocError> {
+    words.iter().map(|word| word.as_str()).collect(alloc)
+}
+
+/// Answers the script on standard input.
+fn run<R: io::Input + Print + Eprint + AllocGlobal>(rt: &R) -> ExitCode {
+    let mut reader = Reader::new(rt.reader());
+    let mut writer = Writer::new(io::writer(rt));
+    match wl_script::run(rt.alloc(), &mut reader, &mut writer) {
+        Ok(lines) => match writer.into_inner().flush() {
+            Ok(()) => ExitCode::SUCCESS,
+            Err(_) => fail(rt, ScriptFault::Write(lines)),
+        },
+        Err(fault) => fail(rt, fault),
+    }
+}
+
+/// Help goes to standard output; a mistake in the words to standard error.
+fn answer_usage<R: Print + Eprint>(rt: &R, error: &clap::Error) -> ExitCode {
+    match error.print(rt) {
+        Ok(()) => {}
+        Err(_) if error.use_stderr() => {}
+        Err(_) => return fail(rt, ScriptFault::Write(0)),
+    }
+    ExitCode::from(error.exit_code() as u8)
+}
+
+fn fail<R: Eprint, D: fmt::Display + Drop>(rt: &R, why: D) -> ExitCode {
+    // Where standard error is closed too, the status alone tells.
+    let _ = eprintln!(rt; "weblocks: {why}");
+    ExitCode::FAILURE
+}
