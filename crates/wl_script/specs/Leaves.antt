@@ -5,7 +5,6 @@ use Rattle.wl_world.specs.World.{World}
 use Rattle.wl_script.specs.Lines.{line_feeds}
 use Rattle.wl_script.specs.Transcript.{transcript, after, reply_line}
 use Rattle.wl_script.specs.Faults.{answered, unanswered_bytes}
-use Rattle.wl_script.specs.declared.limits.Limits.{Limits}
 use Rattle.wl_script.specs.declared.fault.ScriptFault.{ScriptFault}
 use Rattle.wl_script.specs.declared.fault.ScriptFault.TheVariants.{Memory, Read, Write, LineTooLong, TooManyTurns}
 

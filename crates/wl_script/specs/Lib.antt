@@ -4,3 +4,4 @@ pub mod Streams
 pub mod Faults
 pub mod Leaves
 pub mod Progress
+pub mod Laws

@@ -1,5 +1,5 @@
 -- How far a run has come: what the parts of the driver say to each other (own).
-use Rattle.std.specs.Prelude.{ℕ, List, [], ◌∷◌, ◌++◌, ◌≡◌, ◌<◌, ◌≤◌, ◌+◌, length, Option, All}
+use Rattle.std.specs.Prelude.{ℕ, List, ◌∷◌, ◌++◌, ◌≡◌, ◌<◌, ◌≤◌, ◌+◌, length, Option, All}
 use Rattle.std.specs.Io.KnownBytes.{Appends, Keeps}
 use Rattle.wl_world.specs.World.{World}
 use Rattle.wl_script.specs.Lines.{HasNoLf, with_lfs}

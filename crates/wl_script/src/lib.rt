@@ -7,6 +7,7 @@
 mod answerer;
 mod fault;
 mod feeding;
+pub mod laws;
 mod limits;
 mod replying;
 mod running;

@@ -1,4 +1,4 @@
-use Rattle.std.proofs.Common.{rules, arith, refl, sym, ap, ◌∙◌, ◌++◌}
+use Rattle.std.proofs.Common.{rules}
 use Rattle.std.proofs.KnownBytes.{Keeps-refl}
 use Rattle.wl_script.proofs.Pieces.{handed_on, no_front, Breaks-long, Breaks-memory, Breaks-line, Fed-line}
 use Rattle.wl_script.proofs.feeding.end_line.Goals as goal

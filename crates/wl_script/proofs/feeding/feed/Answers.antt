@@ -1,4 +1,4 @@
-use Rattle.std.proofs.Common.{rules, arith, refl, [], ap, length, ◌∙◌, length-append}
+use Rattle.std.proofs.Common.{rules, arith, refl, []}
 use Rattle.wl_script.proofs.Pieces.{handed_on, Fed-none, fed_line, broken_line, fed_rest, broken_rest, shorter}
 use Rattle.std.proofs.lemmas.Result.{on_ok_weaker, IfErr-weaker}
 use Rattle.wl_script.proofs.feeding.feed.Goals as goal

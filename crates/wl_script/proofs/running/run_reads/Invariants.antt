@@ -1,4 +1,4 @@
-use Rattle.std.proofs.Common.{◌≡◌, ◌≤◌, ◌+◌, ◌*◌, ◌%◌, ◌^◌, List, [], ℕ, length}
+use Rattle.std.proofs.Common.{◌≡◌, ◌≤◌, ◌*◌, List, [], ℕ, length}
 use Rattle.std.specs.Io.KnownBytes.{Consumes}
 use Rattle.wl_script.specs.Streams.{GrewBy}
 use Rattle.wl_script.specs.Progress.{moment, Fed}

@@ -1,0 +1,19 @@
+//! Laws of scripts. Each is the contract of a function without a body.
+
+ghost use Rattle.wl_script.specs.Laws.{LinesAreAnsweredInTurn, ScriptsAreLines, ScriptsMayBeCut};
+
+/// A script is its lines, each with its LF, and then a last one without LF, if that has a byte.
+pub fn scripts_are_lines()
+    ensures { ScriptsAreLines }
+{}
+
+/// A transcript is made of one line's reply at a time, each in the world that the lines before it left.
+pub fn lines_are_answered_in_turn()
+    ensures { LinesAreAnsweredInTurn }
+{}
+
+/// A script may be cut behind any LF: two runs, the second in the world that the first left, write what one run of
+/// the whole writes.
+pub fn scripts_may_be_cut()
+    ensures { ScriptsMayBeCut }
+{}

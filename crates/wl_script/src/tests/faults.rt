@@ -1,0 +1,87 @@
+//! What each fault says and leaves.
+
+use super::fakes::{Full, Refusing, in_pieces, then_failing, writer_with_room};
+use crate::total::Total;
+use crate::{Limits, ScriptFault, run, run_lines};
+use std::test::Fail;
+
+/// Its replies are `3`, `3` and `5`.
+const SCRIPT: &[u8] = b"abc\n\nde";
+
+#[test]
+fn a_failed_read_leaves_the_lines_before_it(rt: HostRuntime) -> Result<(), Fail> {
+    for piece in [1, 3, 100] {
+        let mut reader = then_failing(SCRIPT, piece);
+        let mut writer = writer_with_room(rt.alloc(), 100, Full::Fails)?;
+        let result = run(rt.alloc(), &mut reader, &mut writer);
+        assert_eq!(rt; result, Err(ScriptFault::Read(2)), "pieces of {piece}");
+        assert!(rt;
+            writer.bytes.as_slice() == b"3\n3\n".as_slice(),
+            "pieces of {piece}"
+        );
+    }
+    Ok(())
+}
+
+#[test]
+fn a_failed_write_leaves_a_part_of_the_next_reply(rt: HostRuntime) -> Result<(), Fail> {
+    let cases = [
+        (0, 0, ""),
+        (1, 0, "3"),
+        (2, 1, "3\n"),
+        (3, 1, "3\n3"),
+        (4, 2, "3\n3\n"),
+        (5, 2, "3\n3\n5"),
+    ];
+    for (bytes, lines, text) in cases {
+        for full in [Full::Fails, Full::TakesNone] {
+            let mut reader = in_pieces(SCRIPT, 100);
+            let mut writer = writer_with_room(rt.alloc(), bytes, full)?;
+            let result = run(rt.alloc(), &mut reader, &mut writer);
+            assert_eq!(rt;
+                result,
+                Err(ScriptFault::Write(lines)),
+                "room for {bytes}, {full:?}"
+            );
+            assert!(rt;
+                writer.bytes.as_slice() == text.as_bytes(),
+                "room for {bytes}, {full:?}"
+            );
+        }
+    }
+    Ok(())
+}
+
+#[test]
+fn refused_memory_leaves_the_lines_before_it(rt: HostRuntime) -> Result<(), Fail> {
+    let limits = Limits {
+        line: 8,
+        turns: 100,
+    };
+    for (left, text) in [(0, ""), (1, "3\n"), (2, "3\n3\n")] {
+        let inner = Total::new(rt.alloc());
+        let mut answerer = Refusing { inner, left };
+        let mut reader = in_pieces(SCRIPT, 100);
+        let mut writer = writer_with_room(rt.alloc(), 100, Full::Fails)?;
+        let result = run_lines(rt.alloc(), &mut answerer, &mut reader, &mut writer, limits);
+        assert_eq!(rt; result, Err(ScriptFault::Memory(left)), "after {left}");
+        assert!(rt; writer.bytes.as_slice() == text.as_bytes(), "after {left}");
+    }
+    Ok(())
+}
+
+#[test]
+fn the_texts_of_the_faults(rt: HostRuntime) -> Result<(), Fail> {
+    let cases = [
+        (ScriptFault::Memory(0), "out of memory after line 0"),
+        (ScriptFault::Read(1), "cannot read after line 1"),
+        (ScriptFault::Write(2), "cannot write after line 2"),
+        (ScriptFault::LineTooLong(3), "line too long after line 3"),
+        (ScriptFault::TooManyTurns(4), "too many reads after line 4"),
+    ];
+    for (fault, text) in cases {
+        let said = format!(in rt.alloc(); "{fault}")?;
+        assert_eq!(rt; said.as_str(), text);
+    }
+    Ok(())
+}

@@ -1,0 +1,28 @@
+//! Each growth refused in turn: run this test with the first allocation failing, the second, and so on.
+
+use super::fakes::{Full, in_pieces, writer_with_room};
+use crate::{ScriptFault, run};
+use std::test::Fail;
+
+#[test]
+fn a_refused_growth_says_what_was_answered(rt: HostRuntime) -> Result<(), Fail> {
+    let replies = ["", "3\n", "3\n3\n", "3\n3\n5\n"];
+    let mut reader = in_pieces(b"abc\n\nde".as_slice(), 2);
+    let Ok(mut writer) = writer_with_room(rt.alloc(), 100, Full::Fails) else {
+        return Ok(());
+    };
+    let answered = match run(rt.alloc(), &mut reader, &mut writer) {
+        Ok(lines) => {
+            assert_eq!(rt; lines, 3);
+            lines
+        }
+        Err(ScriptFault::Memory(lines)) => lines,
+        Err(_) => {
+            assert!(rt; false);
+            0
+        }
+    };
+    assert!(rt; answered <= 3);
+    assert!(rt; writer.bytes.as_slice() == replies[answered as usize].as_bytes());
+    Ok(())
+}
