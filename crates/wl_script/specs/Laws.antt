@@ -1,6 +1,6 @@
 -- Laws of scripts and of what runs write (own).
 use Rattle.std.specs.Prelude.{◌≡◌, ℕ, List, [], ◌∷◌, ◌++◌, ◌+◌, take, slice_get, Some, All}
-use Rattle.wl_script.specs.World.{World}
+use Rattle.wl_world.specs.World.{World}
 use Rattle.wl_script.specs.Lines.{HasNoLf, lines, last_line, with_lfs}
 use Rattle.wl_script.specs.Transcript.{transcript, after, reply_line}
 

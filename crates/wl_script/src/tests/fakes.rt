@@ -1,11 +1,42 @@
 //! Readers, writers and an answerer in memory, which fail where they are told to.
 
 ghost use Rattle.std.specs.Prelude.{Some};
+ghost use Rattle.wl_world.specs.Worlds.{world_of};
 
-use crate::total::Total;
 use crate::{Answerer, Failed, Input, Output};
 use std::alloc::{AllocError, Global};
+use wl_core::PlainCore;
 use wl_types::Memory;
+use wl_world::Engine;
+
+/// Three lines, the second empty and the last without LF. Each is answered by a fault, which tells them apart.
+pub const SCRIPT: &[u8] = b"{\"id\":1}\n\n{\"id\":3}";
+
+/// The replies to the three lines.
+pub const REPLIES: &str =
+    "{\"error\":{\"name\":\"TypeError\",\"rule\":\"agent\"},\"id\":1,\"notices\":[]}
+{\"error\":{\"name\":\"BadJson\",\"rule\":\"json\"},\"id\":null,\"notices\":[]}
+{\"error\":{\"name\":\"TypeError\",\"rule\":\"agent\"},\"id\":3,\"notices\":[]}
+";
+
+/// Where the replies end.
+pub const ENDS: [usize; 4] = [0, 66, 132, 198];
+
+/// Room for any replies that a test wants.
+pub const AMPLE: usize = 1000;
+
+/// The reply to a line that is no JSON.
+const BAD_JSON: &str =
+    "{\"error\":{\"name\":\"BadJson\",\"rule\":\"json\"},\"id\":null,\"notices\":[]}\n";
+
+/// The replies to so many lines that are no JSON.
+pub fn bad_json(alloc: Global, lines: u64) -> Result<String, AllocError> {
+    let mut text = String::new(alloc);
+    for _ in 0..lines {
+        text.push_str(BAD_JSON)?;
+    }
+    Ok(text)
+}
 
 /// Gives its bytes in pieces of at most so many. At their end it fails, if it is to.
 #[derive(Drop)]
@@ -130,12 +161,12 @@ impl Output for Room {
 /// Answers so many lines, and then is out of memory.
 #[derive(Drop)]
 pub struct Refusing {
-    pub inner: Total,
+    pub inner: Engine<PlainCore>,
     pub left: u64,
 }
 
 impl Answerer for Refusing {
-    ghost world = { λ s. ⟦<Total as Answerer>⟧.world s.inner };
+    ghost world = { λ s. world_of s.inner };
 
     fn answer(&mut self, line: &[u8]) -> Result<String, Memory> {
         if self.left == 0 {

@@ -1,22 +1,22 @@
 //! What each fault says and leaves.
 
-use super::fakes::{Full, Refusing, in_pieces, then_failing, writer_with_room};
-use crate::total::Total;
+use super::fakes::{
+    AMPLE, ENDS, Full, REPLIES, Refusing, SCRIPT, in_pieces, then_failing, writer_with_room,
+};
 use crate::{Limits, ScriptFault, run, run_lines};
 use std::test::Fail;
-
-/// Its replies are `3`, `3` and `5`.
-const SCRIPT: &[u8] = b"abc\n\nde";
+use wl_core::PlainCore;
+use wl_world::Engine;
 
 #[test]
 fn a_failed_read_leaves_the_lines_before_it(rt: HostRuntime) -> Result<(), Fail> {
     for piece in [1, 3, 100] {
         let mut reader = then_failing(SCRIPT, piece);
-        let mut writer = writer_with_room(rt.alloc(), 100, Full::Fails)?;
+        let mut writer = writer_with_room(rt.alloc(), AMPLE, Full::Fails)?;
         let result = run(rt.alloc(), &mut reader, &mut writer);
         assert_eq!(rt; result, Err(ScriptFault::Read(2)), "pieces of {piece}");
         assert!(rt;
-            writer.bytes.as_slice() == b"3\n3\n".as_slice(),
+            writer.bytes.as_slice() == &REPLIES.as_bytes()[..ENDS[2]],
             "pieces of {piece}"
         );
     }
@@ -26,26 +26,28 @@ fn a_failed_read_leaves_the_lines_before_it(rt: HostRuntime) -> Result<(), Fail>
 #[test]
 fn a_failed_write_leaves_a_part_of_the_next_reply(rt: HostRuntime) -> Result<(), Fail> {
     let cases = [
-        (0, 0, ""),
-        (1, 0, "3"),
-        (2, 1, "3\n"),
-        (3, 1, "3\n3"),
-        (4, 2, "3\n3\n"),
-        (5, 2, "3\n3\n5"),
+        (0, 0),
+        (1, 0),
+        (65, 0),
+        (66, 1),
+        (67, 1),
+        (131, 1),
+        (132, 2),
+        (197, 2),
     ];
-    for (bytes, lines, text) in cases {
+    for (room, lines) in cases {
         for full in [Full::Fails, Full::TakesNone] {
             let mut reader = in_pieces(SCRIPT, 100);
-            let mut writer = writer_with_room(rt.alloc(), bytes, full)?;
+            let mut writer = writer_with_room(rt.alloc(), room, full)?;
             let result = run(rt.alloc(), &mut reader, &mut writer);
             assert_eq!(rt;
                 result,
                 Err(ScriptFault::Write(lines)),
-                "room for {bytes}, {full:?}"
+                "room for {room}, {full:?}"
             );
             assert!(rt;
-                writer.bytes.as_slice() == text.as_bytes(),
-                "room for {bytes}, {full:?}"
+                writer.bytes.as_slice() == &REPLIES.as_bytes()[..room],
+                "room for {room}, {full:?}"
             );
         }
     }
@@ -58,14 +60,17 @@ fn refused_memory_leaves_the_lines_before_it(rt: HostRuntime) -> Result<(), Fail
         line: 8,
         turns: 100,
     };
-    for (left, text) in [(0, ""), (1, "3\n"), (2, "3\n3\n")] {
-        let inner = Total::new(rt.alloc());
+    for (left, end) in [(0, ENDS[0]), (1, ENDS[1]), (2, ENDS[2])] {
+        let inner = Engine::<PlainCore>::new(rt.alloc());
         let mut answerer = Refusing { inner, left };
         let mut reader = in_pieces(SCRIPT, 100);
-        let mut writer = writer_with_room(rt.alloc(), 100, Full::Fails)?;
+        let mut writer = writer_with_room(rt.alloc(), AMPLE, Full::Fails)?;
         let result = run_lines(rt.alloc(), &mut answerer, &mut reader, &mut writer, limits);
         assert_eq!(rt; result, Err(ScriptFault::Memory(left)), "after {left}");
-        assert!(rt; writer.bytes.as_slice() == text.as_bytes(), "after {left}");
+        assert!(rt;
+            writer.bytes.as_slice() == &REPLIES.as_bytes()[..end],
+            "after {left}"
+        );
     }
     Ok(())
 }

@@ -1,14 +1,13 @@
 //! Each growth refused in turn: run this test with the first allocation failing, the second, and so on.
 
-use super::fakes::{Full, in_pieces, writer_with_room};
+use super::fakes::{AMPLE, ENDS, Full, REPLIES, SCRIPT, in_pieces, writer_with_room};
 use crate::{ScriptFault, run};
 use std::test::Fail;
 
 #[test]
 fn a_refused_growth_says_what_was_answered(rt: HostRuntime) -> Result<(), Fail> {
-    let replies = ["", "3\n", "3\n3\n", "3\n3\n5\n"];
-    let mut reader = in_pieces(b"abc\n\nde".as_slice(), 2);
-    let Ok(mut writer) = writer_with_room(rt.alloc(), 100, Full::Fails) else {
+    let mut reader = in_pieces(SCRIPT, 2);
+    let Ok(mut writer) = writer_with_room(rt.alloc(), AMPLE, Full::Fails) else {
         return Ok(());
     };
     let answered = match run(rt.alloc(), &mut reader, &mut writer) {
@@ -23,6 +22,8 @@ fn a_refused_growth_says_what_was_answered(rt: HostRuntime) -> Result<(), Fail> 
         }
     };
     assert!(rt; answered <= 3);
-    assert!(rt; writer.bytes.as_slice() == replies[answered as usize].as_bytes());
+    let end = ENDS[answered as usize];
+    assert!(rt; end <= REPLIES.len());
+    assert!(rt; writer.bytes.as_slice() == &REPLIES.as_bytes()[..end]);
     Ok(())
 }
