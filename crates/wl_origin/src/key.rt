@@ -46,7 +46,7 @@ impl OriginKey {
         })
     }
 
-    /// The origin as text, such as `https://a.test` or `http://[::1]:8080`: the URL standard's serialization, in
+    /// The origin as text, such as `https://a.test` or `http://[::1]:8080`: HTML's "serialization of an origin", in
     /// which a port stands only where it isn't the scheme's own.
     pub fn text(&self, alloc: Global) -> Result<String, Memory>
         ensures { IfOk result (λ text. string_bytes text ≡ tuple_text self.now) }
