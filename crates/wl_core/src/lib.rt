@@ -15,6 +15,8 @@ mod realms;
 mod room;
 mod settling;
 mod snapshots;
+#[cfg(test)]
+mod tests;
 
 pub use commands::{apply, run_commands};
 pub use lock_core::LockCore;
