@@ -22,6 +22,5 @@ pub use commands::{apply, run_commands};
 pub use lock_core::LockCore;
 pub use plain::PlainCore;
 pub use realms::{KeyedRealm, Realm};
-pub use wl_machine::command::{Command, Reply};
-pub use wl_machine::rows::{AgentRow, HeldRow, PendingRow, SignalRow};
+pub use wl_machine::{AgentRow, Command, HeldRow, PendingRow, Reply, SignalRow};
 pub use wl_types::{AbortAnswer, ReleaseAnswer, TakeAnswer};
