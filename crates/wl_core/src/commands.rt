@@ -8,7 +8,7 @@ ghost use Rattle.wl_core.specs.Answers.{Answers, is_memory};
 use crate::lock_core::LockCore;
 use crate::room::push_in_room;
 use std::alloc::Global;
-use wl_machine::command::{Command, Reply};
+use wl_machine::{Command, Reply};
 use wl_types::Refusal;
 
 /// Does one command by the core's call of that name. The reply is the machine's; where a growth was refused it is

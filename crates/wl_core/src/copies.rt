@@ -4,7 +4,7 @@ ghost use Rattle.std.specs.Prelude.{◌≡◌, ◌≤◌, length, vec_len, vec_c
 
 use crate::room::push_in_room;
 use std::alloc::Global;
-use wl_machine::rows::{HeldRow, PendingRow};
+use wl_machine::{HeldRow, PendingRow};
 use wl_types::{Memory, Name};
 
 /// A row with a name in it, so that a copy takes memory.

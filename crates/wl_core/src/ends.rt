@@ -6,7 +6,7 @@ ghost use Rattle.wl_machine.specs.Step.{is_lock_of, lock_ends, with_taken, is_un
 ghost use Rattle.wl_core.specs.Ends.{selects_lock, selects_request};
 
 use crate::room::push_in_room;
-use wl_machine::rows::{HeldRow, PendingRow};
+use wl_machine::{HeldRow, PendingRow};
 use wl_types::{Change, Name, Phase};
 
 /// Which locks an event ends.

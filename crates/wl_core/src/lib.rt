@@ -15,11 +15,12 @@ mod realms;
 mod room;
 mod settling;
 mod snapshots;
+#[cfg(test)]
+mod tests;
 
 pub use commands::{apply, run_commands};
 pub use lock_core::LockCore;
 pub use plain::PlainCore;
 pub use realms::{KeyedRealm, Realm};
-pub use wl_machine::command::{Command, Reply};
-pub use wl_machine::rows::{AgentRow, HeldRow, PendingRow, SignalRow};
+pub use wl_machine::{AgentRow, Command, HeldRow, PendingRow, Reply, SignalRow};
 pub use wl_types::{AbortAnswer, ReleaseAnswer, TakeAnswer};

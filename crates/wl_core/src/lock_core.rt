@@ -9,7 +9,7 @@ ghost use Rattle.wl_machine.specs.Step.{step, Gives, untaken_numbers};
 
 use crate::plain::PlainCore;
 use std::alloc::Global;
-use wl_machine::command::{Command, Reply};
+use wl_machine::{Command, Reply};
 use wl_types::{
     AbortAnswer, Ask, Change, Kind, Memory, Numbers, Reason, Refusal, ReleaseAnswer, Snapshot,
     TakeAnswer,

@@ -6,7 +6,7 @@ ghost use Rattle.wl_machine.specs.Grants.{in_use};
 ghost use Rattle.wl_machine.specs.Step.{with_name};
 
 use std::alloc::Global;
-use wl_machine::rows::{HeldRow, PendingRow};
+use wl_machine::{HeldRow, PendingRow};
 use wl_types::{Memory, Name};
 
 pub(crate) fn has_lock_of(held: &[HeldRow], name: &Name) -> bool

@@ -4,7 +4,7 @@ ghost use Rattle.std.specs.List.{list_any};
 ghost use Rattle.wl_machine.specs.Step.{with_reason, with_active};
 ghost use Rattle.wl_machine.specs.Refusals.{is_window, reason_in, signals_of};
 
-use wl_machine::rows::{AgentRow, SignalRow};
+use wl_machine::{AgentRow, SignalRow};
 use wl_types::{Kind, Reason};
 
 /// Whether there is an agent of this number.

@@ -20,8 +20,7 @@ use crate::settling::settle;
 use crate::snapshots::shown;
 use std::alloc::Global;
 use std::marker::Model;
-use wl_machine::command::{Command, Reply};
-use wl_machine::rows::{AgentRow, HeldRow, PendingRow, SignalRow};
+use wl_machine::{AgentRow, Command, HeldRow, PendingRow, Reply, SignalRow};
 use wl_types::{
     AbortAnswer, Ask, Change, Kind, Memory, Name, Numbers, Phase, Reason, Refusal, ReleaseAnswer,
     Snapshot, TakeAnswer,

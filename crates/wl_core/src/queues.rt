@@ -4,11 +4,11 @@ ghost use Rattle.std.specs.Prelude.{◌≡◌, ◌+◌, ◌≤◌, ◌<◌, [], 
 ghost use Rattle.std.specs.Str.{bytes_eq};
 ghost use Rattle.wl_types.specs.declared.phases.Phase.TheVariants.{Stolen};
 ghost use Rattle.wl_machine.specs.Grants.{is_empty, any_exclusive, locks, queue, grants};
-ghost use Rattle.wl_machine.specs.Step.{is_nil, lock_ends};
+ghost use Rattle.wl_machine.specs.Step.{lock_ends};
 
 use crate::ends::{LocksToEnd, end_locks};
 use crate::room::{push_front_in_room, push_in_room};
-use wl_machine::rows::{HeldRow, PendingRow, exclusive};
+use wl_machine::{HeldRow, PendingRow, exclusive};
 use wl_types::{Ask, Change, Name, Phase};
 
 /// Whether a name has an exclusive lock.
@@ -37,7 +37,7 @@ pub(crate) fn has_none(held: &[HeldRow], name: &Name) -> bool
 
 /// Whether a name has no request.
 fn has_no_request(pending: &[PendingRow], name: &Name) -> bool
-    ensures { result ≡ is_nil (queue name.now pending.now) }
+    ensures { result ≡ is_empty (queue name.now pending.now) }
 {
     for request in pending {
         if request.name.same(name) {
@@ -49,7 +49,7 @@ fn has_no_request(pending: &[PendingRow], name: &Name) -> bool
 
 /// Whether a request would be granted at once.
 fn is_free(held: &[HeldRow], pending: &[PendingRow], row: &PendingRow) -> bool
-    ensures { result ≡ (is_nil (queue row.now.name pending.now) && not (is_nil (grants (locks row.now.name held.now) (row.now ∷ [])))) }
+    ensures { result ≡ (is_empty (queue row.now.name pending.now) && not (is_empty (grants (locks row.now.name held.now) (row.now ∷ [])))) }
 {
     if !has_no_request(pending, &row.name) || has_exclusive(held, &row.name) {
         return false;
@@ -64,7 +64,7 @@ pub(crate) fn is_unavailable(
     row: &PendingRow,
     ask: &Ask,
 ) -> bool
-    ensures { result ≡ (not ask.now.steal && ask.now.if_available && not (is_nil (queue row.now.name pending.now) && not (is_nil (grants (locks row.now.name held.now) (row.now ∷ []))))) }
+    ensures { result ≡ (not ask.now.steal && ask.now.if_available && not (is_empty (queue row.now.name pending.now) && not (is_empty (grants (locks row.now.name held.now) (row.now ∷ []))))) }
 {
     !ask.steal && ask.if_available && !is_free(held, pending, row)
 }

@@ -12,7 +12,7 @@ use crate::lock_core::LockCore;
 use std::alloc::Global;
 use std::collections::BTreeMap;
 use std::marker::Model;
-use wl_machine::command::{Command, Reply};
+use wl_machine::{Command, Reply};
 use wl_origin::OriginKey;
 use wl_types::{Memory, Numbers};
 

@@ -2,7 +2,7 @@
 ghost use Rattle.std.specs.Prelude.{◌≡◌, ◌+◌, ◌≤◌, ◌<◌, [], ◌∷◌, ◌++◌, vec_len, vec_capacity, OnOk};
 
 use std::alloc::AllocError;
-use wl_machine::rows::{HeldRow, PendingRow};
+use wl_machine::{HeldRow, PendingRow};
 use wl_types::Change;
 
 /// Puts a value into room that is there.

@@ -1,12 +1,12 @@
 //! Processing the queues.
 
-ghost use Rattle.std.specs.Prelude.{◌≡◌, ◌+◌, ◌≤◌, ◌<◌, ◌++◌, map, filter, length, vec_len, vec_capacity};
-ghost use Rattle.wl_machine.specs.Grants.{locks, queue, grants, first_requests, without_first, granted_lock, grant_change, settle_name, settle_names, lists_of, in_use};
+ghost use Rattle.std.specs.Prelude.{◌≡◌, ◌+◌, ◌≤◌, ◌<◌, ◌++◌, map, filter, take, length, vec_len, vec_capacity};
+ghost use Rattle.wl_machine.specs.Grants.{locks, queue, grants, without_first, granted_lock, grant_change, settle_name, settle_names, lists_of, in_use};
 
 use crate::names::keep_used;
 use crate::queues::{has_exclusive, has_none};
 use crate::room::push_in_room;
-use wl_machine::rows::{HeldRow, PendingRow, exclusive};
+use wl_machine::{HeldRow, PendingRow, exclusive};
 use wl_types::{Change, Name, Phase};
 
 /// How many requests of a name are granted.
@@ -43,9 +43,9 @@ fn move_first(
     requires held_room { vec_len held.old + vec_len pending.old ≤ vec_capacity held.old }
     requires changes_room { vec_len changes.old + vec_len pending.old ≤ vec_capacity changes.old }
 
-    ensures held { held.new.items ≡ held.old.items ++ map granted_lock (first_requests name.now count pending.old.items) }
+    ensures held { held.new.items ≡ held.old.items ++ map granted_lock (take count (queue name.now pending.old.items)) }
     ensures pending { pending.new.items ≡ without_first name.now count pending.old.items }
-    ensures changes { changes.new.items ≡ changes.old.items ++ map grant_change (first_requests name.now count pending.old.items) }
+    ensures changes { changes.new.items ≡ changes.old.items ++ map grant_change (take count (queue name.now pending.old.items)) }
 
     ensures held_len { vec_len held.new + vec_len pending.new ≡ vec_len held.old + vec_len pending.old }
     ensures changes_len { vec_len changes.new + vec_len pending.new ≡ vec_len changes.old + vec_len pending.old }

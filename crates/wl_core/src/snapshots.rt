@@ -5,7 +5,7 @@ ghost use Rattle.wl_machine.specs.Grants.{locks, queue};
 ghost use Rattle.wl_machine.specs.Step.{lock_info, request_info};
 
 use std::alloc::Global;
-use wl_machine::rows::{HeldRow, PendingRow};
+use wl_machine::{HeldRow, PendingRow};
 use wl_types::{Infos, LockInfo, Memory, Name, Snapshot};
 
 /// The locks, as a snapshot shows them.

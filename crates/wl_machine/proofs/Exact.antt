@@ -22,8 +22,9 @@ use Rattle.wl_machine.specs.declared.rows.PendingRow.{PendingRow}
 use Rattle.wl_machine.specs.State.{State}
 use Rattle.wl_machine.specs.Grants.{is_exclusive}
 use Rattle.wl_machine.specs.Refusals.{is_window}
-use Rattle.wl_machine.specs.Same.{is_timeout, same_agent, same_signal, same_lock, same_request, same_numbers}
+use Rattle.wl_machine.specs.Same.{is_timeout, same_agent, same_signal, same_lock, same_request, same_numbers, same_state}
 use Rattle.wl_machine.specs.Laws.{SameIsEqual}
+use Rattle.wl_machine.specs.Alike.{same_state_equiv}
 use Rattle.wl_machine.proofs.Lists.{and_first, and_second}
 
 both : (a b : Bool) → (a && b) ≡ true → (a ≡ true) × (b ≡ true)
@@ -153,8 +154,8 @@ numbers_exact a b is =
 abbrev state_of : List AgentRow → List SignalRow → List (List ℕ) → List HeldRow → List PendingRow → Numbers → State
 state_of the_agents the_signals the_names the_held the_pending the_next = record { agents = the_agents; signals = the_signals; names = the_names; held = the_held; pending = the_pending; next = the_next }
 
-pub same_is_equal : SameIsEqual
-same_is_equal s t is =
+exact : (s t : State) → same_state s t ≡ true → s ≡ t
+exact s t is =
     let one = both (pointwise same_agent s.agents t.agents) _ is in
     let two = both (pointwise same_signal s.signals t.signals) _ one.1 in
     let three = both (pointwise bytes_eq s.names t.names) _ two.1 in
@@ -168,3 +169,6 @@ same_is_equal s t is =
     let next : s.next ≡ t.next = numbers_exact s.next t.next five.1 in
     let equal : state_of s.agents s.signals s.names s.held s.pending s.next ≡ state_of t.agents t.signals t.names t.held t.pending t.next = rw (agents, signals, names, held, pending, next) refl in
     equal
+
+pub same_is_equal : SameIsEqual
+same_is_equal s t = (exact s t, λ equal. rw equal (same_state_equiv.refl t))

@@ -1,12 +1,19 @@
 -- What a queue grants stands at its front.
 use Rattle.std.proofs.Common.{◌≡◌, ℕ, suc, zero, true, false, cond, List, [], ◌∷◌, ◌++◌, length, take, refl, ◌∙◌, ap, map, ◌&&◌}
+use Rattle.std.specs.Prelude.{if◌then◌else◌}
 use Rattle.std.specs.Str.{bytes_eq}
 use Rattle.wl_machine.specs.declared.rows.PendingRow.{PendingRow}
 use Rattle.wl_machine.specs.declared.rows.HeldRow.{HeldRow}
-use Rattle.wl_machine.specs.Grants.{first_requests, without_first, queue, grants, shared_prefix, any_exclusive, is_empty, is_exclusive, starts_exclusive, locks, lists_of, settle_name, granted_lock, grant_change}
+use Rattle.wl_machine.specs.Grants.{without_first, queue, grants, shared_prefix, any_exclusive, is_empty, is_exclusive, starts_exclusive, locks, lists_of, settle_name, granted_lock, grant_change}
 use Rattle.wl_types.specs.declared.phases.Change.{Change}
 
--- the first requests of a name are the first of its queue
+-- the first requests of a name, as many as count says
+abbrev pub first_requests : List ℕ → ℕ → List PendingRow → List PendingRow
+first_requests name zero pending = []
+first_requests name (suc count) [] = []
+first_requests name (suc count) (request ∷ pending) = if bytes_eq request.name name then request ∷ first_requests name count pending else first_requests name (suc count) pending
+
+-- they are the first of its queue
 pub first_requests_is_take : (name : List ℕ) (count : ℕ) (xs : List PendingRow) → first_requests name count xs ≡ take count (queue name xs)
 first_requests_is_take name zero xs = refl
 first_requests_is_take name (suc count) [] = refl
@@ -39,6 +46,6 @@ first_granted name h xs = first_requests_is_take name _ xs ∙ take_grants h (qu
 
 -- granting as many as are granted is settling the name
 pub settled_by : (name : List ℕ) (h : List HeldRow) (p : List PendingRow) (c : List Change) (h' : List HeldRow) (p' : List PendingRow) (c' : List Change) (count : ℕ)
-    → count ≡ length (grants (locks name h) (queue name p)) → h' ≡ h ++ map granted_lock (first_requests name count p) → p' ≡ without_first name count p → c' ≡ c ++ map grant_change (first_requests name count p)
+    → count ≡ length (grants (locks name h) (queue name p)) → h' ≡ h ++ map granted_lock (take count (queue name p)) → p' ≡ without_first name count p → c' ≡ c ++ map grant_change (take count (queue name p))
     → lists_of h' p' c' ≡ settle_name (lists_of h p c) name
-settled_by name h p c h' p' c' count counted held pending changes = rw (held, pending, changes, counted, first_granted name (locks name h) p) refl
+settled_by name h p c h' p' c' count counted held pending changes = rw (held, pending, changes, counted, take_grants (locks name h) (queue name p)) refl

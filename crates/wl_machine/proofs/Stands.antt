@@ -10,11 +10,11 @@ use Rattle.wl_types.specs.declared.phases.Phase.{Phase}
 use Rattle.wl_types.specs.declared.phases.Phase.TheVariants.{Pending, Granted, Taken}
 use Rattle.wl_machine.specs.declared.rows.HeldRow.{HeldRow}
 use Rattle.wl_machine.specs.declared.rows.PendingRow.{PendingRow}
-use Rattle.wl_machine.specs.Grants.{grants, first_requests, without_first, granted_lock, grant_change, locks, queue, Lists, lists_of, settle_name, settle_names}
+use Rattle.wl_machine.specs.Grants.{grants, without_first, granted_lock, grant_change, locks, queue, Lists, lists_of, settle_name, settle_names}
 use Rattle.wl_machine.specs.Step.{lock_ends, request_ends}
 use Rattle.wl_machine.specs.Laws.{phases_of, are_moves}
 use Rattle.wl_machine.proofs.Lists.{filter_map, filters_commute, map_twice}
-use Rattle.wl_machine.proofs.Fronts.{first_granted}
+use Rattle.wl_machine.proofs.Fronts.{first_requests, first_granted}
 
 -- the lock and the request of a number
 abbrev pub held_of : ℕ → List HeldRow → List HeldRow

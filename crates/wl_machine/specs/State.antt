@@ -1,4 +1,5 @@
--- The state of a lock manager: standard, "lock manager", "held lock set", "lock request queue map".
+-- The state of a lock manager: Web Locks, "lock manager", "held lock set" and "lock request queue map"; Storage, for its being
+-- one to an origin. Agents, signals and their numbers are (own).
 use Rattle.std.specs.Prelude.{ℕ, List, [], ◌≤◌}
 use Rattle.wl_types.specs.declared.phases.Numbers.{Numbers}
 use Rattle.wl_types.specs.declared.phases.Change.{Change}
@@ -25,7 +26,7 @@ pub record Content : Type 0 where
   pub state : State
   pub recent : List Change
 
--- numbers to be given next are 1 to 2 ^ 53
+-- numbers to be given next are 1 to 2 ^ 53 (own)
 pub record AreNumbers (next : Numbers) : Type 0 where
   pub agent_low : 1 ≤ next.agent
   pub agent_high : next.agent ≤ 9007199254740992

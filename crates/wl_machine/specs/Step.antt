@@ -1,4 +1,5 @@
--- One command: the state, the reply and the changes that it gives.
+-- One command: the state, the reply and the changes that it gives. Changes are the ends, in the order of the lists, and then
+-- the grants, in the order in which the queues are processed.
 use Rattle.std.specs.Prelude.{◌≡◌, ℕ, Bool, true, false, not, ◌&&◌, ◌||◌, ◌==◌, ◌+◌, List, [], ◌∷◌, ◌++◌, map, filter, is_some, if◌then◌else◌, Option, Some, None}
 use Rattle.std.specs.List.{list_any, flat_map}
 use Rattle.std.specs.Str.{bytes_eq}
@@ -24,7 +25,7 @@ use Rattle.wl_types.specs.declared.answers.TakeAnswer.TheVariants as take_answer
 use Rattle.wl_types.specs.declared.answers.ReleaseAnswer.TheVariants as release_answer
 use Rattle.wl_types.specs.declared.answers.AbortAnswer.TheVariants as abort_answer
 use Rattle.wl_machine.specs.State.{State}
-use Rattle.wl_machine.specs.Grants.{grants, locks, queue, settle_names, in_use}
+use Rattle.wl_machine.specs.Grants.{is_empty, grants, locks, queue, settle_names, in_use}
 use Rattle.wl_machine.specs.Refusals.{refusal, reason_in}
 
 pub record Outcome : Type 0 where
@@ -36,7 +37,8 @@ pub record Outcome : Type 0 where
 abbrev pub no_changes : State → Reply → Outcome
 no_changes s reply = record { state = s; reply = reply; changes = [] }
 
--- the queues are processed, after these ends; then each name with neither lock nor request leaves
+-- Web Locks, "process the lock request queue": the queues of all names are processed, after these ends. Then each name that
+-- is out of use leaves (own: the standard keeps empty queues)
 abbrev pub settled : State → List Change → Reply → Outcome
 settled s ends reply =
     let lists = settle_names (record { held = s.held; pending = s.pending; changes = ends }) s.names in
@@ -58,31 +60,39 @@ abbrev pub with_name : List ℕ → List (List ℕ) → List (List ℕ)
 with_name name names = if list_any (λ other. bytes_eq other name) names then names else names ++ name ∷ []
 
 abbrev pub new_request : State → ℕ → Ask → PendingRow
-new_request s agent ask = record { number = s.next.request; agent = agent; name = ask.name; mode = ask.mode; signal = ask.signal }
+new_request s agent ask = record {
+  number = s.next.request;
+  agent = agent;
+  name = ask.name;
+  mode = ask.mode;
+  signal = ask.signal;
+}
 
--- the next request number is used up
+-- Web Locks, "request a lock". An accepted request uses up the next number (own)
 abbrev pub numbered : State → State
 numbered s = record s { next = record s.next { request = s.next.request + 1 } }
 
-abbrev pub is_nil : List PendingRow → Bool
-is_nil [] = true
-is_nil (request ∷ requests) = false
-
--- whether the request could be granted at once
+-- whether the request could be granted at once; one that asks with ifAvailable stands in no queue, so any queued request of
+-- its name is in its way
 abbrev pub available : State → PendingRow → Bool
-available s request = is_nil (queue request.name s.pending) && not (is_nil (grants (locks request.name s.held) (request ∷ [])))
+available s request = is_empty (queue request.name s.pending) && not (is_empty (grants (locks request.name s.held) (request ∷ [])))
 
--- the request is at the end of its queue
+-- the request comes to the end of its queue
 abbrev pub enqueue : State → PendingRow → State
 enqueue s request = record (numbered s) { names = with_name request.name s.names; pending = s.pending ++ request ∷ [] }
 
 abbrev pub plain_request : State → PendingRow → Outcome
 plain_request s request = settled (enqueue s request) [] (reply.Request request.number)
 
+-- with ifAvailable, and not to be granted at once: nothing else happens
 abbrev pub unavailable : State → PendingRow → Outcome
-unavailable s request = record { state = numbered s; reply = reply.Request request.number; changes = record { id = request.number; phase = Unavailable } ∷ [] }
+unavailable s request = record {
+  state = numbered s;
+  reply = reply.Request request.number;
+  changes = record { id = request.number; phase = Unavailable } ∷ [];
+}
 
--- the locks of the name are gone, and the request is at the front
+-- with steal, the locks of the name are gone, and the request comes to the front of its queue
 abbrev pub steal_locks : State → PendingRow → State
 steal_locks s request = record (numbered s) {
   names = with_name request.name s.names;
@@ -91,13 +101,16 @@ steal_locks s request = record (numbered s) {
 }
 
 abbrev pub stealing_request : State → PendingRow → Outcome
-stealing_request s request = settled (steal_locks s request) (lock_ends Stolen (locks request.name s.held)) (reply.Request request.number)
+stealing_request s request =
+    settled (steal_locks s request) (lock_ends Stolen (locks request.name s.held)) (reply.Request request.number)
 
 abbrev pub request_step : State → ℕ → Ask → Outcome
 request_step s agent ask =
     let request = new_request s agent ask in
-    if ask.steal then stealing_request s request else (if ask.if_available && not (available s request) then unavailable s request else plain_request s request)
+    if ask.steal then stealing_request s request
+    else (if ask.if_available && not (available s request) then unavailable s request else plain_request s request)
 
+-- Web Locks, "release a lock": the agent's lock of that number, taken or not
 abbrev pub is_lock_of : ℕ → ℕ → HeldRow → Bool
 is_lock_of agent id lock = lock.number == id && lock.agent == agent
 
@@ -107,10 +120,12 @@ without_lock s agent id = record s { held = filter (λ lock. not (is_lock_of age
 abbrev pub release_step : State → ℕ → ℕ → Outcome
 release_step s agent id =
     if list_any (is_lock_of agent id) s.held
-    then settled (without_lock s agent id) (lock_ends Released (filter (is_lock_of agent id) s.held)) (reply.Released release_answer.Released)
+    then settled (without_lock s agent id) (lock_ends Released (filter (is_lock_of agent id) s.held))
+    (reply.Released release_answer.Released)
     else no_changes s (reply.Released release_answer.NotHeld)
 
--- an untaken lock
+-- a lock is taken when its agent is told of the grant: Web Locks, "process the lock request queue", where the callback
+-- starts. That this is an event of its own is (own)
 abbrev pub is_untaken : ℕ → HeldRow → Bool
 is_untaken id lock = lock.number == id && not lock.taken
 
@@ -127,18 +142,20 @@ abbrev pub is_signal : ℕ → Option ℕ → Bool
 is_signal signal None = false
 is_signal signal (Some other) = other == signal
 
+-- DOM, "signal abort", with Web Locks, "abort the request". That it ends locks too whose agent wasn't told is (own)
 abbrev pub is_waiting_on : ℕ → ℕ → PendingRow → Bool
 is_waiting_on agent signal request = request.agent == agent && is_signal signal request.signal
 
 abbrev pub is_abortable : ℕ → ℕ → HeldRow → Bool
 is_abortable agent signal lock = lock.agent == agent && is_signal signal lock.signal && not lock.taken
 
--- the locks that an abort of the signal would end
+-- the numbers of the locks that an abort of the signal would end, in held order
 abbrev pub untaken_numbers : State → ℕ → ℕ → List ℕ
 untaken_numbers s agent signal = map (λ lock. lock.number) (filter (is_abortable agent signal) s.held)
 
 abbrev pub with_reason : ℕ → ℕ → Reason → SignalRow → SignalRow
-with_reason agent signal reason row = if row.agent == agent && row.number == signal then record row { reason = Some reason } else row
+with_reason agent signal reason row =
+    if row.agent == agent && row.number == signal then record row { reason = Some reason } else row
 
 -- the signal has its reason; its requests, and its locks that were not taken, are gone
 abbrev pub with_aborted : State → ℕ → ℕ → Reason → State
@@ -151,7 +168,8 @@ with_aborted s agent signal reason = record s {
 -- those requests, then those locks
 abbrev pub abort_ends : State → ℕ → ℕ → Reason → List Change
 abort_ends s agent signal reason =
-    request_ends (Aborted reason) (filter (is_waiting_on agent signal) s.pending) ++ lock_ends (Aborted reason) (filter (is_abortable agent signal) s.held)
+    request_ends (Aborted reason) (filter (is_waiting_on agent signal) s.pending)
+    ++ lock_ends (Aborted reason) (filter (is_abortable agent signal) s.held)
 
 abbrev pub abort_step : State → ℕ → ℕ → Reason → Outcome
 abort_step s agent signal reason =
@@ -159,7 +177,7 @@ abort_step s agent signal reason =
     then no_changes s (reply.Aborted abort_answer.AlreadyAborted)
     else settled (with_aborted s agent signal reason) (abort_ends s agent signal reason) (reply.Aborted abort_answer.Done)
 
--- the agent, its signals, requests and locks are gone
+-- Web Locks, "agent termination": the agent, its signals, requests and locks are gone. The reason that its requests get is (own)
 abbrev pub without_agent : State → ℕ → State
 without_agent s agent = record s {
   agents = filter (λ row. not (row.number == agent)) s.agents;
@@ -170,12 +188,13 @@ without_agent s agent = record s {
 
 abbrev pub terminate_ends : State → ℕ → List Change
 terminate_ends s agent =
-    request_ends (Aborted AbortError) (filter (λ request. request.agent == agent) s.pending) ++ lock_ends Released (filter (λ lock. lock.agent == agent) s.held)
+    request_ends (Aborted AbortError) (filter (λ request. request.agent == agent) s.pending)
+    ++ lock_ends Released (filter (λ lock. lock.agent == agent) s.held)
 
 abbrev pub terminate_step : State → ℕ → Outcome
 terminate_step s agent = settled (without_agent s agent) (terminate_ends s agent) reply.Done
 
--- Standard, "snapshot the lock state"
+-- Web Locks, "snapshot the lock state": the locks in the order of their grants, and queue after queue
 abbrev pub lock_info : HeldRow → LockInfo
 lock_info lock = record { name = lock.name; mode = lock.mode; client = lock.agent }
 
@@ -183,8 +202,12 @@ abbrev pub request_info : PendingRow → LockInfo
 request_info request = record { name = request.name; mode = request.mode; client = request.agent }
 
 abbrev pub snapshot_of : State → Snapshot
-snapshot_of s = record { held = map lock_info s.held; pending = flat_map (λ name. map request_info (queue name s.pending)) s.names }
+snapshot_of s = record {
+  held = map lock_info s.held;
+  pending = flat_map (λ name. map request_info (queue name s.pending)) s.names;
+}
 
+-- an agent opens, makes a signal, or is made active or inactive (own)
 abbrev pub enter_step : State → Kind → Outcome
 enter_step s kind =
     no_changes (record s {
@@ -218,6 +241,7 @@ accepted s (Abort agent signal reason) = abort_step s agent signal reason
 accepted s (Terminate agent) = terminate_step s agent
 accepted s (Query agent) = no_changes s (reply.Seen (snapshot_of s))
 
+-- a refusal changes nothing
 abbrev pub unless_refused : Option Refusal → State → Command → Outcome
 unless_refused None s command = accepted s command
 unless_refused (Some refusal) s command = no_changes s (reply.Refused refusal)
@@ -237,9 +261,3 @@ state_after (command ∷ commands) s = state_after commands (step s command).sta
 -- from the old state, the command gives this state, reply and changes
 abbrev pub Gives : State → Command → State → Reply → List Change → Type 0
 Gives old command new reply changes = step old command ≡ record { state = new; reply = reply; changes = changes }
-
--- a request with no flag and no signal
-pub record IsPlain (ask : Ask) : Type 0 where
-  pub waits : ask.if_available ≡ false
-  pub no_steal : ask.steal ≡ false
-  pub no_signal : ask.signal ≡ None

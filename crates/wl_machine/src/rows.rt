@@ -1,4 +1,5 @@
 //! The rows of the machine's lists.
+
 ghost use Rattle.std.specs.Prelude.{◌≡◌};
 ghost use Rattle.std.specs.Option.{option_eq};
 ghost use Rattle.std.specs.Ordering.{on};
@@ -6,37 +7,45 @@ ghost use Rattle.std.proofs.Math.Bool.{beq};
 ghost use Rattle.std.specs.Cmp.{partial_equiv_from_equiv};
 ghost use Rattle.wl_machine.specs.Grants.{is_exclusive};
 ghost use Rattle.wl_machine.specs.Refusals.{is_window};
-ghost use Rattle.wl_machine.specs.Same.{is_timeout, same_agent, same_signal, same_request, same_lock, same_numbers, same_agent_equiv, same_signal_equiv, same_request_equiv, same_lock_equiv};
+ghost use Rattle.wl_machine.specs.Same.{is_timeout, same_agent, same_signal, same_request, same_lock, same_numbers};
+ghost use Rattle.wl_machine.specs.Alike.{same_agent_equiv, same_signal_equiv, same_request_equiv, same_lock_equiv};
 
 use wl_types::{Kind, Mode, Name, Numbers, Reason};
 
+/// An agent that opened and has not ended.
 #[derive(Clone, Copy, Debug, Drop)]
 pub struct AgentRow {
     pub number: u64,
     pub kind: Kind,
+    /// A worker is always active.
     pub active: bool,
 }
 
+/// A signal of a live agent.
 #[derive(Clone, Copy, Debug, Drop)]
 pub struct SignalRow {
+    /// The agent that made it, the only one that may use it.
     pub agent: u64,
     pub number: u64,
+    /// Why it was aborted, if it was.
     pub reason: Option<Reason>,
 }
 
-/// A lock.
-#[derive(Drop)]
+/// A lock that is held.
+#[derive(Debug, Drop)]
 pub struct HeldRow {
+    /// The number of the request that it was granted to.
     pub number: u64,
     pub agent: u64,
     pub name: Name,
     pub mode: Mode,
     pub signal: Option<u64>,
+    /// Whether its agent was told of the grant.
     pub taken: bool,
 }
 
 /// A request that waits.
-#[derive(Drop)]
+#[derive(Debug, Drop)]
 pub struct PendingRow {
     pub number: u64,
     pub agent: u64,
@@ -45,6 +54,7 @@ pub struct PendingRow {
     pub signal: Option<u64>,
 }
 
+/// Whether the mode is exclusive.
 pub fn exclusive(mode: Mode) -> bool
     ensures { result ≡ is_exclusive mode }
 {

@@ -7,8 +7,7 @@ use crate::owners::{
     has_agent, has_signal_in, is_inactive_in, is_worker_in, reason_of, signal_count,
 };
 use crate::plain::PlainCore;
-use wl_machine::command::Command;
-use wl_machine::rows::{HeldRow, PendingRow};
+use wl_machine::{Command, HeldRow, PendingRow};
 use wl_types::{Ask, Kind, Reason, Refusal};
 
 /// How many agents of a manager may be live.

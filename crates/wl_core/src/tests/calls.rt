@@ -1,0 +1,77 @@
+//! Each call of a core once.
+
+use super::{ask, opening};
+use crate::{AbortAnswer, LockCore, ReleaseAnswer, TakeAnswer};
+use std::test::Fail;
+use wl_types::{Change, Kind, Mode, Phase, Reason, Refusal};
+
+#[test]
+fn each_call_answers(rt: HostRuntime) -> Result<(), Fail> {
+    let alloc = rt.alloc();
+    let mut core = opening(alloc);
+    assert!(rt; core.may_open() == Ok(()));
+    assert_eq!(rt; core.open(Kind::Window)?, 1);
+    assert_eq!(rt; core.open(Kind::Worker)?, 2);
+    assert!(rt; core.may_set(1) == Ok(()));
+    assert!(rt; core.set_active(1, false) == Ok(()));
+    assert!(rt; core.request(1, &ask(alloc, "db", Mode::Shared)?) == Err(Refusal::InvalidState));
+    assert!(rt; core.set_active(1, true) == Ok(()));
+    assert!(rt; core.may_set(2) == Err(Refusal::NotAWindow));
+    assert!(rt; core.may_signal(1) == Ok(()));
+    assert_eq!(rt; core.new_signal(1)?, 1);
+    let mut wanted = ask(alloc, "db", Mode::Exclusive)?;
+    wanted.signal = Some(1);
+    assert!(rt; core.may_request(1, &wanted) == Ok(()));
+    assert_eq!(rt; core.request(1, &wanted)?, 1);
+    assert!(rt;
+        core.changes()
+            == [Change {
+                id: 1,
+                phase: Phase::Granted
+            }]
+            .as_slice()
+    );
+    assert!(rt; core.untaken(1, 1, 0) == Some(1));
+    assert!(rt; core.untaken(1, 1, 1) == None);
+    assert_eq!(rt; core.request(2, &ask(alloc, "db", Mode::Shared)?)?, 2);
+    assert!(rt; core.take(1) == TakeAnswer::Taken);
+    assert!(rt; core.take(1) == TakeAnswer::NotGranted);
+    let seen = core.snapshot(2)?;
+    assert_eq!(rt; seen.held.as_slice().len(), 1);
+    assert_eq!(rt; seen.held.as_slice()[0].client, 1);
+    assert_eq!(rt; seen.pending.as_slice().len(), 1);
+    assert_eq!(rt; seen.pending.as_slice()[0].name.as_str(), "db");
+    assert!(rt; core.abort(1, 1, Reason::TimeoutError) == Ok(AbortAnswer::Done));
+    assert!(rt; core.abort(1, 1, Reason::AbortError) == Ok(AbortAnswer::AlreadyAborted));
+    assert!(rt; core.release(1, 1) == ReleaseAnswer::Released);
+    assert!(rt; core.release(1, 1) == ReleaseAnswer::NotHeld);
+    assert!(rt; core.terminate(2) == Ok(()));
+    assert!(rt;
+        core.changes()
+            == [Change {
+                id: 2,
+                phase: Phase::Released
+            }]
+            .as_slice()
+    );
+    assert!(rt; core.terminate(2) == Err(Refusal::NoSuchAgent));
+    Ok(())
+}
+
+#[test]
+fn a_copy_equals_its_origin_whatever_changed_last(rt: HostRuntime) -> Result<(), Fail> {
+    let alloc = rt.alloc();
+    let mut core = opening(alloc);
+    core.open(Kind::Window)?;
+    core.request(1, &ask(alloc, "db", Mode::Shared)?)?;
+    core.request(1, &ask(alloc, "db", Mode::Exclusive)?)?;
+    let copy = core.copy_plain()?;
+    assert!(rt; copy == core);
+    assert_eq!(rt; copy.changes().len(), 0);
+    // The same state by another way: these differ in the changes of the last call alone.
+    core.take(9);
+    assert!(rt; copy == core);
+    core.take(1);
+    assert!(rt; copy != core);
+    Ok(())
+}
