@@ -1,5 +1,5 @@
 -- Notices and the list that is left, request by request.
-use Rattle.std.proofs.Common.{◌≡◌, ℕ, ◌+◌, ◌<◌, ◌≤◌, List, [], ◌∷◌, Bool, true, false, cond, not, All, map, filter, fold, eqb, refl, sym, ap, ◌∙◌, arith}
+use Rattle.std.proofs.Common.{◌≡◌, ℕ, ◌+◌, ◌≤◌, List, [], ◌∷◌, Bool, true, false, cond, not, map, filter, fold, eqb, refl, sym, ap, ◌∙◌, arith}
 use Rattle.std.specs.List.{AllByRecursion}
 use Rattle.std.proofs.lemmas.Bool.{ne_eqb, eq-eqb}
 use Rattle.std.proofs.lemmas.List.Elements.{recursion_from_All}
@@ -8,8 +8,8 @@ use Rattle.wl_types.specs.declared.phases.Phase.TheVariants.{Pending, Granted, T
 use Rattle.wl_types.specs.Phases.{is_end}
 use Rattle.wl_codec.specs.declared.reply.Notice.{Notice}
 use Rattle.wl_codec.specs.declared.reply.Outcome.{Outcome}
-use Rattle.wl_session.specs.Told.{Look, IsFrom, is_live, put, phase_in, phase_told, is_new, is_news, notice, news, still_told}
-use Rattle.wl_session.specs.Entries.{Entry, Stands, AreEntries, told_of, found_of, told_before, looks_of, entry_notices, entries_left}
+use Rattle.wl_session.specs.Told.{Look, IsFrom, is_live, put, phase_in, phase_told, is_new, is_news, notice, news}
+use Rattle.wl_session.specs.Entries.{Entry, Stands, told_of, found_of, told_before, looks_of, entry_notices, entries_left}
 use Rattle.wl_session.specs.Laws.{NoticesAreByRequest, LeftIsByRequest}
 use Rattle.wl_session.proofs.Order.{from_lower, put_over, put_first, fold_behind}
 use Rattle.wl_session.proofs.News.{is_due}

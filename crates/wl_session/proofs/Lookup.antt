@@ -1,12 +1,11 @@
 -- Lists by number as tables from numbers to phases, and looks that leave released requests out.
-use Rattle.std.proofs.Common.{◌≡◌, ◌≢◌, ℕ, ◌+◌, ◌<◌, ◌≤◌, List, [], ◌∷◌, Bool, true, false, cond, not, Option, Some, None, map, filter, fold, eqb, refl, sym, ap, subst, inl, inr, ◌∙◌, arith}
+use Rattle.std.proofs.Common.{◌≡◌, ◌≢◌, ℕ, ◌+◌, ◌<◌, List, [], ◌∷◌, Bool, true, false, cond, Option, Some, None, map, filter, fold, eqb, refl, sym, ap, subst, inl, inr, ◌∙◌, arith}
 use Rattle.std.proofs.lemmas.Bool.{ne_eqb, eq-eqb, cases_eq, cases_lt}
 use Rattle.wl_types.specs.declared.phases.Phase.{Phase}
 use Rattle.wl_types.specs.declared.phases.Phase.TheVariants.{Released}
-use Rattle.wl_codec.specs.declared.reply.Outcome.{Outcome}
-use Rattle.wl_session.specs.Told.{Look, IsFrom, IsByNumber, is_live, put, released, completed, still_told, notice, news}
+use Rattle.wl_session.specs.Told.{Look, IsFrom, IsByNumber, is_live, put, released, completed, notice}
 use Rattle.wl_session.specs.Laws.{LooksAreLeft, LooksAreNews}
-use Rattle.wl_session.proofs.Order.{from_lower, from_filter, from_released, put_behind, put_over, put_ahead, by_number_put, from_put, by_number_fold}
+use Rattle.wl_session.proofs.Order.{from_filter, from_released, put_behind, put_over, put_ahead, by_number_put, by_number_fold}
 use Rattle.wl_session.proofs.News.{is_due}
 
 -- the phase of a number, where it stands in the list

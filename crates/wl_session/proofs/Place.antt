@@ -1,5 +1,5 @@
 -- What a search by halves finds.
-use Rattle.std.proofs.Common.{◌≡◌, ℕ, zero, suc, ◌+◌, ◌<◌, ◌≤◌, List, [], ◌∷◌, true, false, length, get_or, take, drop, ltb, eqb, Result, Ok, Err, IfOk, IfErr, refl, sym, ap, arith}
+use Rattle.std.proofs.Common.{◌≡◌, ℕ, zero, suc, ◌+◌, ◌<◌, ◌≤◌, List, [], ◌∷◌, true, false, length, get_or, ltb, eqb, Result, Ok, Err, IfOk, IfErr, refl, sym, ap, arith}
 use Rattle.std.specs.List.Sorted.{IsSearchInRange, IsBinarySearchResult, IsNonDecreasingBy}
 use Rattle.std.specs.Ordering.{nat_cmp, ordering_index}
 use Rattle.std.proofs.lemmas.Cmp.{ranked}
@@ -7,9 +7,9 @@ use Rattle.std.proofs.lemmas.List.Sorted.{IsNonDecreasingBy-from_default}
 use Rattle.std.proofs.lemmas.Bool.{lt-ltb, le-ltb, ne_eqb, eq-eqb}
 use Rattle.std.proofs.lemmas.Bool.Decides.{nat_tests}
 use Rattle.wl_types.specs.declared.phases.Phase.TheVariants.{Pending}
-use Rattle.wl_session.specs.Told.{Look, IsFrom, IsByNumber, before, beyond, phase_in}
+use Rattle.wl_session.specs.Told.{Look, IsFrom, IsByNumber}
 use Rattle.wl_session.specs.Places.{IsAt, IsGapFor}
-use Rattle.wl_session.proofs.Order.{at_least, rises, from_lower, below}
+use Rattle.wl_session.proofs.Order.{at_least, rises, below}
 
 -- any look, for what stands past a list's end
 abbrev none : Look

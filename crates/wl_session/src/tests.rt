@@ -3,8 +3,12 @@
 use crate::{Action, Plan, Session, tells};
 use std::alloc::Global;
 use std::test::Fail;
-use wl_codec::{Body, CodecFault, Outcome, Reading, read_message};
+use wl_codec::{Body, CodecFault, Outcome, read_message};
 use wl_types::{AbortAnswer, Kind, Memory, Phase, Reason, Refusal, ReleaseAnswer};
+
+const OPEN: &[u8] = b"{\"id\":1,\"kind\":\"window\",\"op\":\"open\",\"url\":\"https://a.test/\"}";
+
+const POLL: &[u8] = b"{\"id\":7,\"op\":\"poll\"}";
 
 /// A session that was opened, and whose first request was granted and told.
 fn with_a_lock(alloc: Global) -> Result<Session, Memory> {
@@ -120,27 +124,43 @@ fn a_fault_tells_nothing_and_keeps_the_list(rt: HostRuntime) -> Result<(), Fail>
 }
 
 #[test]
-fn a_plan_answers_or_passes_the_message_on(rt: HostRuntime) -> Result<(), Fail> {
+fn a_session_that_is_not_open_can_only_be_opened(rt: HostRuntime) -> Result<(), Fail> {
     let alloc = rt.alloc();
-    let open =
-        b"{\"id\":1,\"kind\":\"window\",\"op\":\"open\",\"url\":\"https://a.test/\"}".as_slice();
-    let poll = b"{\"id\":7,\"op\":\"poll\"}".as_slice();
-    let mut session = Session::new(alloc);
-    let plan = planned(alloc, &session, poll)?;
+    let session = Session::new(alloc);
+    let plan = planned(alloc, &session, POLL)?;
     assert_eq!(rt; plan.id, Some(7));
     assert!(rt; matches!(&plan.action, Action::Answer(Outcome::NotOpen)));
-    let plan = planned(alloc, &session, open)?;
+    let plan = planned(alloc, &session, OPEN)?;
     assert_eq!(rt; plan.id, Some(1));
-    let Action::Act(Body::Enter { url, kind }) = plan.action else {
-        return Err("the message was not passed on".into());
-    };
-    assert_eq!(rt; url.as_str(), "https://a.test/");
-    assert!(rt; kind == Kind::Window);
+    match &plan.action {
+        Action::Act(Body::Enter { url, kind }) => {
+            assert_eq!(rt; url.as_str(), "https://a.test/");
+            assert!(rt; *kind == Kind::Window);
+        }
+        _ => return Err("the message was not passed on".into()),
+    }
+    Ok(())
+}
+
+#[test]
+fn an_open_session_passes_all_on_but_an_open(rt: HostRuntime) -> Result<(), Fail> {
+    let alloc = rt.alloc();
+    let mut session = Session::new(alloc);
     session.finish_changed(Some(1), Outcome::Client(None), &[])?;
-    let plan = planned(alloc, &session, open)?;
+    let plan = planned(alloc, &session, OPEN)?;
     assert!(rt; matches!(&plan.action, Action::Answer(Outcome::AlreadyOpen)));
-    let plan = planned(alloc, &session, poll)?;
+    let plan = planned(alloc, &session, POLL)?;
     assert!(rt; matches!(&plan.action, Action::Act(Body::Poll)));
+    session.finish_changed(Some(9), Outcome::Closed, &[])?;
+    let plan = planned(alloc, &session, POLL)?;
+    assert!(rt; matches!(&plan.action, Action::Answer(Outcome::NotOpen)));
+    Ok(())
+}
+
+#[test]
+fn a_message_with_a_fault_is_answered(rt: HostRuntime) -> Result<(), Fail> {
+    let alloc = rt.alloc();
+    let session = Session::new(alloc);
     let plan = planned(alloc, &session, b"{\"id\":8,\"op\":\"peek\"}")?;
     assert_eq!(rt; plan.id, Some(8));
     assert!(rt;
@@ -149,11 +169,14 @@ fn a_plan_answers_or_passes_the_message_on(rt: HostRuntime) -> Result<(), Fail> 
             Action::Answer(Outcome::Fault(CodecFault::BadOp))
         )
     );
-    let bad = Reading::Bad(None, CodecFault::BadId);
-    assert_eq!(rt; session.plan(bad).id, None);
-    session.finish_changed(Some(9), Outcome::Closed, &[])?;
-    let plan = planned(alloc, &session, poll)?;
-    assert!(rt; matches!(&plan.action, Action::Answer(Outcome::NotOpen)));
+    let plan = planned(alloc, &session, b"{\"op\":\"poll\"}")?;
+    assert!(rt; plan.id.is_none());
+    assert!(rt;
+        matches!(
+            &plan.action,
+            Action::Answer(Outcome::Fault(CodecFault::BadId))
+        )
+    );
     Ok(())
 }
 

@@ -1,4 +1,4 @@
-use Rattle.std.proofs.Common.{refl, sym, arith}
+use Rattle.std.proofs.Common.{sym, arith}
 use Rattle.wl_types.specs.declared.phases.Phase.TheVariants.{Pending}
 use Rattle.wl_session.proofs.Edits.{still_told_none, still_told_more}
 use Rattle.wl_session.proofs.told.tell.Goals as goal

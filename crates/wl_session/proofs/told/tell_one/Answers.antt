@@ -1,6 +1,5 @@
-use Rattle.std.proofs.Common.{◌≡◌, true, false, cond, not, is_ok, sym, ap, ◌∙◌, refl}
+use Rattle.std.proofs.Common.{◌≡◌, true, false, not, is_ok, sym, ap, ◌∙◌, refl}
 use Rattle.wl_session.specs.Told.{is_live}
-use Rattle.wl_session.specs.Places.{IsAt, IsGapFor}
 use Rattle.wl_session.proofs.Edits.{set_is_put, insert_is_put, end_leaves, end_of_another, put_is_live, told_list_put}
 use Rattle.wl_session.proofs.told.tell_one.Goals as goal
 
