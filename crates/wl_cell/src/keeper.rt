@@ -5,11 +5,8 @@ ghost use Rattle.std.specs.Bool.{OnTrue, OnFalse};
 ghost use Rattle.wl_types.specs.declared.phases.Phase.TheVariants.{Granted, Taken, Aborted};
 ghost use Rattle.wl_cell.specs.Seats.{may_settle};
 
-use crate::plays::{Settle, TryAbort};
-use crate::view::{Board, Place};
-use crate::word::word_of;
+use crate::handle::Handle;
 use std::marker::Model;
-use std::sync::Arc;
 use wl_types::{Phase, Reason};
 
 /// The end that a manager keeps, one for each request. Contracts see its cell and its phase.
@@ -17,22 +14,20 @@ use wl_types::{Phase, Reason};
 /// Its calls take no memory and cannot fail.
 #[derive(Drop)]
 pub struct Keeper {
-    pub(crate) board: Arc<Board>,
-    pub(crate) seat: Place,
+    pub(crate) handle: Handle,
     pub(crate) phase: Phase,
 }
 
 impl Model for Keeper {
-    ghost use Rattle.std.specs.Prelude.{◌≡◌, []};
-    ghost use Rattle.std.specs.Arc.{arc_value};
+    ghost use Rattle.std.specs.Prelude.{◌≡◌};
     ghost use Rattle.wl_cell.specs.Seats.{KeeperSeat};
     ghost use Rattle.wl_cell.specs.Rule.{keeper_at};
 
     ghost Value = { KeeperSeat };
 
-    ghost view = { λ k. record { cell = k.seat.table_id; phase = k.phase } };
+    ghost view = { λ k. record { cell = k.handle.cell; phase = k.phase } };
 
-    ghost invariant = { λ k. (k.seat.table_id ≡ (arc_value k.board).shared.table_id) × ((arc_value k.board).shared.table_id.words ≡ 1) × (k.seat.me ≡ (keeper_at k.phase, [])) };
+    ghost invariant = { λ k. k.handle.knows ≡ keeper_at k.phase };
 }
 
 impl Keeper {
@@ -52,8 +47,7 @@ impl Keeper {
         requires { IsTrue (may_settle self.old.phase phase) }
         ensures { self.new ≡ record self.old { phase = phase } }
     {
-        let shared = &self.board.shared;
-        shared.store::<Settle>(&mut self.seat, 0, word_of(phase));
+        self.handle.store(phase);
         self.phase = phase;
     }
 
@@ -64,15 +58,12 @@ impl Keeper {
         ensures aborted { OnTrue result (self.new ≡ record self.old { phase = Aborted reason }) }
         ensures taken { OnFalse result (self.new ≡ record self.old { phase = Taken }) }
     {
-        let granted = word_of(Phase::Granted);
-        let aborted = word_of(Phase::Aborted(reason));
-        let shared = &self.board.shared;
-        let found = shared.compare_exchange::<TryAbort>(&mut self.seat, 0, granted, aborted);
-        if found == granted {
-            self.phase = Phase::Aborted(reason);
-            return true;
-        }
-        self.phase = Phase::Taken;
-        false
+        let aborted = self.handle.abort(reason);
+        self.phase = if aborted {
+            Phase::Aborted(reason)
+        } else {
+            Phase::Taken
+        };
+        aborted
     }
 }

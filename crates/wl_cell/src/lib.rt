@@ -5,6 +5,7 @@
 //! loops, or makes a step twice.
 #![tactic(auto)]
 
+mod handle;
 mod keeper;
 pub mod laws;
 mod open;

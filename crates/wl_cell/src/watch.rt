@@ -3,33 +3,28 @@
 ghost use Rattle.std.specs.Prelude.{◌≡◌, IsOk, IfOk};
 ghost use Rattle.wl_types.specs.Phases.{Reaches};
 
+use crate::handle::Handle;
 use crate::owner::Owner;
-use crate::plays::{ForNote, Look, Told};
-use crate::view::{Board, Place};
-use crate::word::phase_of;
 use std::marker::Model;
-use std::sync::Arc;
 use wl_types::{Memory, Phase};
 
 /// An end that looks and does nothing else. There may be any number of them, in any threads. Contracts see its
 /// cell and the phase that it saw last.
 #[derive(Drop)]
 pub struct Watch {
-    pub(crate) board: Arc<Board>,
-    pub(crate) seat: Place,
+    pub(crate) handle: Handle,
 }
 
 impl Model for Watch {
-    ghost use Rattle.std.specs.Prelude.{◌≡◌, []};
-    ghost use Rattle.std.specs.Arc.{arc_value};
+    ghost use Rattle.std.specs.Prelude.{◌≡◌};
     ghost use Rattle.wl_cell.specs.Seats.{WatchSeat};
     ghost use Rattle.wl_cell.specs.Rule.{seen, watch_at};
 
     ghost Value = { WatchSeat };
 
-    ghost view = { λ w. record { cell = w.seat.table_id; seen = seen w.seat.me.0 } };
+    ghost view = { λ w. record { cell = w.handle.cell; seen = seen w.handle.knows } };
 
-    ghost invariant = { λ w. (w.seat.table_id ≡ (arc_value w.board).shared.table_id) × ((arc_value w.board).shared.table_id.words ≡ 1) × (w.seat.me ≡ (watch_at (seen w.seat.me.0), [])) };
+    ghost invariant = { λ w. w.handle.knows ≡ watch_at (seen w.handle.knows) };
 }
 
 impl Watch {
@@ -40,7 +35,7 @@ impl Watch {
         ensures seen { self.new ≡ record self.old { seen = result } }
         ensures later { Reaches self.old.seen result }
     {
-        phase_of(self.board.shared.load::<Look>(&mut self.seat, 0))
+        self.handle.load()
     }
 }
 
@@ -57,9 +52,7 @@ pub fn agree(owner: &mut Owner, watch: &mut Watch) -> Result<(Phase, Phase), Mem
     ensures watch { IfOk result (λ p. watch.new ≡ record watch.old { seen = p.1 }) }
 {
     let first = owner.look();
-    let shared = &watch.board.shared;
-    let note = shared.split_seat::<ForNote>(&mut owner.seat);
-    shared.join_seat::<Told>(&mut watch.seat, note);
-    let second = phase_of(shared.load::<Look>(&mut watch.seat, 0));
+    owner.handle.tell(&mut watch.handle);
+    let second = watch.handle.load();
     Ok((first, second))
 }

@@ -1,6 +1,0 @@
-use Rattle.std.proofs.Common.{rules}
-use Rattle.wl_cell.proofs.Steps.{looks}
-use Rattle.wl_cell.proofs.owner.Owner.look.Goals as goal
-
-pub load-requires : goal.load-requires
-load-requires c = (search rules, search rules, looks _ _ _)
