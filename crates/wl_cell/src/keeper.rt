@@ -58,12 +58,11 @@ impl Keeper {
         ensures aborted { OnTrue result (self.new ≡ record self.old { phase = Aborted reason }) }
         ensures taken { OnFalse result (self.new ≡ record self.old { phase = Taken }) }
     {
-        let aborted = self.handle.abort(reason);
-        self.phase = if aborted {
-            Phase::Aborted(reason)
-        } else {
-            Phase::Taken
-        };
-        aborted
+        if self.handle.abort(reason) {
+            self.phase = Phase::Aborted(reason);
+            return true;
+        }
+        self.phase = Phase::Taken;
+        false
     }
 }
