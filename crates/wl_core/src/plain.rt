@@ -27,6 +27,7 @@ use wl_types::{
 };
 
 mod equality;
+mod lists;
 mod refusals;
 
 /// A core that keeps the machine's lists as they are and scans them: the plain program of the definitions, with
