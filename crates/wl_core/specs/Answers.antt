@@ -15,6 +15,10 @@ abbrev pub is_memory_refusal : Refusal → Bool
 is_memory_refusal refusals.Memory = true
 is_memory_refusal _ = false
 
+-- a core as contracts see it
+abbrev pub content_of : {C : Type 0} → (C → State) → (C → List Change) → C → Content
+content_of state recent core = record { state = state core; recent = recent core }
+
 -- whether the reply says that memory was refused
 abbrev pub is_memory : Reply → Bool
 is_memory (Refused refusal) = is_memory_refusal refusal

@@ -1,9 +1,8 @@
 //! One command, and a list of them, on any core.
 
 ghost use Rattle.std.specs.Prelude.{◌≡◌, ℕ, ◌≤◌, List, length, take, IfOk, IfErr, OnOk};
-ghost use Rattle.wl_machine.specs.State.{Content};
 ghost use Rattle.wl_machine.specs.Step.{replies_of, state_after};
-ghost use Rattle.wl_core.specs.Answers.{Answers, is_memory};
+ghost use Rattle.wl_core.specs.Answers.{Answers, content_of, is_memory};
 
 use crate::lock_core::LockCore;
 use crate::room::push_in_room;
@@ -14,7 +13,7 @@ use wl_types::Refusal;
 /// Does one command by the core's call of that name. The reply is the machine's; where a growth was refused it is
 /// `Refused(Memory)`, which the machine never replies.
 pub fn apply<C: LockCore>(core: &mut C, command: &Command) -> Reply
-    ensures { Answers (record { state = C.state core.old; recent = C.recent core.old }) command.now (record { state = C.state core.new; recent = C.recent core.new }) result }
+    ensures { Answers (content_of C.state C.recent core.old) command.now (content_of C.state C.recent core.new) result }
 {
     match command {
         Command::Enter(kind) => match core.open(*kind) {

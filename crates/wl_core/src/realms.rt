@@ -2,9 +2,9 @@
 
 ghost use Rattle.std.specs.Prelude.{◌≡◌, ◌<◌, ℕ, Bool, true, false, List, [], length, slice_get, Option, Some, None, is_some, IsTrue, ◌↔◌, OnOk, OnErr, if◌then◌else◌};
 ghost use Rattle.std.specs.BTreeMap.{insert_entry};
-ghost use Rattle.wl_machine.specs.State.{State, Content, opening};
+ghost use Rattle.wl_machine.specs.State.{State, opening};
 ghost use Rattle.wl_machine.specs.Step.{step};
-ghost use Rattle.wl_core.specs.Answers.{Answers, is_memory};
+ghost use Rattle.wl_core.specs.Answers.{Answers, content_of, is_memory};
 ghost use Rattle.wl_core.specs.Realm.{all_ones, at_key, with_at, realm_of, stepped};
 
 use crate::commands;
@@ -90,7 +90,7 @@ impl<K: Ord + Drop, C: LockCore> KeyedRealm<K, C> {
     pub fn apply(&mut self, key: &K, command: &Command) -> Reply
         requires { IsTrue (is_some (at_key K.cmp self.old key.now)) }
         ensures core { (old new : C) × (at_key K.cmp self.old key.now ≡ Some old) × (self.new ≡ with_at K.cmp self.old key.now new)
-            × Answers (record { state = C.state old; recent = C.recent old }) command.now (record { state = C.state new; recent = C.recent new }) result }
+            × Answers (content_of C.state C.recent old) command.now (content_of C.state C.recent new) result }
         ensures realm { realm_of K.cmp C.state self.new ≡ (if is_memory result then realm_of K.cmp C.state self.old else stepped K.cmp (realm_of K.cmp C.state self.old) key.now command.now) }
         ensures reply { is_memory result ≡ false → result ≡ (step (realm_of K.cmp C.state self.old key.now) command.now).reply }
     {
