@@ -3,7 +3,7 @@
 ghost use Rattle.std.specs.Prelude.{◌≡◌};
 
 use crate::plain::PlainCore;
-use wl_machine::rows::{AgentRow, HeldRow, PendingRow, SignalRow};
+use wl_machine::{AgentRow, HeldRow, PendingRow, SignalRow};
 
 impl PlainCore {
     /// The live agents, by number.
