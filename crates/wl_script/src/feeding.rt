@@ -1,6 +1,6 @@
 //! Takes a piece of the input, and answers the lines that end in it.
 
-ghost use Rattle.std.specs.Prelude.{◌≡◌, ◌≤◌, ◌<◌, ◌+◌, ◌^◌, ◌++◌, ◌∷◌, [], length, take, drop, None, IfSome, IfErr, OnOk};
+ghost use Rattle.std.specs.Prelude.{◌≡◌, ◌↔◌, ◌≤◌, ◌<◌, ◌+◌, ◌^◌, ◌++◌, ◌∷◌, [], length, take, drop, None, IfSome, IfErr, OnOk, IsTrue};
 ghost use Rattle.wl_script.specs.Lines.{HasNoLf};
 ghost use Rattle.wl_script.specs.Streams.{Counts};
 ghost use Rattle.wl_script.specs.Faults.{is_write};
@@ -30,6 +30,13 @@ fn split_line(bytes: &[u8]) -> Option<(&[u8], &[u8])>
     Some((&bytes[..at], &bytes[at + 1..]))
 }
 
+/// Whether the line that begins with these two parts is longer than the limit.
+fn is_too_long(unfinished: &[u8], bytes: &[u8], limit: u64) -> bool
+    ensures { IsTrue result ↔ (limit < length unfinished.now + length bytes.now) }
+{
+    unfinished.len() as u64 + bytes.len() as u64 > limit
+}
+
 /// Answers the line that these bytes end, whose LF comes next.
 fn end_line<A: Answerer, W: Output>(
     answerer: &mut A,
@@ -53,7 +60,7 @@ fn end_line<A: Answerer, W: Output>(
     ensures counted { Counts (W.failures writer.old) (W.failures writer.new) (is_write result) }
 {
     let answered = progress.answered;
-    if progress.unfinished.len() as u64 + bytes.len() as u64 > limit {
+    if is_too_long(&progress.unfinished, bytes, limit) {
         return Err(ScriptFault::LineTooLong(answered));
     }
     if progress.unfinished.is_empty() {
@@ -77,7 +84,7 @@ fn keep(progress: &mut Progress, limit: u64, bytes: &[u8]) -> Result<(), ScriptF
     ensures err { IfErr result (λ fault. IsNotKept limit progress.old.answered
         (progress.old.unfinished.items ++ bytes.now) fault) }
 {
-    if progress.unfinished.len() as u64 + bytes.len() as u64 > limit {
+    if is_too_long(&progress.unfinished, bytes, limit) {
         return Err(ScriptFault::LineTooLong(progress.answered));
     }
     match progress.unfinished.extend_from_slice(bytes) {
