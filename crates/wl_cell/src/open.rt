@@ -9,7 +9,8 @@ use crate::owner::Owner;
 use std::alloc::Global;
 use wl_types::{Memory, Phase};
 
-/// A new cell, at Pending, with its keeper and its owner. It lives until its last end is dropped.
+/// A new cell, at Pending, with its keeper and its owner. It lives until its last end is dropped. `Memory` comes
+/// where a growth was refused, and nothing is left behind.
 pub fn cell(alloc: Global) -> Result<(Keeper, Owner), Memory>
     ensures one { IfOk result (λ ends. ends.1.cell ≡ ends.0.cell) }
     ensures keeper { IfOk result (λ ends. ends.0.phase ≡ Pending) }
