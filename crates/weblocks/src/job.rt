@@ -1,7 +1,7 @@
 //! The words of the command line.
 
-ghost use Rattle.std.specs.Prelude.{◌≡◌, [], map, IfOk, IfErr, IfSome, OnOk, false};
-ghost use Rattle.clap.specs.Words.{app_of, fault_of, subcommand_of, subcommand_rows_of};
+ghost use Rattle.std.specs.Prelude.{◌≡◌, [], map, IfOk, IfErr, IfSome, IsSome, OnOk, Some, codes, false};
+ghost use Rattle.clap.specs.Words.{app_of, fault_of, subcommand_name_of, subcommand_of, subcommand_rows_of};
 ghost use Rattle.clap.specs.declared.builder.command.Command.TheViews.{out-Command as fields_of};
 ghost use Rattle.weblocks.specs.Words.{weblocks_app, run_app, IsJob, IsUsageFault};
 
@@ -75,8 +75,10 @@ fn run_command<'a>(alloc: Global) -> Command<'a>
         .after_help(EXAMPLE)
 }
 
+/// The job of the subcommand that the matches have.
 fn job_in(matches: &ArgMatches<'_>) -> Option<Job>
-    ensures { IfSome result (IsJob (subcommand_rows_of matches.now)) }
+    ensures job { IfSome result (IsJob (subcommand_rows_of matches.now)) }
+    ensures run { subcommand_name_of matches.now ≡ Some (codes "run") → IsSome result }
 {
     match matches.subcommand() {
         Some(("run", _)) => Some(Job::Run),
