@@ -126,4 +126,3 @@ impl<C: LockCore> Book<C> {
         Ok(entries)
     }
 }
-

@@ -11,9 +11,7 @@ ghost use Rattle.wl_journal.specs.Books.{Appends};
 use crate::book::Book;
 use crate::entry::Entry;
 use std::alloc::Global;
-use wl_core::{
-    AbortAnswer, Command, LockCore, PlainCore, ReleaseAnswer, Reply, TakeAnswer,
-};
+use wl_core::{AbortAnswer, Command, LockCore, PlainCore, ReleaseAnswer, Reply, TakeAnswer};
 use wl_types::{Ask, Change, Kind, Memory, Numbers, Reason, Refusal, Snapshot, Text};
 
 impl<C: LockCore> LockCore for Book<C> {
