@@ -1,0 +1,41 @@
+//! How many entries a state is owed.
+ghost use Rattle.std.specs.Prelude.{◌≡◌, ◌<◌, ◌^◌};
+ghost use Rattle.std.specs.List.{sum_by};
+ghost use Rattle.wl_journal.specs.Room.{entries_owed, lock_entries, signal_entries};
+
+use wl_core::{HeldRow, PlainCore, SignalRow};
+
+#[tactic(auto, using(std::proofs::lemmas::List::Sums::sum_by_more_le))]
+fn count_locks(held: &[HeldRow]) -> usize
+    requires { sum_by lock_entries held.now < 2 ^ 64 }
+    ensures { result ≡ sum_by lock_entries held.now }
+{
+    let mut count = 0;
+    for lock in held {
+        count += if lock.taken { 1 } else { 2 };
+    }
+    count
+}
+
+#[tactic(auto, using(std::proofs::lemmas::List::Sums::sum_by_more_le))]
+fn count_signals(signals: &[SignalRow]) -> usize
+    requires { sum_by signal_entries signals.now < 2 ^ 64 }
+    ensures { result ≡ sum_by signal_entries signals.now }
+{
+    let mut count = 0;
+    for row in signals {
+        count += if row.reason.is_some() { 0 } else { 1 };
+    }
+    count
+}
+
+/// The entries that the end of each live request, signal and agent needs.
+pub fn count_owed(plain: &PlainCore) -> usize
+    requires { entries_owed plain.now.state < 2 ^ 64 }
+    ensures { result ≡ entries_owed plain.now.state }
+{
+    plain.agents().len()
+        + count_signals(plain.signals())
+        + count_locks(plain.held())
+        + 2 * plain.pending().len()
+}
