@@ -10,6 +10,7 @@ ghost use Rattle.wl_journal.specs.Books.{Appends};
 
 use crate::book::Book;
 use crate::entry::Entry;
+use crate::room::make_room;
 use std::alloc::Global;
 use wl_core::{AbortAnswer, Command, LockCore, PlainCore, ReleaseAnswer, Reply, TakeAnswer};
 use wl_types::{Ask, Change, Kind, Memory, Numbers, Reason, Refusal, Snapshot, Text};
@@ -49,16 +50,9 @@ impl<C: LockCore> LockCore for Book<C> {
         ensures nothing_added { OnErr result (Appends self.old self.new []) }
     {
         self.is_quiet = true;
-        if let Err(refusal) = self.core.may_open() {
-            return Err(refusal);
-        }
-        let Ok(_) = self.entries.reserve(self.owed + 2) else {
-            return Err(Refusal::Memory);
-        };
-        let agent = match self.core.open(kind) {
-            Ok(agent) => agent,
-            Err(refusal) => return Err(refusal),
-        };
+        self.core.may_open()?;
+        make_room(&mut self.entries, self.owed + 2)?;
+        let agent = self.core.open(kind)?;
         self.is_quiet = false;
         self.entries.push_reserved(Entry {
             command: Command::Enter(kind),
@@ -109,19 +103,12 @@ impl<C: LockCore> LockCore for Book<C> {
         ensures nothing_added { OnErr result (Appends self.old self.new []) }
     {
         self.is_quiet = true;
-        if let Err(refusal) = self.core.may_request(agent, ask) {
-            return Err(refusal);
-        }
+        self.core.may_request(agent, ask)?;
         let Ok(copy) = copy_ask(self.alloc, ask) else {
             return Err(Refusal::Memory);
         };
-        let Ok(_) = self.entries.reserve(self.owed + 3) else {
-            return Err(Refusal::Memory);
-        };
-        let id = match self.core.request(agent, ask) {
-            Ok(id) => id,
-            Err(refusal) => return Err(refusal),
-        };
+        make_room(&mut self.entries, self.owed + 3)?;
+        let id = self.core.request(agent, ask)?;
         self.is_quiet = false;
         self.entries.push_reserved(Entry {
             command: Command::Request(agent, copy),
@@ -140,15 +127,9 @@ impl<C: LockCore> LockCore for Book<C> {
         ensures nothing_added { OnErr result (Appends self.old self.new []) }
     {
         self.is_quiet = true;
-        if let Err(refusal) = self.core.may_set(agent) {
-            return Err(refusal);
-        }
-        let Ok(_) = self.entries.reserve(self.owed + 1) else {
-            return Err(Refusal::Memory);
-        };
-        if let Err(refusal) = self.core.set_active(agent, active) {
-            return Err(refusal);
-        }
+        self.core.may_set(agent)?;
+        make_room(&mut self.entries, self.owed + 1)?;
+        self.core.set_active(agent, active)?;
         self.is_quiet = false;
         self.entries.push_reserved(Entry {
             command: Command::SetActive(agent, active),
@@ -166,16 +147,9 @@ impl<C: LockCore> LockCore for Book<C> {
         ensures nothing_added { OnErr result (Appends self.old self.new []) }
     {
         self.is_quiet = true;
-        if let Err(refusal) = self.core.may_signal(agent) {
-            return Err(refusal);
-        }
-        let Ok(_) = self.entries.reserve(self.owed + 2) else {
-            return Err(Refusal::Memory);
-        };
-        let signal = match self.core.new_signal(agent) {
-            Ok(signal) => signal,
-            Err(refusal) => return Err(refusal),
-        };
+        self.core.may_signal(agent)?;
+        make_room(&mut self.entries, self.owed + 2)?;
+        let signal = self.core.new_signal(agent)?;
         self.is_quiet = false;
         self.entries.push_reserved(Entry {
             command: Command::NewSignal(agent),
@@ -194,10 +168,7 @@ impl<C: LockCore> LockCore for Book<C> {
         ensures nothing_added { OnErr result (Appends self.old self.new []) }
     {
         self.is_quiet = false;
-        let answer = match self.core.abort(agent, signal, reason) {
-            Ok(answer) => answer,
-            Err(refusal) => return Err(refusal),
-        };
+        let answer = self.core.abort(agent, signal, reason)?;
         if let AbortAnswer::Done = answer {
             self.entries.push_reserved(Entry {
                 command: Command::Abort(agent, signal, reason),
@@ -217,9 +188,7 @@ impl<C: LockCore> LockCore for Book<C> {
         ensures nothing_added { OnErr result (Appends self.old self.new []) }
     {
         self.is_quiet = false;
-        if let Err(refusal) = self.core.terminate(agent) {
-            return Err(refusal);
-        }
+        self.core.terminate(agent)?;
         self.entries.push_reserved(Entry {
             command: Command::Terminate(agent),
             reply: Reply::Done,

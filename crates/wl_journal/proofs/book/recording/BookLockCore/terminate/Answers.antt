@@ -6,4 +6,4 @@ use Rattle.wl_journal.proofs.book.recording.BookLockCore.terminate.Goals as goal
 
 pub invariant_of-self-2 : goal.invariant_of-self-2
 invariant_of-self-2 g c =
-    paid _ _ _ _ _ _ _ _ _ (command.Terminate c.args.agent) reply.Done _ c.self.invariant c.in_default.ensures.ended refl refl c.push_reserved.ensures.items c.push_reserved.ensures.capacity
+    paid _ _ _ _ _ _ _ _ _ (command.Terminate c.args.agent) reply.Done _ c.self.invariant c.in_ok-terminate.ensures.ended refl refl c.push_reserved.ensures.items c.push_reserved.ensures.capacity
