@@ -16,18 +16,27 @@ use wl_types::{Memory, Refusal, Snapshot};
 
 mod recording;
 
-/// A core, the state at the last cut, and the commands accepted since with their replies. It has room for the
-/// entries that the end of each live request, signal and agent needs.
+/// A core that keeps a journal: it does what its core does, and records each command that the core accepted, with its
+/// reply. What changes nothing isn't recorded: queries, refusals, `NotGranted`, `NotHeld`, `AlreadyAborted`. An
+/// accepted `set_active` is, whether or not it changed something.
+///
+/// Beside its core's work each call does a bounded number of steps; only `cut` copies the state. Since a book grows
+/// until it is cut, one that lives long should be cut now and then.
+///
+/// `open`, `set_active`, `new_signal` and `request` grow the journal first, and then call the core. They make room too
+/// for the entries that are to come without a growth: two for each live request, one for each unaborted signal and
+/// each agent. So `take`, `release`, `abort` and `terminate` need no memory.
 #[derive(Drop)]
 pub struct Book<C: LockCore> {
     core: C,
     base: PlainCore,
     entries: Vec<Entry>,
-    // no fewer than the entries that are owed
+    // No fewer than the entries that may still come without a growth, and just these after a cut: in between an end
+    // that leaves some of a request's entries out isn't counted off.
     owed: usize,
-    // the entries that cuts handed out
+    // How many entries cuts have handed out.
     handed_out: u64,
-    // the last call was refused, whether or not the core was asked
+    // There are no changes to tell, since the last call was refused before the core was asked.
     is_quiet: bool,
     alloc: Global,
 }
@@ -43,14 +52,15 @@ impl<C: LockCore> Model for Book<C> {
     ghost invariant = { λ b. IsKept b.base.state (C.state b.core) b.entries.items b.owed (vec_capacity b.entries) b.handed_out };
 }
 
-/// What an agent sees, and when: after how many entries.
-#[derive(Drop)]
+/// What an agent sees, and where in the journal's course it sees it.
+#[derive(Debug, Drop)]
 pub struct Sight {
+    /// The entries that had ever been recorded.
     pub seen: u64,
     pub snapshot: Snapshot,
 }
 
-// the most entries that a book cuts off
+// 2^62: with as many entries recorded a book isn't cut any more, so that their number stays within a u64.
 const MOST_RECORDED: u64 = 4611686018427387904;
 
 impl<C: LockCore> Book<C> {
@@ -68,7 +78,7 @@ impl<C: LockCore> Book<C> {
         self.entries.is_empty()
     }
 
-    /// The entries since the last cut. They are legal from the base and lead to the state.
+    /// The entries since the last cut, in the order of their commands.
     pub fn entries(&self) -> &[Entry]
         ensures entries { result.now ≡ self.now.entries }
         ensures legal { IsLegal self.now.base result.now }
@@ -77,21 +87,21 @@ impl<C: LockCore> Book<C> {
         self.entries.as_slice()
     }
 
-    /// The state at the last cut, or the opening state.
+    /// A core of the state at the last cut, or of the opening state where there was none.
     pub fn base(&self) -> &PlainCore
         ensures { result.now.state ≡ self.now.base }
     {
         &self.base
     }
 
-    /// How many entries were ever recorded.
+    /// How many entries were ever recorded, those that cuts handed out with them.
     pub fn total(&self) -> u64
         ensures { result ≡ self.now.total }
     {
         self.handed_out + self.entries.len() as u64
     }
 
-    /// What an agent sees, and how many entries were recorded before.
+    /// The agent's snapshot, with `total`. Nothing is recorded. Refused: as `snapshot`.
     pub fn sight(&self, agent: u64) -> Result<Sight, Refusal>
         ensures total { IfOk result (λ sight. sight.seen ≡ self.now.total) }
         ensures seen { IfOk result (λ sight. step self.now.state (Command.Query agent) ≡ record { state = self.now.state; reply = Reply.Seen sight.snapshot; changes = [] }) }
@@ -104,7 +114,8 @@ impl<C: LockCore> Book<C> {
         }
     }
 
-    /// Hands out the entries. The base becomes the state.
+    /// Hands out the entries and goes on from here: the base becomes the state, and there are no entries. `Memory`,
+    /// with the book as it was, also where `total` has reached 2^62.
     pub fn cut(&mut self) -> Result<Vec<Entry>, Memory>
         ensures entries { IfOk result (λ entries. entries.items ≡ self.old.entries) }
         ensures legal { IfOk result (λ entries. IsLegal self.old.base entries.items) }

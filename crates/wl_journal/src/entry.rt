@@ -2,8 +2,8 @@
 
 use wl_core::{Command, Reply};
 
-/// A command and its reply. A book's entries are commands that were accepted.
-#[derive(Drop)]
+/// A command and its reply. Those of a book were accepted, and none is a query; an audit takes any.
+#[derive(Debug, Drop)]
 pub struct Entry {
     pub command: Command,
     pub reply: Reply,

@@ -1,5 +1,5 @@
-//! A book over any lock core: it keeps the commands that its core accepted, with their replies. And the audit of such
-//! a history: whether each reply is the machine's.
+//! Journals of a lock manager: a book over any lock core, which records the commands that the core accepted with
+//! their replies; and the audit of such a history, which finds the first reply that isn't the machine's.
 #![tactic(auto)]
 
 mod auditing;
@@ -8,6 +8,8 @@ mod comparing;
 mod entry;
 pub mod laws;
 mod room;
+#[cfg(test)]
+mod tests;
 
 pub use auditing::{AuditFault, audit};
 pub use book::{Book, Sight};

@@ -1,4 +1,5 @@
-//! The book as a core: each call grows the journal, calls the core, and records what the core accepted.
+//! The book as a core. A call that may be refused for want of memory asks first whether the core would refuse it
+//! otherwise, then grows the journal, then calls the core, and records what the core accepted.
 
 ghost use Rattle.std.specs.Prelude.{◌≡◌, [], IfOk, IfErr, OnErr, OnOk, Some};
 ghost use Rattle.wl_types.specs.Refusals.{refused_or_memory};
@@ -233,7 +234,7 @@ impl<C: LockCore> LockCore for Book<C> {
     }
 }
 
-/// The ask again, with a text of its own.
+/// An equal ask, with a text of its own.
 fn copy_ask(alloc: Global, ask: &Ask) -> Result<Ask, Memory>
     ensures { IfOk result (λ copy. copy ≡ ask.now) }
 {
