@@ -29,6 +29,7 @@ use Rattle.wl_machine.specs.Step.{Outcome, step, accepted, unless_refused, settl
 use Rattle.wl_machine.specs.Laws.{phases_of}
 use Rattle.wl_machine.specs.OneMove.{lock_phase, held_phases, pending_phases, phases_in, live, MovesOnce, IsNumbered, is_plain_move, entering, table_of, is_take, taken_from, RequestsMoveOnce, NumbersStayApart, TakeTakesOne}
 use Rattle.wl_machine.proofs.SettlingMoves.{Ended, settled_moves, pending_phases-append, phases_of-append}
+use Rattle.wl_machine.proofs.Runs.{either}
 use Rattle.wl_machine.proofs.EndMoves.{locks_end, requests_end, both_end}
 
 -- an outcome moves the request of this number once at most
@@ -319,30 +320,34 @@ moves_by_step s command new answer changes id gives free num other =
 pub numbered_by_step : (s : State) (command : Command) (new : State) (answer : Reply) (changes : List Change) → step s command ≡ record { state = new; reply = answer; changes = changes } → IsNumbered s → IsNumbered new
 numbered_by_step s command new answer changes gives num = subst (λ (o : Outcome). IsNumbered o.state) gives (numbers_stay_apart s command num)
 
--- agents are numbered by entering alone
+-- agents are numbered by entering alone, and requests by asking
 abbrev pub entrants : Command → ℕ
 entrants (Enter kind) = 1
 entrants command = 0
 
-if_agent : (b : Bool) (x y : Outcome) (n : ℕ) → x.state.next.agent ≡ n → y.state.next.agent ≡ n → (cond b x y).state.next.agent ≡ n
-if_agent true x y n one two = one
-if_agent false x y n one two = two
+abbrev pub askers : Command → ℕ
+askers (Request agent ask) = 1
+askers command = 0
 
-accepted_agent : (s : State) (command : Command) → (accepted s command).state.next.agent ≡ s.next.agent + entrants command
-accepted_agent s (Enter kind) = refl
-accepted_agent s (SetActive agent active) = omega arith
-accepted_agent s (NewSignal agent) = omega arith
-accepted_agent s (Request agent ask) =
-    if_agent ask.steal (stealing_request s (new_request s agent ask)) _ (s.next.agent + 0) (omega arith)
-    (if_agent (ask.if_available && not (available s (new_request s agent ask))) (unavailable s (new_request s agent ask)) (plain_request s (new_request s agent ask)) (s.next.agent + 0) (omega arith) (omega arith))
-accepted_agent s (Take taken) = if_agent (list_any (is_untaken taken) s.held) _ _ (s.next.agent + 0) (omega arith) (omega arith)
-accepted_agent s (Release agent lock) = if_agent (list_any (is_lock_of agent lock) s.held) _ (no_changes s (reply.Released released.NotHeld)) (s.next.agent + 0) (omega arith) (omega arith)
-accepted_agent s (Abort agent signal reason) = if_agent (is_some (reason_in s.signals agent signal)) (no_changes s (reply.Aborted aborted.AlreadyAborted)) _ (s.next.agent + 0) (omega arith) (omega arith)
-accepted_agent s (Terminate agent) = omega arith
-accepted_agent s (Query agent) = omega arith
+abbrev pub NumbersAfter : State → Command → State → Type 0
+NumbersAfter s command new = (new.next.agent ≡ s.next.agent + entrants command) × (new.next.request ≡ s.next.request + askers command)
 
-pub agent_by_step : (s : State) (command : Command) (new : State) (answer : Reply) (changes : List Change) → step s command ≡ record { state = new; reply = answer; changes = changes } → is_refused answer ≡ false → new.next.agent ≡ s.next.agent + entrants command
-agent_by_step s command new answer changes gives free = subst (λ (o : Outcome). o.state.next.agent ≡ s.next.agent + entrants command) (by_step s command new answer changes gives free) (accepted_agent s command)
+accepted_numbers : (s : State) (command : Command) → NumbersAfter s command (accepted s command).state
+accepted_numbers s (Enter kind) = (refl, omega arith)
+accepted_numbers s (SetActive agent active) = (omega arith, omega arith)
+accepted_numbers s (NewSignal agent) = (omega arith, omega arith)
+accepted_numbers s (Request agent ask) =
+    let request = new_request s agent ask in
+    either (NumbersAfter s (Request agent ask)) ask.steal (stealing_request s request) (cond (ask.if_available && not (available s request)) (unavailable s request) (plain_request s request)) (omega arith, refl)
+    (either (NumbersAfter s (Request agent ask)) (ask.if_available && not (available s request)) (unavailable s request) (plain_request s request) (omega arith, refl) (omega arith, refl))
+accepted_numbers s (Take taken) = either (NumbersAfter s (Take taken)) (list_any (is_untaken taken) s.held) _ _ (omega arith, omega arith) (omega arith, omega arith)
+accepted_numbers s (Release agent lock) = either (NumbersAfter s (Release agent lock)) (list_any (is_lock_of agent lock) s.held) _ _ (omega arith, omega arith) (omega arith, omega arith)
+accepted_numbers s (Abort agent signal reason) = either (NumbersAfter s (Abort agent signal reason)) (is_some (reason_in s.signals agent signal)) _ _ (omega arith, omega arith) (omega arith, omega arith)
+accepted_numbers s (Terminate agent) = (omega arith, omega arith)
+accepted_numbers s (Query agent) = (omega arith, omega arith)
+
+pub numbers_by_step : (s : State) (command : Command) (new : State) (answer : Reply) (changes : List Change) → step s command ≡ record { state = new; reply = answer; changes = changes } → is_refused answer ≡ false → NumbersAfter s command new
+numbers_by_step s command new answer changes gives free = subst (λ (o : Outcome). NumbersAfter s command o.state) (by_step s command new answer changes gives free) (accepted_numbers s command)
 
 pub entering_most : (s : State) (command : Command) (id : ℕ) → IsNumbered s → length (phases_in s id ++ entering s command id) ≤ 1
 entering_most s (Request agent ask) id num = entered_most s id num
@@ -354,3 +359,20 @@ entering_most s (Release agent lock) id num = rw (append-nil (phases_in s id)) (
 entering_most s (Abort agent signal reason) id num = rw (append-nil (phases_in s id)) (num.one id)
 entering_most s (Terminate agent) id num = rw (append-nil (phases_in s id)) (num.one id)
 entering_most s (Query agent) id num = rw (append-nil (phases_in s id)) (num.one id)
+
+-- a request that isn't there isn't changed
+pub no_change : (table : Phase → Phase → Bool) (before changes after : List Phase) → MovesOnce table before changes after → before ≡ [] → changes ≡ []
+no_change table before changes after (inl e) none = e.0
+no_change table before changes after (inr (from, to, was, gives, move, left)) none = absurd (let some : (from ∷ []) ≡ [] = sym was ∙ none in cc)
+
+-- and a number that is given next or later is no request's
+pub nothing_entered : (s : State) (command : Command) (id : ℕ) → IsNumbered s → s.next.request + askers command ≤ id → phases_in s id ++ entering s command id ≡ []
+nothing_entered s (Request agent ask) id num high = rw (num.below id (omega (arith, high)), ne_eqb s.next.request id (λ e. absurd (omega (arith, high, e)))) refl
+nothing_entered s (Enter kind) id num high = rw (num.below id (omega (arith, high))) refl
+nothing_entered s (SetActive agent active) id num high = rw (num.below id (omega (arith, high))) refl
+nothing_entered s (NewSignal agent) id num high = rw (num.below id (omega (arith, high))) refl
+nothing_entered s (Take taken) id num high = rw (num.below id (omega (arith, high))) refl
+nothing_entered s (Release agent lock) id num high = rw (num.below id (omega (arith, high))) refl
+nothing_entered s (Abort agent signal reason) id num high = rw (num.below id (omega (arith, high))) refl
+nothing_entered s (Terminate agent) id num high = rw (num.below id (omega (arith, high))) refl
+nothing_entered s (Query agent) id num high = rw (num.below id (omega (arith, high))) refl

@@ -27,7 +27,7 @@ use Rattle.wl_machine.specs.declared.command.Reply.TheVariants as reply
 use Rattle.wl_machine.specs.State.{State, opening}
 use Rattle.wl_machine.specs.Grants.{grants, without_first, granted_lock, locks, queue, Lists, lists_of, settle_name, settle_names}
 use Rattle.wl_machine.specs.Refusals.{refusal, has_agent, has_signal, reason_in, live_count, request_refusals, unknown_signal, aborted_signal, aborted_refusal}
-use Rattle.wl_machine.specs.Step.{settled, accepted, step, unless_refused, is_untaken, with_taken, is_lock_of, is_signal, is_waiting_on, is_abortable, with_reason, with_active, new_request, available, request_step, steal_locks, enqueue, stealing_request, plain_request, unavailable, without_lock, with_aborted, without_agent, lock_ends, abort_ends, terminate_ends, untaken_numbers}
+use Rattle.wl_machine.specs.Step.{Outcome, settled, accepted, step, unless_refused, is_untaken, with_taken, is_lock_of, is_signal, is_waiting_on, is_abortable, with_reason, with_active, new_request, available, request_step, steal_locks, enqueue, stealing_request, plain_request, unavailable, without_lock, with_aborted, without_agent, lock_ends, abort_ends, terminate_ends, untaken_numbers}
 use Rattle.wl_machine.specs.OneMove.{IsNumbered}
 use Rattle.wl_machine.specs.Standing.{is_abortable_signal, Wait, Hold, IsStanding, OpeningStands, StandsAfterEach, AbortedHaveNone}
 use Rattle.wl_machine.proofs.Fronts.{first_requests, first_granted}
@@ -421,3 +421,6 @@ aborted_have_none s agent signal standing closed = none_in s.held standing.holdi
             untaken : (t : Bool) → not t ≡ true → (t || is_abortable_signal s x.agent x.signal) ≡ true → is_abortable_signal s x.agent x.signal ≡ true
             untaken true free was = absurd (cc)
             untaken false free was = was
+
+pub standing_by_step : (s : State) (command : Command) (new : State) (answer : Reply) (changes : List Change) → step s command ≡ record { state = new; reply = answer; changes = changes } → IsStanding s → IsStanding new
+standing_by_step s command new answer changes gives standing = subst (λ (o : Outcome). IsStanding o.state) gives (stands_after_each s command standing)
