@@ -1,1 +1,2 @@
 mod Settling
+pub mod Keeping

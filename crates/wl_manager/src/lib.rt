@@ -3,6 +3,7 @@
 
 mod count;
 mod keepers;
+mod locked;
 
 pub use crate::count::{Count, Ledgered, Loose};
-
+pub use crate::locked::Locked;
