@@ -16,7 +16,7 @@ no_more p [] most = refl
 no_more p (x ∷ ps) most = absurd (omega (arith, most))
 
 -- where there is no lock of this number, none is ended
-no_lock : (chosen : HeldRow → Bool) (to : Phase) (id : ℕ) (held : List HeldRow) → held_phases id held ≡ []
+pub no_lock : (chosen : HeldRow → Bool) (to : Phase) (id : ℕ) (held : List HeldRow) → held_phases id held ≡ []
     → (phases_of id (lock_ends to (filter chosen held)) ≡ []) × (held_phases id (filter (λ l. not (chosen l)) held) ≡ [])
 no_lock chosen to id [] none = (refl, refl)
 no_lock chosen to id (l ∷ held) none = at_row (l.number == id) refl (chosen l) (no_lock chosen to id held)
@@ -46,7 +46,7 @@ locks_end table chosen to id (l ∷ held) end may most = at_row (l.number == id)
         let r = no_lock chosen to id held none in
         rw is (inl (r.0, ap (λ (ps : List Phase). lock_phase l ∷ ps) (r.1 ∙ sym none)))
 
-no_request : (chosen : PendingRow → Bool) (to : Phase) (id : ℕ) (pending : List PendingRow) → pending_phases id pending ≡ []
+pub no_request : (chosen : PendingRow → Bool) (to : Phase) (id : ℕ) (pending : List PendingRow) → pending_phases id pending ≡ []
     → (phases_of id (request_ends to (filter chosen pending)) ≡ []) × (pending_phases id (filter (λ r. not (chosen r)) pending) ≡ [])
 no_request chosen to id [] none = (refl, refl)
 no_request chosen to id (l ∷ pending) none = at_row (l.number == id) refl (chosen l) (no_request chosen to id pending)

@@ -150,3 +150,15 @@ settled_moves table id mid ends answer before may most ended =
     ended_most : (table : Phase → Phase → Bool) (before ends after : List Phase) → length before ≤ 1 → Ended table before ends after → length after ≤ 1
     ended_most table before ends after most (inl e) = rw e.1 most
     ended_most table before ends after most (inr (from, to, was, gives, move, end, left)) = rw left (omega arith)
+
+-- an event changes no request that its ends left nothing of
+pub settled_none : (id : ℕ) (mid : State) (ends : List Change) (answer : Reply) → phases_in mid id ≡ [] → (phases_of id (settled mid ends answer).changes ≡ phases_of id ends) × (phases_in (settled mid ends answer).state id ≡ [])
+settled_none id mid ends answer none = nothing (settle_names_move id mid.names (lists_of mid.held mid.pending ends) (rw none (omega arith)))
+  where
+    first_none : (h p : List Phase) → h ++ p ≡ [] → h ≡ []
+    first_none [] p none = refl
+    first_none (x ∷ h) p none = absurd (cc)
+
+    nothing : {h' p' c' : List Phase} → Settles (held_phases id mid.held) (pending_phases id mid.pending) (phases_of id ends) h' p' c' → (c' ≡ phases_of id ends) × (h' ++ p' ≡ [])
+    nothing (inl e) = (e.2, rw (e.0, e.1) none)
+    nothing (inr e) = absurd (let some : (Pending ∷ []) ≡ [] = sym e.1 ∙ (ap (λ (h : List Phase). h ++ pending_phases id mid.pending) (sym (first_none (held_phases id mid.held) (pending_phases id mid.pending) none)) ∙ none) in cc)
