@@ -1,2 +1,3 @@
 mod Settling
 pub mod Keeping
+mod Aborting

@@ -14,6 +14,7 @@ use wl_core::{Command, LockCore, Reply};
 use wl_journal::{Book, Sight};
 use wl_types::{Kind, Numbers, Refusal};
 
+mod abort;
 mod commands;
 
 /// A journal, the keepers of its requests, and what was counted. Its type says what holds whenever the lock is free.
