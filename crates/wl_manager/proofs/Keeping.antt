@@ -8,16 +8,18 @@ use Rattle.wl_types.specs.Phases.{is_end}
 use Rattle.wl_types.specs.declared.phases.Phase.{Phase}
 use Rattle.wl_types.specs.declared.phases.Phase.TheVariants.{Pending}
 use Rattle.wl_types.specs.declared.phases.Change.{Change}
+use Rattle.wl_types.specs.declared.words.Reason.{Reason}
 use Rattle.wl_types.specs.declared.ask.Ask.{Ask}
 use Rattle.wl_cell.specs.Seats.{KeeperSeat, CellId, may_settle}
 use Rattle.wl_machine.specs.declared.command.Command.{Command}
-use Rattle.wl_machine.specs.declared.command.Command.TheVariants.{Enter, Request}
+use Rattle.wl_machine.specs.declared.command.Command.TheVariants.{Request, Abort}
 use Rattle.wl_machine.specs.declared.command.Reply.{Reply}
 use Rattle.wl_machine.specs.declared.command.Reply.TheVariants as reply
 use Rattle.wl_machine.specs.State.{State}
 use Rattle.wl_machine.specs.Step.{Gives, Outcome, request_step, new_request, available}
 use Rattle.wl_machine.specs.Laws.{phases_of}
 use Rattle.wl_machine.specs.OneMove.{phases_in, MovesOnce, is_plain_move, table_of, entering, is_take}
+use Rattle.wl_machine.specs.Standing.{IsStanding}
 use Rattle.wl_machine.proofs.OneMove.{is_refused, by_step, moves_by_step, numbers_by_step, entrants, askers, no_change, nothing_entered}
 use Rattle.wl_machine.proofs.Standing.{standing_by_step, opening_stands}
 use Rattle.wl_journal.specs.Books.{Book, Appends}
@@ -145,8 +147,20 @@ may_all counts all old mid command new answer changes kept ready gives done othe
     (subst (λ (t : Phase → Phase → Bool). MovesOnce t (phases_in old.book.state id ++ entering old.book.state command id) (phases_of id new.recent) (phases_in new.state id)) table
     (moves_by_step old.book.state command new.state answer new.recent id gives done kept.standing.numbered other)))
 
+-- what holds of the journal, the numbers and the shares, wherever the keepers are
+pub record Grounds (counts : Bool) (all : ℕ) (l : Inner) : Type 0 where
+  pub base : l.book.base ≡ first
+  pub standing : IsStanding l.book.state
+  pub numbers : l.next ≡ l.book.state.next.request
+  pub agents : l.book.state.next.agent ≡ l.opened + 1
+  pub counted : counts ≡ true → l.total ≡ l.book.total
+  pub enough : counts ≡ true → 2 ^ 53 ≤ all
+
+pub grounds : (counts : Bool) (all : ℕ) (l : Inner) → IsKept counts all l → Grounds counts all l
+grounds counts all l kept = record { base = kept.base; standing = kept.standing; numbers = kept.numbers; agents = kept.agents; counted = kept.counted; enough = kept.enough }
+
 -- a command that is done keeps what holds
-pub kept_on : (counts : Bool) (all : ℕ) (old new : Inner) (command : Command) (answer : Reply) → IsKept counts all old
+pub kept_on : (counts : Bool) (all : ℕ) (old new : Inner) (command : Command) (answer : Reply) → Grounds counts all old
     → Gives old.book.state command new.book.state answer new.book.recent → is_refused answer ≡ false → is_take command ≡ false → Appends old.book new.book (recorded command answer)
     → ((id : ℕ) → phases_at id new.kept ≡ after (phases_of id new.book.recent) (phases_in old.book.state id ++ entering old.book.state command id))
     → new.next ≡ old.next + askers command → new.opened ≡ old.opened + entrants command
@@ -224,7 +238,7 @@ pub kept_done : (counts : Bool) (all : ℕ) (old new : Inner) (mid : Kept) (comm
     → IsKept counts all new
 kept_done counts all old new mid command answer before changes kept left none gives done other appends told settles =
     let ready = ready_left counts all old mid command kept (let_go_by old mid before left) none in
-    kept_on counts all old new command answer kept gives done other appends (λ id. rw (← told, ← ready.phases id) (settles id))
+    kept_on counts all old new command answer (grounds counts all old kept) gives done other appends (λ id. rw (← told, ← ready.phases id) (settles id))
 
 pub does_done : (counts : Bool) (all : ℕ) (old was new : Inner) (mid : Kept) (command : Command) (answer : Reply) (before : List Change) → old ≡ was → IsKept counts all old → LetGoBy old before mid → ((id : ℕ) → entering old.book.state command id ≡ [])
     → Gives old.book.state command new.book.state answer new.book.recent → Appends old.book new.book (recorded command answer) → ((id : ℕ) → cells_at id new.kept ≡ cells_at id mid) → Does was new command answer
@@ -292,7 +306,7 @@ pub kept_asked : (counts : Bool) (all : ℕ) (old new : Inner) (seat : KeeperSea
 kept_asked counts all old new seat before put mid agent ask id changes kept is pending gives appends told settles next opened count share =
     let ready = (asked counts all old seat before put mid agent ask kept is pending).0 in
     let number = request_number old.book.state agent ask new.book.state id new.book.recent gives in
-    kept_on counts all old new (Request agent ask) (reply.Request id) kept gives refl refl appends (λ other. rw (← told, ← ready.phases other) (settles other))
+    kept_on counts all old new (Request agent ask) (reply.Request id) (grounds counts all old kept) gives refl refl appends (λ other. rw (← told, ← ready.phases other) (settles other))
     (let same = kept.numbers in omega (arith, number, same, next)) (omega (arith, opened)) count share
 
 pub does_asked : (counts : Bool) (all : ℕ) (old was new : Inner) (seat : KeeperSeat) (before : List Change) (put mid : Kept) (agent : ℕ) (ask : Ask) (id : ℕ) → old ≡ was → IsKept counts all old → Puts old seat before put mid → seat.phase ≡ Pending
@@ -309,3 +323,6 @@ does_asked counts all old was new seat before put mid agent ask id same kept is 
 pub on_err : {X Y : Type 0} (P : Type 0) (r : Result X Y) → P → OnErr r P
 on_err P (Ok x) is = tt
 on_err P (Err x) is = is
+
+pub ready_abort : (counts : Bool) (all : ℕ) (old : Inner) (mid : Kept) (agent signal : ℕ) (reason : Reason) (before : List Change) → IsKept counts all old → LetGoBy old before mid → Ready old (Abort agent signal reason) mid
+ready_abort counts all old mid agent signal reason before kept left = ready_left counts all old mid (Abort agent signal reason) kept (let_go_by old mid before left) (λ id. refl)

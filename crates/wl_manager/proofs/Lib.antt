@@ -1,3 +1,4 @@
 mod Settling
 pub mod Keeping
 mod Aborting
+mod Aborted

@@ -36,7 +36,10 @@ impl<C: LockCore, T: Count> Locked<C, T> {
     {
         self.keepers.let_go(self.book.changes());
         let taken = abort_granted(&mut self.book, &mut self.keepers, agent, signal, reason);
-        let answer = self.book.abort(agent, signal, reason)?;
+        let answer = match self.book.abort(agent, signal, reason) {
+            Ok(answer) => answer,
+            Err(refusal) => return Err(refusal),
+        };
         self.keepers.settle_all(self.book.changes());
         let own = entries_of(agent, signal, reason, answer);
         T::add(&mut self.total, share, taken + own);
