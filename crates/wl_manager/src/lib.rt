@@ -6,4 +6,4 @@ mod keepers;
 mod locked;
 
 pub use crate::count::{Count, Ledgered, Loose};
-pub use crate::locked::Locked;
+pub use crate::locked::{Leaving, Locked, TallyFault};

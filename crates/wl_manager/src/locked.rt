@@ -16,6 +16,9 @@ use wl_types::{Kind, Numbers, Refusal};
 
 mod abort;
 mod commands;
+mod tally;
+
+pub use tally::{Leaving, TallyFault};
 
 /// A journal, the keepers of its requests, and what was counted. Its type says what holds whenever the lock is free.
 ///
