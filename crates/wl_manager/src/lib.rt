@@ -12,6 +12,8 @@ mod count;
 mod keepers;
 mod locked;
 mod manager;
+#[cfg(test)]
+mod tests;
 mod ticket;
 
 pub use crate::agent::Agent;
