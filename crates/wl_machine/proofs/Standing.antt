@@ -1,15 +1,12 @@
 -- What holds of every state that commands lead to.
-use Rattle.std.proofs.Common.{◌≡◌, ◌≢◌, ℕ, zero, suc, ◌+◌, ◌≤◌, ◌<◌, Bool, true, false, cond, List, [], ◌∷◌, ◌++◌, length, map, refl, ap, sym, ◌∙◌, ◌==◌, arith, subst, length-append, eq-eqb, ne_eqb}
+use Rattle.std.proofs.Common.{◌≡◌, ℕ, zero, suc, ◌+◌, ◌≤◌, ◌<◌, Bool, true, false, cond, List, [], ◌∷◌, ◌++◌, length, map, refl, sym, ◌∙◌, ◌==◌, arith, subst, length-append}
 use Rattle.std.proofs.lemmas.Bool.{eqb-true}
 use Rattle.std.proofs.lemmas.List.{length-map}
 use Rattle.std.proofs.lemmas.List.Folds.{list_any-append}
 use Rattle.std.specs.Prelude.{not, ◌&&◌, ◌||◌, filter, is_some, nat_le, Option, Some, None}
 use Rattle.std.specs.List.{list_any}
 use Rattle.std.specs.Str.{bytes_eq}
-use Rattle.wl_types.specs.Asks.{ask_refusal}
-use Rattle.wl_types.specs.Names.{is_long}
 use Rattle.wl_types.specs.Refusals.{refuse_if, first_refusal}
-use Rattle.wl_types.specs.declared.words.Kind.{Kind}
 use Rattle.wl_types.specs.declared.words.Reason.{Reason}
 use Rattle.wl_types.specs.declared.phases.Change.{Change}
 use Rattle.wl_types.specs.declared.phases.Phase.TheVariants.{Stolen, Released}
@@ -24,11 +21,10 @@ use Rattle.wl_machine.specs.declared.command.Command.{Command}
 use Rattle.wl_machine.specs.declared.command.Command.TheVariants.{Enter, SetActive, NewSignal, Request, Take, Release, Abort, Terminate, Query}
 use Rattle.wl_machine.specs.declared.command.Reply.{Reply}
 use Rattle.wl_machine.specs.declared.command.Reply.TheVariants as reply
-use Rattle.wl_machine.specs.State.{State, opening}
+use Rattle.wl_machine.specs.State.{State}
 use Rattle.wl_machine.specs.Grants.{grants, without_first, granted_lock, locks, queue, Lists, lists_of, settle_name, settle_names}
 use Rattle.wl_machine.specs.Refusals.{refusal, has_agent, has_signal, reason_in, live_count, request_refusals, unknown_signal, aborted_signal, aborted_refusal}
-use Rattle.wl_machine.specs.Step.{Outcome, settled, accepted, step, unless_refused, is_untaken, with_taken, is_lock_of, is_signal, is_waiting_on, is_abortable, with_reason, with_active, new_request, available, request_step, steal_locks, enqueue, stealing_request, plain_request, unavailable, without_lock, with_aborted, without_agent, lock_ends, abort_ends, terminate_ends, untaken_numbers}
-use Rattle.wl_machine.specs.OneMove.{IsNumbered}
+use Rattle.wl_machine.specs.Step.{Outcome, settled, accepted, step, unless_refused, is_untaken, with_taken, is_lock_of, is_signal, is_waiting_on, is_abortable, with_reason, with_active, new_request, available, request_step, steal_locks, enqueue, stealing_request, plain_request, unavailable, without_lock, with_aborted, without_agent, lock_ends, abort_ends, terminate_ends}
 use Rattle.wl_machine.specs.Standing.{is_abortable_signal, Wait, Hold, IsStanding, OpeningStands, StandsAfterEach, AbortedHaveNone}
 use Rattle.wl_machine.proofs.Fronts.{first_requests, first_granted}
 use Rattle.wl_machine.proofs.Lists.{any_map, any_same, and_first, and_second}

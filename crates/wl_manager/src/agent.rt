@@ -1,6 +1,7 @@
 //! An agent of a manager.
 
-ghost use Rattle.std.specs.Prelude.{◌≡◌, ◌+◌, ◌≤◌, true, IfOk, OnOk, OnErr, if◌then◌else◌};
+ghost use Rattle.std.specs.Prelude.{◌≡◌, ℕ, ◌+◌, ◌≤◌, true, IfOk, OnOk, OnErr, if◌then◌else◌};
+ghost use Rattle.wl_types.specs.declared.answers.AbortAnswer.TheVariants.{AlreadyAborted};
 ghost use Rattle.wl_manager.specs.Agents.{is_released, entries_of_abort};
 
 use crate::count::Count;
@@ -41,11 +42,11 @@ impl<C: LockCore, T: Count> Agent<C, T> {
         let Ok(manager) = Arc::try_clone(&self.manager) else {
             return Err(Refusal::Memory);
         };
-        let (number, owner) =
-            self.manager
-                .locked
-                .lock(rt)
-                .request(self.number, ask, &mut self.share)?;
+        let (number, owner) = self
+            .manager
+            .locked
+            .lock(rt)
+            .request(self.number, ask, &mut self.share)?;
         self.manager.settled.notify_all();
         Ok(Ticket {
             manager,
@@ -91,15 +92,15 @@ impl<C: LockCore, T: Count> Agent<C, T> {
         signal: u64,
         reason: Reason,
     ) -> Result<AbortAnswer, Refusal>
-        ensures counted { IfOk result (λ answer. T.COUNTS ≡ true → T.amount self.old.share + entries_of_abort answer ≤ T.amount self.new.share) }
+        ensures counted { IfOk result (λ answer. T.COUNTS ≡ true → (takes : ℕ) × (answer ≡ AlreadyAborted → takes ≡ 0) × (T.amount self.new.share ≡ T.amount self.old.share + takes + entries_of_abort answer)) }
         ensures err { OnErr result (T.COUNTS ≡ true → T.amount self.new.share ≡ T.amount self.old.share) }
         ensures client { self.new.number ≡ self.old.number }
     {
-        let answer =
-            self.manager
-                .locked
-                .lock(rt)
-                .abort(self.number, signal, reason, &mut self.share)?;
+        let answer = self
+            .manager
+            .locked
+            .lock(rt)
+            .abort(self.number, signal, reason, &mut self.share)?;
         self.manager.settled.notify_all();
         Ok(answer)
     }

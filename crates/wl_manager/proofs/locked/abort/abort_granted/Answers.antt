@@ -1,10 +1,9 @@
-use Rattle.std.proofs.Common.{arith, ◌≡◌, ◌∙◌, ◌++◌, ◌∷◌, [], List, ℕ, ap, sym, true, false, cond, length, subst}
+use Rattle.std.proofs.Common.{arith, ◌∙◌, ◌++◌, ◌∷◌, [], List, ℕ, ap, sym, true, false, cond, length, subst}
 use Rattle.std.specs.Prelude.{◌==◌}
-use Rattle.wl_types.specs.declared.phases.Phase.{Phase}
 use Rattle.wl_types.specs.declared.phases.Phase.TheVariants.{Taken, Aborted}
 use Rattle.wl_manager.specs.Keepers.{phases_at}
-use Rattle.wl_manager.specs.Aborts.{Found, Tried}
-use Rattle.wl_manager.proofs.Aborting.{untried, tried_few, next_lock, last_lock, next_granted, tried_aborts, tried_takes, left_count, aborted_same, aborted_more, taken_same, taken_more}
+use Rattle.wl_manager.specs.Aborts.{Tried}
+use Rattle.wl_manager.proofs.Aborting.{tried_few, next_lock, last_lock, next_granted, tried_aborts, tried_takes, left_count, aborted_same, aborted_more, taken_same, taken_more}
 use Rattle.wl_manager.proofs.locked.abort.abort_granted.Goals as goal
 
 pub try_abort-requires : goal.try_abort-requires
