@@ -62,11 +62,12 @@ impl<C: LockCore, T: Count> Agent<C, T> {
         ensures client { self.new.number ≡ self.old.number }
         ensures ticket { ticket.new ≡ ticket.old }
     {
+        let id = ticket.number;
         let answer = self
             .manager
             .locked
             .lock(rt)
-            .release(self.number, ticket.number, &mut self.share);
+            .release(self.number, id, &mut self.share);
         self.manager.settled.notify_all();
         answer
     }
