@@ -1,6 +1,6 @@
 -- What holds once a signal is aborted.
-use Rattle.std.proofs.Common.{◌≡◌, ℕ, ◌+◌, List, [], ◌∷◌, ◌++◌, length, map, refl, arith, true, false, true≢false, sym, ap, ◌∙◌, cond, append-nil, Bool, inl, subst}
-use Rattle.std.specs.Prelude.{◌==◌, ◌&&◌, not, Option, Some, is_some}
+use Rattle.std.proofs.Common.{◌≡◌, ℕ, ◌+◌, List, [], ◌∷◌, ◌++◌, length, map, refl, arith, true, false, true≢false, sym, ap, ◌∙◌, cond, append-nil, Bool, inl, inr, subst}
+use Rattle.std.specs.Prelude.{◌⊎◌, Result, Ok, Err, IfOk, IfErr, ◌==◌, ◌&&◌, not, Option, Some, is_some}
 use Rattle.std.specs.List.{list_any}
 use Rattle.std.proofs.lemmas.List.{length-map}
 use Rattle.wl_types.specs.Refusals.{refuse_if, first_refusal}
@@ -241,3 +241,20 @@ refused_before old was old_kept agent signal reason mid mid_kept found r is stan
 pub own_entries : (agent signal : ℕ) (reason : Reason) (answer : AbortAnswer) → length (recorded (Abort agent signal reason) (reply.Aborted answer)) ≡ entries_of_abort answer
 own_entries agent signal reason abort_answer.Done = refl
 own_entries agent signal reason abort_answer.AlreadyAborted = refl
+
+-- an abort is refused for its agent or its signal, and never for memory
+pub why_refused : (s : State) (agent signal : ℕ) (reason : Reason) (r : Refusal) → refusal s (Abort agent signal reason) ≡ Some r → (r ≡ NoSuchAgent) ⊎ (r ≡ NoSuchSignal)
+why_refused s agent signal reason r is = at_tests (has_agent s agent) (has_signal s agent signal) is
+  where
+    at_tests : (a b : Bool) → first_refusal (refuse_if (not a) NoSuchAgent ∷ refuse_if (not b) NoSuchSignal ∷ []) ≡ Some r → (r ≡ NoSuchAgent) ⊎ (r ≡ NoSuchSignal)
+    at_tests true true is = absurd (cc)
+    at_tests true false is = inr (let same : NoSuchSignal ≡ r = cc in sym same)
+    at_tests false b is = inl (let same : NoSuchAgent ≡ r = cc in sym same)
+
+pub if_ok : {X Y : Type 0} (P Q : X → Type 0) (r : Result X Y) → ((x : X) → P x → Q x) → IfOk r P → IfOk r Q
+if_ok P Q (Ok x) more is = more x is
+if_ok P Q (Err y) more is = is
+
+pub if_err : {X Y : Type 0} (P Q : Y → Type 0) (r : Result X Y) → ((y : Y) → P y → Q y) → IfErr r P → IfErr r Q
+if_err P Q (Ok x) more is = is
+if_err P Q (Err y) more is = more y is

@@ -248,3 +248,13 @@ taken_same found id = ap length (taken_pushed found id false ∙ append-nil (tak
 
 pub taken_more : (found : Found) (id : ℕ) → length (taken (found ++ (id, true) ∷ [])) ≡ length (taken found) + 1
 taken_more found id = ap length (taken_pushed found id true) ∙ length-append (taken found) (id ∷ [])
+
+-- what an exchange found, by its answer
+abbrev pub Exchanged : Bool → ℕ → Reason → Kept → Kept → Type 0
+Exchanged answer id reason old new = (other : ℕ) → phases_at other new ≡ cond (other == id) (cond answer (Aborted reason) Taken ∷ []) (phases_at other old)
+
+pub aborted_one : (answer : Bool) (id : ℕ) (reason : Reason) (old new : Kept) → Exchanged answer id reason old new → answer ≡ true → (j : ℕ) → phases_at j new ≡ cond (j == id) (Aborted reason ∷ []) (phases_at j old)
+aborted_one answer id reason old new is said j = is j ∙ rw said refl
+
+pub found_taken : (answer : Bool) (id : ℕ) (reason : Reason) (old new : Kept) → Exchanged answer id reason old new → answer ≡ false → (j : ℕ) → phases_at j new ≡ cond (j == id) (Taken ∷ []) (phases_at j old)
+found_taken answer id reason old new is said j = is j ∙ rw said refl

@@ -1,7 +1,8 @@
 //! An agent of a manager.
 
-ghost use Rattle.std.specs.Prelude.{◌≡◌, ℕ, ◌+◌, ◌≤◌, true, IfOk, OnOk, OnErr, if◌then◌else◌};
+ghost use Rattle.std.specs.Prelude.{◌≡◌, ℕ, ◌+◌, ◌≤◌, true, ◌⊎◌, IfOk, IfErr, OnOk, OnErr, if◌then◌else◌};
 ghost use Rattle.wl_types.specs.declared.answers.AbortAnswer.TheVariants.{AlreadyAborted};
+ghost use Rattle.wl_types.specs.declared.refusal.Refusal.TheVariants.{NoSuchAgent, NoSuchSignal};
 ghost use Rattle.wl_manager.specs.Agents.{is_released, entries_of_abort};
 
 use crate::count::Count;
@@ -86,7 +87,7 @@ impl<C: LockCore, T: Count> Agent<C, T> {
     }
 
     /// Aborts a signal of this agent. Its requests that wait end, and so do its granted locks that weren't taken: of
-    /// an abort and a take that race, one wins. Refused: `NoSuchSignal`.
+    /// an abort and a take that race, one wins. It takes no memory. Refused: `NoSuchSignal`.
     pub fn abort<R: Wait>(
         &mut self,
         rt: &R,
@@ -94,16 +95,17 @@ impl<C: LockCore, T: Count> Agent<C, T> {
         reason: Reason,
     ) -> Result<AbortAnswer, Refusal>
         ensures counted { IfOk result (λ answer. T.COUNTS ≡ true → (takes : ℕ) × (answer ≡ AlreadyAborted → takes ≡ 0) × (T.amount self.new.share ≡ T.amount self.old.share + takes + entries_of_abort answer)) }
+        ensures refused { IfErr result (λ refusal. (refusal ≡ NoSuchAgent) ⊎ (refusal ≡ NoSuchSignal)) }
         ensures err { OnErr result (T.COUNTS ≡ true → T.amount self.new.share ≡ T.amount self.old.share) }
         ensures client { self.new.number ≡ self.old.number }
     {
-        let answer = self
+        let aborted = self
             .manager
             .locked
             .lock(rt)
-            .abort(self.number, signal, reason, &mut self.share)?;
+            .abort(self.number, signal, reason, &mut self.share);
         self.manager.settled.notify_all();
-        Ok(answer)
+        aborted
     }
 
     /// Makes this window active or inactive: an inactive one may neither request nor query. Refused: `NotAWindow`,

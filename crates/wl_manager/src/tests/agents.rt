@@ -100,11 +100,11 @@ fn a_lock_that_was_stolen_is_never_taken(rt: HostRuntime) -> Result<(), Fail> {
 fn an_inactive_window_asks_for_nothing(rt: HostRuntime) -> Result<(), Fail> {
     let alloc = rt.alloc();
     let (manager, mut window) = one_agent(&rt, alloc)?;
-    let mut worker = Manager::open(&manager, &rt, Kind::Worker)?;
     let sight = window.query(&rt)?;
-    assert_eq!(rt; sight.seen, 2);
+    assert_eq!(rt; sight.seen, 1);
     assert_eq!(rt; sight.snapshot.held.as_slice().len(), 0);
     assert_eq!(rt; sight.snapshot.pending.as_slice().len(), 0);
+    let mut worker = Manager::open(&manager, &rt, Kind::Worker)?;
     assert!(rt; window.set_active(&rt, false) == Ok(()));
     let refused = window.request(&rt, &ask(alloc, "db", Mode::Exclusive)?);
     assert!(rt; refused.is_err_and(|refusal| refusal == Refusal::InvalidState));
