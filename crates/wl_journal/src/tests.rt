@@ -83,8 +83,8 @@ fn a_wrong_reply_is_found_in_its_place(rt: HostRuntime) -> Result<(), Fail> {
     let alloc = rt.alloc();
     let base: PlainCore = opening(alloc);
     let mut entries = one_lock(alloc)?.cut()?;
-    let not_held = Reply::Released(ReleaseAnswer::NotHeld);
-    entries[3].reply = not_held;
+    assert_eq!(rt; entries.len(), 4);
+    entries[3].reply = Reply::Released(ReleaseAnswer::NotHeld);
     assert_eq!(rt; audit(&base, &entries), Err(AuditFault::Illegal(3)));
     entries[0].reply = Reply::Agent(2);
     assert_eq!(rt; audit(&base, &entries), Err(AuditFault::Illegal(0)));
