@@ -144,6 +144,15 @@ fn a_sight_tells_how_much_was_recorded(rt: HostRuntime) -> Result<(), Fail> {
 }
 
 #[test]
+fn faults_have_texts(rt: HostRuntime) -> Result<(), Fail> {
+    let line = format!(in rt.alloc(); "{}", AuditFault::Illegal(3))?;
+    assert_eq!(rt; line.as_str(), "entry 3 is illegal");
+    let line = format!(in rt.alloc(); "{}", AuditFault::Memory)?;
+    assert_eq!(rt; line.as_str(), "out of memory");
+    Ok(())
+}
+
+#[test]
 fn a_book_asks_its_core(rt: HostRuntime) -> Result<(), Fail> {
     let alloc = rt.alloc();
     let mut book: Book<Book<PlainCore>> = opening(alloc);
