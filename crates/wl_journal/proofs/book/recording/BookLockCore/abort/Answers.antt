@@ -1,7 +1,7 @@
 use Rattle.std.proofs.Common.{◌≡◌, refl, true, vec_capacity}
 use Rattle.wl_machine.specs.declared.command.Command.TheVariants as command
 use Rattle.wl_machine.specs.declared.command.Reply.TheVariants as reply
-use Rattle.wl_journal.specs.History.{is_recorded}
+use Rattle.wl_machine.specs.Recorded.{is_recorded}
 use Rattle.wl_journal.proofs.Legal.{paid}
 use Rattle.wl_journal.proofs.book.recording.BookLockCore.abort.Goals as goal
 
