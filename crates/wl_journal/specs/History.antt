@@ -1,5 +1,5 @@
--- Legal histories: which entries the machine could have written, and where they lead.
-use Rattle.std.specs.Prelude.{◌≡◌, ℕ, ◌+◌, ◌<◌, Bool, true, false, List, [], ◌∷◌, length, map, take, if◌then◌else◌}
+-- Legal histories (own): which entries the machine could have written, and where they lead.
+use Rattle.std.specs.Prelude.{◌≡◌, ℕ, ◌+◌, ◌<◌, List, [], ◌∷◌, length, map, take, if◌then◌else◌}
 use Rattle.wl_machine.specs.declared.command.Command.{Command}
 use Rattle.wl_machine.specs.declared.command.Reply.{Reply}
 use Rattle.wl_machine.specs.Recorded.{is_recorded}
@@ -30,7 +30,7 @@ pub record IsFirstIllegal (base : State) (entries : List Entry) (place : ℕ) : 
   pub before : IsLegal base (take place entries)
   pub there : IsLegal base (take (place + 1) entries) → ⊥
 
--- what a fault of an audit says
+-- what a fault of an audit says of the entries
 abbrev pub Explains : State → List Entry → AuditFault → Type 0
 Explains base entries (Illegal place) = IsFirstIllegal base entries place
 Explains base entries Memory = Unit {0}

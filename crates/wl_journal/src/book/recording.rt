@@ -77,12 +77,15 @@ impl<C: LockCore> LockCore for Book<C> {
     {
         self.is_quiet = false;
         let answer = self.core.take(id);
-        if let TakeAnswer::Taken = answer {
-            self.entries.push_reserved(Entry {
-                command: Command::Take(id),
-                reply: Reply::Took(answer),
-            });
-            self.owed -= 1;
+        match answer {
+            TakeAnswer::Taken => {
+                self.entries.push_reserved(Entry {
+                    command: Command::Take(id),
+                    reply: Reply::Took(answer),
+                });
+                self.owed -= 1;
+            }
+            TakeAnswer::NotGranted => {}
         }
         answer
     }
@@ -94,12 +97,15 @@ impl<C: LockCore> LockCore for Book<C> {
     {
         self.is_quiet = false;
         let answer = self.core.release(agent, id);
-        if let ReleaseAnswer::Released = answer {
-            self.entries.push_reserved(Entry {
-                command: Command::Release(agent, id),
-                reply: Reply::Released(answer),
-            });
-            self.owed -= 1;
+        match answer {
+            ReleaseAnswer::Released => {
+                self.entries.push_reserved(Entry {
+                    command: Command::Release(agent, id),
+                    reply: Reply::Released(answer),
+                });
+                self.owed -= 1;
+            }
+            ReleaseAnswer::NotHeld => {}
         }
         answer
     }

@@ -1,4 +1,4 @@
-use Rattle.std.proofs.Common.{◌≡◌, arith, refl, true}
+use Rattle.std.proofs.Common.{◌≡◌, arith, refl, true, vec_capacity}
 use Rattle.wl_machine.specs.declared.command.Command.TheVariants as command
 use Rattle.wl_machine.specs.declared.command.Reply.TheVariants as reply
 use Rattle.wl_machine.specs.Recorded.{is_recorded}
@@ -21,4 +21,4 @@ overflow_sub-self g c =
 pub invariant_of-self : goal.invariant_of-self
 invariant_of-self g c =
     let said : is_recorded (reply.Took c.take-answer.result) ≡ true = rw c.in-Taken.is refl in
-    paid _ _ _ _ _ _ _ _ _ (command.Take c.args.id) (reply.Took c.take-answer.result) _ c.self.invariant c.take-answer.ensures.taken refl said c.push_reserved.ensures.items c.push_reserved.ensures.capacity
+    paid _ _ _ c.self.inside.entries.items c.push_reserved.new.self.items _ _ (vec_capacity c.push_reserved.new.self) _ (command.Take c.args.id) (reply.Took c.take-answer.result) _ c.self.invariant c.take-answer.ensures.taken refl said c.push_reserved.ensures.items c.push_reserved.ensures.capacity
