@@ -38,6 +38,7 @@ fn work<R: io::Input + Print + Eprint + AllocGlobal>(rt: &R, words: &[String]) -
     match job_of(rt.alloc(), &texts) {
         Ok(Job::Run) => run(rt),
         Ok(Job::Audit) => audit(rt),
+        Ok(Job::Serve { .. } | Job::Client { .. }) => fail(rt, "no server yet"),
         Err(UsageFault::Usage(error)) => answer_usage(rt, &error),
         Err(UsageFault::Memory) => fail(rt, "out of memory"),
     }
