@@ -1,0 +1,4 @@
+mod Settling
+pub mod Keeping
+mod Aborting
+pub mod Aborted

@@ -1,0 +1,4 @@
+pub mod Keepers
+pub mod Locked
+pub mod Aborts
+pub mod Agents

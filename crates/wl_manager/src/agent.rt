@@ -1,0 +1,152 @@
+//! An agent of a manager.
+
+ghost use Rattle.std.specs.Prelude.{◌≡◌, ℕ, ◌+◌, ◌≤◌, true, ◌⊎◌, IfOk, IfErr, OnOk, OnErr, if◌then◌else◌};
+ghost use Rattle.wl_types.specs.declared.answers.AbortAnswer.TheVariants.{AlreadyAborted};
+ghost use Rattle.wl_types.specs.declared.refusal.Refusal.TheVariants.{NoSuchAgent, NoSuchSignal};
+ghost use Rattle.wl_manager.specs.Agents.{is_released, entries_of_abort};
+
+use crate::count::Count;
+use crate::locked::Leaving;
+use crate::manager::Manager;
+use crate::ticket::Ticket;
+use std::sync::{Arc, Wait};
+use wl_core::LockCore;
+use wl_journal::Sight;
+use wl_types::{AbortAnswer, Ask, Reason, Refusal, ReleaseAnswer};
+
+/// A window or worker that opened. Each call but `client` takes the manager's lock, and is one event of the machine.
+///
+/// Where shares are counted, an agent's share has as many entries as its calls recorded. An agent should end by
+/// `terminate`: one that is dropped stays in the manager, with its locks.
+#[derive(Drop)]
+pub struct Agent<C: LockCore, T: Count> {
+    pub(crate) manager: Arc<Manager<C, T>>,
+    pub(crate) number: u64,
+    pub(crate) share: T::Share,
+    ghost one: { T.COUNTS ≡ true → T.parts share ≡ 1 },
+}
+
+impl<C: LockCore, T: Count> Agent<C, T> {
+    /// Its number, from 1 in its manager.
+    pub fn client(&self) -> u64
+        ensures { result ≡ self.now.number }
+    {
+        self.number
+    }
+
+    /// Asks for a lock. The ticket tells what becomes of it. Refused: as `LockCore::request`.
+    pub fn request<R: Wait>(&mut self, rt: &R, ask: &Ask) -> Result<Ticket<C, T>, Refusal>
+        ensures counted { OnOk result (T.COUNTS ≡ true → T.amount self.new.share ≡ T.amount self.old.share + 1) }
+        ensures err { OnErr result (T.COUNTS ≡ true → T.amount self.new.share ≡ T.amount self.old.share) }
+        ensures client { self.new.number ≡ self.old.number }
+    {
+        let Ok(manager) = Arc::try_clone(&self.manager) else {
+            return Err(Refusal::Memory);
+        };
+        let (number, owner) = self
+            .manager
+            .locked
+            .lock(rt)
+            .request(self.number, ask, &mut self.share)?;
+        self.manager.settled.notify_all();
+        Ok(Ticket {
+            manager,
+            owner,
+            number,
+        })
+    }
+
+    /// Gives up the lock of this ticket, by its number. `NotHeld` where this agent doesn't hold it. The ticket should
+    /// be of this agent's manager: the number of another's means another request here.
+    pub fn release<R: Wait>(&mut self, rt: &R, ticket: &mut Ticket<C, T>) -> ReleaseAnswer
+        ensures counted { T.COUNTS ≡ true → T.amount self.new.share ≡ T.amount self.old.share + (if is_released result then 1 else 0) }
+        ensures client { self.new.number ≡ self.old.number }
+        ensures ticket { ticket.new ≡ ticket.old }
+    {
+        let id = ticket.number;
+        let answer = self
+            .manager
+            .locked
+            .lock(rt)
+            .release(self.number, id, &mut self.share);
+        self.manager.settled.notify_all();
+        answer
+    }
+
+    /// A new signal, by its number. Refused: `TooManySignals` where this agent has made 1,024, `NumbersSpent`,
+    /// `Memory`.
+    pub fn new_signal<R: Wait>(&mut self, rt: &R) -> Result<u64, Refusal>
+        ensures counted { OnOk result (T.COUNTS ≡ true → T.amount self.new.share ≡ T.amount self.old.share + 1) }
+        ensures err { OnErr result (T.COUNTS ≡ true → T.amount self.new.share ≡ T.amount self.old.share) }
+        ensures client { self.new.number ≡ self.old.number }
+    {
+        self.manager
+            .locked
+            .lock(rt)
+            .new_signal(self.number, &mut self.share)
+    }
+
+    /// Aborts a signal of this agent. Its requests that wait end, and so do its granted locks that weren't taken: of
+    /// an abort and a take that race, one wins. It takes no memory. Refused: `NoSuchSignal`.
+    pub fn abort<R: Wait>(
+        &mut self,
+        rt: &R,
+        signal: u64,
+        reason: Reason,
+    ) -> Result<AbortAnswer, Refusal>
+        ensures counted { IfOk result (λ answer. T.COUNTS ≡ true → (takes : ℕ) × (answer ≡ AlreadyAborted → takes ≡ 0) × (T.amount self.new.share ≡ T.amount self.old.share + takes + entries_of_abort answer)) }
+        ensures refused { IfErr result (λ refusal. (refusal ≡ NoSuchAgent) ⊎ (refusal ≡ NoSuchSignal)) }
+        ensures err { OnErr result (T.COUNTS ≡ true → T.amount self.new.share ≡ T.amount self.old.share) }
+        ensures client { self.new.number ≡ self.old.number }
+    {
+        let aborted = self
+            .manager
+            .locked
+            .lock(rt)
+            .abort(self.number, signal, reason, &mut self.share);
+        self.manager.settled.notify_all();
+        aborted
+    }
+
+    /// Makes this window active or inactive: an inactive one may neither request nor query. Refused: `NotAWindow`,
+    /// `Memory`.
+    pub fn set_active<R: Wait>(&mut self, rt: &R, active: bool) -> Result<(), Refusal>
+        ensures counted { OnOk result (T.COUNTS ≡ true → T.amount self.new.share ≡ T.amount self.old.share + 1) }
+        ensures err { OnErr result (T.COUNTS ≡ true → T.amount self.new.share ≡ T.amount self.old.share) }
+        ensures client { self.new.number ≡ self.old.number }
+    {
+        self.manager
+            .locked
+            .lock(rt)
+            .set_active(self.number, active, &mut self.share)
+    }
+
+    /// What is held and what waits, after how many entries. Refused: `InvalidState`, `Memory`.
+    pub fn query<R: Wait>(&mut self, rt: &R) -> Result<Sight, Refusal>
+        ensures mine { IfOk result (λ sight. T.COUNTS ≡ true → T.amount self.old.share ≤ sight.seen) }
+        ensures same { T.COUNTS ≡ true → T.amount self.new.share ≡ T.amount self.old.share }
+        ensures client { self.new.number ≡ self.old.number }
+    {
+        self.manager
+            .locked
+            .lock(rt)
+            .query(self.number, &mut self.share)
+    }
+
+    /// Ends this agent: its requests end, its locks are given up, its signals are gone.
+    pub fn terminate<R: Wait>(self, rt: &R) -> Leaving<T>
+        ensures grown { T.COUNTS ≡ true → T.amount self.share ≤ T.amount result.share }
+        ensures one_more { T.COUNTS ≡ true → T.amount result.share ≤ T.amount self.share + 1 }
+    {
+        let Agent {
+            manager,
+            number,
+            share,
+        } = self;
+        let mut share = share;
+        // Only this call ends the agent, so it is never refused.
+        let _ = manager.locked.lock(rt).terminate(number, &mut share);
+        manager.settled.notify_all();
+        Leaving { share }
+    }
+}

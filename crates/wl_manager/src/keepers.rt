@@ -1,0 +1,99 @@
+//! The keepers of a manager, by the numbers of their requests.
+
+ghost use Rattle.std.specs.Prelude.{◌≡◌, ◌==◌, ℕ, [], ◌∷◌, Some, None, OnOk, OnErr, if◌then◌else◌};
+ghost use Rattle.wl_types.specs.declared.phases.Phase.TheVariants.{Granted, Taken, Aborted};
+ghost use Rattle.wl_machine.specs.Laws.{phases_of};
+ghost use Rattle.wl_manager.specs.Keepers.{seat_at, phases_at, cells_at, ends_request, MayBring, MaySettle, after};
+
+use std::alloc::Global;
+use std::collections::BTreeMap;
+use std::marker::Model;
+use wl_cell::Keeper;
+use wl_types::{Change, Memory, Phase, Reason};
+
+/// Keepers by number. Contracts see the keeper of each number.
+#[derive(Drop)]
+pub(crate) struct Keepers {
+    kept: BTreeMap<u64, Keeper>,
+}
+
+impl Model for Keepers {
+    ghost use Rattle.wl_manager.specs.Keepers.{Kept};
+
+    ghost Value = { Kept };
+
+    ghost view = { λ k. k.kept.entries };
+}
+
+impl Keepers {
+    pub(crate) fn new(alloc: Global) -> Keepers
+        ensures { result ≡ [] }
+    {
+        Keepers {
+            kept: BTreeMap::new(alloc),
+        }
+    }
+
+    /// Keeps this keeper under this number.
+    pub(crate) fn put(&mut self, id: u64, keeper: Keeper) -> Result<(), Memory>
+        ensures put { OnOk result ((other : ℕ) → seat_at other self.new ≡ (if other == id then Some keeper else seat_at other self.old)) }
+        ensures err { OnErr result (self.new ≡ self.old) }
+    {
+        self.kept.insert(id, keeper)?;
+        Ok(())
+    }
+
+    /// Lets the keeper of this number go.
+    pub(crate) fn remove(&mut self, id: u64)
+        ensures { (other : ℕ) → seat_at other self.new ≡ (if other == id then None else seat_at other self.old) }
+    {
+        self.kept.remove(&id);
+    }
+
+    /// Lets the keepers of the requests that these changes end go.
+    pub(crate) fn let_go(&mut self, changes: &[Change])
+        ensures { (id : ℕ) → seat_at id self.new ≡ (if ends_request id changes.now then None else seat_at id self.old) }
+    {
+        let mut i = 0;
+        while i < changes.len() {
+            if changes[i].phase.is_end() {
+                self.remove(changes[i].id);
+            }
+            i += 1;
+        }
+    }
+
+    /// Settles the cell of this number, if it isn't at the phase.
+    pub(crate) fn bring(&mut self, id: u64, phase: Phase)
+        requires { MayBring (phases_at id self.old) phase }
+        ensures phases { (other : ℕ) → phases_at other self.new ≡ (if other == id then phase ∷ [] else phases_at other self.old) }
+        ensures cells { (other : ℕ) → cells_at other self.new ≡ cells_at other self.old }
+    {
+        let keeper = self.kept.get_mut(&id).unwrap();
+        if keeper.phase() != phase {
+            keeper.settle(phase);
+        }
+    }
+
+    /// Settles the cells of all these changes, in their order.
+    pub(crate) fn settle_all(&mut self, changes: &[Change])
+        requires { (id : ℕ) → MaySettle (phases_at id self.old) (phases_of id changes.now) }
+        ensures phases { (id : ℕ) → phases_at id self.new ≡ after (phases_of id changes.now) (phases_at id self.old) }
+        ensures cells { (id : ℕ) → cells_at id self.new ≡ cells_at id self.old }
+    {
+        let mut i = 0;
+        while i < changes.len() {
+            self.bring(changes[i].id, changes[i].phase);
+            i += 1;
+        }
+    }
+
+    /// Aborts the granted lock of this number, unless its owner took it.
+    pub(crate) fn try_abort(&mut self, id: u64, reason: Reason) -> bool
+        requires { phases_at id self.old ≡ Granted ∷ [] }
+        ensures phases { (other : ℕ) → phases_at other self.new ≡ (if other == id then (if result then Aborted reason else Taken) ∷ [] else phases_at other self.old) }
+        ensures cells { (other : ℕ) → cells_at other self.new ≡ cells_at other self.old }
+    {
+        self.kept.get_mut(&id).unwrap().try_abort(reason)
+    }
+}

@@ -1,0 +1,23 @@
+//! A lock manager that threads share: a journal under one lock, and a settlement cell for each request, which its
+//! owner looks at and takes without the lock.
+//!
+//! `Locked` is what lies under the lock. Its type says what holds whenever the lock is free, and its commands what
+//! each does. `Manager`, `Agent` and `Ticket` are thin: their calls take the lock and call `Locked`. Since no clause
+//! can name what is under a lock that others share, their contracts speak of the caller's share and of the shape of
+//! the answer alone; tests show the rest.
+#![tactic(auto)]
+
+mod agent;
+mod count;
+mod keepers;
+mod locked;
+mod manager;
+#[cfg(test)]
+mod tests;
+mod ticket;
+
+pub use crate::agent::Agent;
+pub use crate::count::{Count, Ledgered, Loose};
+pub use crate::locked::{Leaving, Locked, TallyFault};
+pub use crate::manager::{Manager, Visitor};
+pub use crate::ticket::Ticket;

@@ -1,0 +1,85 @@
+//! A manager that threads share.
+
+ghost use Rattle.std.specs.Prelude.{◌≡◌, ◌≤◌, ◌^◌, true, IfOk, IfErr};
+ghost use Rattle.wl_journal.specs.History.{IsLegal};
+ghost use Rattle.wl_manager.specs.Locked.{first};
+
+use crate::agent::Agent;
+use crate::count::Count;
+use crate::locked::{Leaving, Locked, TallyFault};
+use std::alloc::Global;
+use std::sync::{Arc, Condvar, Mutex, Wait};
+use wl_core::LockCore;
+use wl_journal::Entry;
+use wl_types::{Kind, Memory, Refusal};
+
+/// Who is shown a manager's journal.
+pub trait Visitor {
+    /// Called once by each `visit`, under the manager's lock: it should be short, and call nothing of that manager.
+    fn visit(&mut self, entries: &[Entry])
+        requires { IsLegal first entries.now };
+}
+
+/// A lock manager under one lock. Its agents and tickets hold it, and it lives until the last of them is dropped.
+///
+/// A manager never cuts its journal, so that grows with each entry.
+#[derive(Drop)]
+pub struct Manager<C: LockCore, T: Count> {
+    pub(crate) locked: Mutex<Locked<C, T>>,
+    // Notified after each command, since it may have settled a request that somebody waits for.
+    pub(crate) settled: Condvar,
+}
+
+impl<C: LockCore, T: Count> Manager<C, T> {
+    /// A manager without agents, all its numbers 1. Where shares are counted, the total is 0 and the share is the
+    /// whole of at least 2^53 parts, of which each agent that opens gets one.
+    pub fn new<R>(
+        _rt: &R,
+        alloc: Global,
+        seed: C::Seed,
+        total: T::Total,
+        share: T::Share,
+    ) -> Result<Arc<Manager<C, T>>, Memory>
+        requires total { T.COUNTS ≡ true → T.total total ≡ 0 }
+        requires all { T.COUNTS ≡ true → (T.parts share ≡ T.all) × (2 ^ 53 ≤ T.all) }
+    {
+        let manager = Manager {
+            locked: Mutex::new(Locked::new(alloc, seed, total, share)),
+            settled: Condvar::new(),
+        };
+        Ok(Arc::new(alloc, manager)?)
+    }
+
+    /// A new agent. Refused: `TooManyAgents` where 4,096 are live, `NumbersSpent`, `Memory`.
+    pub fn open<R: Wait>(
+        this: &Arc<Manager<C, T>>,
+        rt: &R,
+        kind: Kind,
+    ) -> Result<Agent<C, T>, Refusal>
+        ensures { IfOk result (λ agent. T.COUNTS ≡ true → T.amount agent.share ≡ 1) }
+    {
+        let Ok(manager) = Arc::try_clone(this) else {
+            return Err(Refusal::Memory);
+        };
+        let (number, share) = this.locked.lock(rt).open(kind)?;
+        Ok(Agent {
+            manager,
+            number,
+            share,
+        })
+    }
+
+    /// Shows the entries since the opening state.
+    pub fn visit<R: Wait, V: Visitor>(&self, rt: &R, visitor: &mut V) {
+        let locked = self.locked.lock(rt);
+        visitor.visit(locked.entries());
+    }
+
+    /// The number of entries, where at least as many Leavings were handed in, here and in tallies that succeeded, as
+    /// agents opened. An agent that is dropped without `terminate` keeps its locks, and its Leaving is missing.
+    pub fn tally<R: Wait>(&self, rt: &R, leavings: Vec<Leaving<T>>) -> Result<u64, TallyFault<T>>
+        ensures { IfErr result (λ fault. fault ≡ TallyFault.Missing leavings) }
+    {
+        self.locked.lock(rt).tally(leavings)
+    }
+}

@@ -1,0 +1,53 @@
+//! What the contracts can't show: that calls take the lock and pass on their own arguments, that they succeed with
+//! ample memory, and races.
+
+mod agents;
+mod threads;
+
+use crate::{Agent, Loose, Manager, Visitor};
+use std::alloc::Global;
+use std::sync::{Arc, Wait};
+use std::test::Fail;
+use wl_core::{Command, PlainCore};
+use wl_journal::Entry;
+use wl_types::{Ask, Kind, Memory, Mode, Text};
+
+type Plain = Manager<PlainCore, Loose>;
+
+/// A manager that counts no shares, and its first agent, a window.
+fn one_agent<R: Wait>(
+    rt: &R,
+    alloc: Global,
+) -> Result<(Arc<Plain, Global>, Agent<PlainCore, Loose>), Fail> {
+    let manager: Arc<Plain, Global> = Manager::new(rt, alloc, (), (), ())?;
+    let agent = Manager::open(&manager, rt, Kind::Window)?;
+    Ok((manager, agent))
+}
+
+/// A request without options.
+fn ask(alloc: Global, name: &str, mode: Mode) -> Result<Ask, Memory> {
+    Ok(Ask {
+        name: Text::of(alloc, name)?,
+        mode,
+        if_available: false,
+        steal: false,
+        signal: None,
+    })
+}
+
+/// How many entries a journal has, and how many of them are takes.
+#[derive(Drop)]
+struct Sum {
+    entries: usize,
+    takes: usize,
+}
+
+impl Visitor for Sum {
+    fn visit(&mut self, entries: &[Entry]) {
+        self.entries = entries.len();
+        self.takes = entries
+            .iter()
+            .filter(|entry| matches!(entry.command, Command::Take(_)))
+            .count();
+    }
+}

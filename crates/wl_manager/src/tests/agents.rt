@@ -1,0 +1,119 @@
+//! Each call of an agent and of a ticket.
+
+use super::{Sum, ask, one_agent};
+use crate::{Manager, Visitor};
+use std::test::Fail;
+use wl_cell::Taking;
+use wl_core::{Command, ReleaseAnswer, Reply};
+use wl_journal::Entry;
+use wl_types::{Kind, Mode, Phase, Refusal};
+
+/// Whether a journal is that of one window that asked for `db`, and whether it gave the lock up.
+#[derive(Drop)]
+struct Course {
+    asked: bool,
+    released: bool,
+}
+
+impl Visitor for Course {
+    fn visit(&mut self, entries: &[Entry]) {
+        self.asked = is_asked(entries);
+        self.released = entries.len() == 3 && is_released(&entries[2]);
+    }
+}
+
+fn is_asked(entries: &[Entry]) -> bool {
+    let [enter, request, ..] = entries else {
+        return false;
+    };
+    let Command::Request(1, ask) = &request.command else {
+        return false;
+    };
+    matches!(enter.command, Command::Enter(Kind::Window))
+        && matches!(enter.reply, Reply::Agent(1))
+        && matches!(request.reply, Reply::Request(1))
+        && ask.name.as_str() == "db"
+        && ask.mode == Mode::Exclusive
+        && !ask.if_available
+        && !ask.steal
+        && ask.signal.is_none()
+}
+
+fn is_released(entry: &Entry) -> bool {
+    matches!(entry.command, Command::Release(1, 1))
+        && matches!(entry.reply, Reply::Released(ReleaseAnswer::Released))
+}
+
+#[test]
+fn an_agent_asks_for_just_what_it_was_given(rt: HostRuntime) -> Result<(), Fail> {
+    let alloc = rt.alloc();
+    let (manager, mut agent) = one_agent(&rt, alloc)?;
+    assert_eq!(rt; agent.client(), 1);
+    let mut ticket = agent.request(&rt, &ask(alloc, "db", Mode::Exclusive)?)?;
+    assert_eq!(rt; ticket.number(), 1);
+    let sight = agent.query(&rt)?;
+    assert_eq!(rt; sight.seen, 2);
+    assert_eq!(rt; sight.snapshot.pending.as_slice().len(), 0);
+    let [lock] = sight.snapshot.held.as_slice() else {
+        return Err("one lock")?;
+    };
+    assert_eq!(rt; lock.name.as_str(), "db");
+    assert_eq!(rt; lock.mode, Mode::Exclusive);
+    assert_eq!(rt; lock.client, 1);
+    let mut course = Course {
+        asked: false,
+        released: false,
+    };
+    manager.visit(&rt, &mut course);
+    assert!(rt; course.asked && !course.released);
+    assert_eq!(rt; agent.release(&rt, &mut ticket), ReleaseAnswer::Released);
+    manager.visit(&rt, &mut course);
+    assert!(rt; course.asked && course.released);
+    Ok(())
+}
+
+#[test]
+fn a_lock_that_was_stolen_is_never_taken(rt: HostRuntime) -> Result<(), Fail> {
+    let alloc = rt.alloc();
+    let (manager, mut one) = one_agent(&rt, alloc)?;
+    let mut two = Manager::open(&manager, &rt, Kind::Window)?;
+    let mut ticket = one.request(&rt, &ask(alloc, "db", Mode::Exclusive)?)?;
+    let mut watch = ticket.watch()?;
+    assert_eq!(rt; watch.look(), Phase::Granted);
+    let mut stealing = ask(alloc, "db", Mode::Exclusive)?;
+    stealing.steal = true;
+    let mut stolen = two.request(&rt, &stealing)?;
+    assert_eq!(rt; watch.look(), Phase::Stolen);
+    assert_eq!(rt; stolen.look(), Phase::Granted);
+    assert_eq!(rt; ticket.take(), Taking::Before(Phase::Stolen));
+    assert_eq!(rt; ticket.look(), Phase::Stolen);
+    assert_eq!(rt; one.release(&rt, &mut ticket), ReleaseAnswer::NotHeld);
+    let mut available = ask(alloc, "db", Mode::Shared)?;
+    available.if_available = true;
+    let mut refused = one.request(&rt, &available)?;
+    assert_eq!(rt; refused.look(), Phase::Unavailable);
+    assert_eq!(rt; refused.take(), Taking::Before(Phase::Unavailable));
+    Ok(())
+}
+
+#[test]
+fn an_inactive_window_asks_for_nothing(rt: HostRuntime) -> Result<(), Fail> {
+    let alloc = rt.alloc();
+    let (manager, mut window) = one_agent(&rt, alloc)?;
+    let sight = window.query(&rt)?;
+    assert_eq!(rt; sight.seen, 1);
+    assert_eq!(rt; sight.snapshot.held.as_slice().len(), 0);
+    assert_eq!(rt; sight.snapshot.pending.as_slice().len(), 0);
+    let mut worker = Manager::open(&manager, &rt, Kind::Worker)?;
+    assert!(rt; window.set_active(&rt, false) == Ok(()));
+    let refused = window.request(&rt, &ask(alloc, "db", Mode::Exclusive)?);
+    assert!(rt; refused.is_err_and(|refusal| refusal == Refusal::InvalidState));
+    assert!(rt; worker.set_active(&rt, false) == Err(Refusal::NotAWindow));
+    let mut sum = Sum {
+        entries: 0,
+        takes: 0,
+    };
+    manager.visit(&rt, &mut sum);
+    assert_eq!(rt; sum.entries, 3);
+    Ok(())
+}
