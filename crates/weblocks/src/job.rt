@@ -3,7 +3,7 @@
 ghost use Rattle.std.specs.Prelude.{◌≡◌, [], map, IfOk, IfErr, IfSome, IsSome, OnOk, Some, codes, false};
 ghost use Rattle.clap.specs.Words.{app_of, fault_of, subcommand_name_of, subcommand_of, subcommand_rows_of};
 ghost use Rattle.clap.specs.declared.builder.command.Command.TheViews.{out-Command as fields_of};
-ghost use Rattle.weblocks.specs.Words.{weblocks_app, run_app, IsJob, IsUsageFault};
+ghost use Rattle.weblocks.specs.Words.{weblocks_app, audit_app, run_app, IsJob, IsUsageFault};
 
 use clap::error::ErrorKind;
 use clap::{ArgMatches, Command, Error};
@@ -13,6 +13,9 @@ const ABOUT: &str = "A lock service with the behaviour of the Web Locks API";
 
 const RUN_ABOUT: &str = "Answer each line of standard input by one line on standard output";
 
+const AUDIT_ABOUT: &str =
+    "Do each line of standard input, and say for each origin whether its journal is legal";
+
 const EXAMPLE: &str = "Example:
   weblocks run < script.jsonl
 
@@ -20,11 +23,19 @@ const EXAMPLE: &str = "Example:
   {\"agent\":\"a\",\"id\":1,\"op\":\"open\",\"url\":\"https://a.test/\"}
   {\"id\":1,\"notices\":[],\"ok\":{\"client\":\"client-1\"}}";
 
+const AUDIT_EXAMPLE: &str = "Example:
+  weblocks audit < script.jsonl
+
+  A line for each origin:
+  {\"entries\":4,\"legal\":true,\"origin\":\"https://a.test\"}";
+
 /// What the program is asked to do.
 #[derive(Clone, Copy, Debug, PartialEq, Eq, Drop)]
 pub enum Job {
     /// Answer the script on standard input.
     Run,
+    /// Do the script on standard input, and audit the journal of each origin.
+    Audit,
 }
 
 /// Why the words ask for no job.
@@ -63,7 +74,8 @@ fn weblocks_command<'a>(alloc: Global) -> Result<Command<'a>, AllocError>
         .about(ABOUT)
         .after_help(EXAMPLE)
         .subcommand_required(true)
-        .subcommand(run_command(alloc))
+        .subcommand(run_command(alloc))?
+        .subcommand(audit_command(alloc))
 }
 
 fn run_command<'a>(alloc: Global) -> Command<'a>
@@ -75,13 +87,24 @@ fn run_command<'a>(alloc: Global) -> Command<'a>
         .after_help(EXAMPLE)
 }
 
+fn audit_command<'a>(alloc: Global) -> Command<'a>
+    ensures app { app_of result ≡ audit_app }
+    ensures local { (fields_of result).has_globals ≡ false }
+{
+    Command::new(alloc, "audit")
+        .about(AUDIT_ABOUT)
+        .after_help(AUDIT_EXAMPLE)
+}
+
 /// The job of the subcommand that the matches have.
 fn job_in(matches: &ArgMatches<'_>) -> Option<Job>
     ensures job { IfSome result (IsJob (subcommand_rows_of matches.now)) }
     ensures run { subcommand_name_of matches.now ≡ Some (codes "run") → IsSome result }
+    ensures audit { subcommand_name_of matches.now ≡ Some (codes "audit") → IsSome result }
 {
     match matches.subcommand() {
         Some(("run", _)) => Some(Job::Run),
+        Some(("audit", _)) => Some(Job::Audit),
         _ => None,
     }
 }

@@ -37,6 +37,7 @@ fn work<R: io::Input + Print + Eprint + AllocGlobal>(rt: &R, words: &[String]) -
     };
     match job_of(rt.alloc(), &texts) {
         Ok(Job::Run) => run(rt),
+        Ok(Job::Audit) => audit(rt),
         Err(UsageFault::Usage(error)) => answer_usage(rt, &error),
         Err(UsageFault::Memory) => fail(rt, "out of memory"),
     }
@@ -50,10 +51,28 @@ fn texts_of(alloc: Global, words: &[String]) -> Result<Vec<&str>, AllocError> {
 fn run<R: io::Input + Print + Eprint + AllocGlobal>(rt: &R) -> ExitCode {
     let mut reader = Reader::new(rt.reader());
     let mut writer = Writer::new(io::writer(rt));
-    match wl_script::run(rt.alloc(), &mut reader, &mut writer) {
-        Ok(lines) => match writer.into_inner().flush() {
+    let ended = wl_script::run(rt.alloc(), &mut reader, &mut writer);
+    end(rt, writer, ended)
+}
+
+/// Audits the script on standard input.
+fn audit<R: io::Input + Print + Eprint + AllocGlobal>(rt: &R) -> ExitCode {
+    let mut reader = Reader::new(rt.reader());
+    let mut writer = Writer::new(io::writer(rt));
+    let ended = wl_script::audit(rt.alloc(), &mut reader, &mut writer);
+    end(rt, writer, ended)
+}
+
+/// The last flush, and the status.
+fn end<R: Eprint, W: Write + Drop>(
+    rt: &R,
+    writer: Writer<W>,
+    ended: Result<u64, ScriptFault>,
+) -> ExitCode {
+    match ended {
+        Ok(written) => match writer.into_inner().flush() {
             Ok(()) => ExitCode::SUCCESS,
-            Err(_) => fail(rt, ScriptFault::Write(lines)),
+            Err(_) => fail(rt, ScriptFault::Write(written)),
         },
         Err(fault) => fail(rt, fault),
     }

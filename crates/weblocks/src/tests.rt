@@ -14,6 +14,7 @@ fn usage(alloc: Global, words: &[&str]) -> Result<clap::Error, Fail> {
 #[test]
 fn the_words_name_a_job(rt: HostRuntime) -> Result<(), Fail> {
     assert_eq!(rt; job_of(rt.alloc(), &["weblocks", "run"])?, Job::Run);
+    assert_eq!(rt; job_of(rt.alloc(), &["weblocks", "audit"])?, Job::Audit);
     Ok(())
 }
 

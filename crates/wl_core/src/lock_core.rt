@@ -1,10 +1,11 @@
 //! What a lock manager's core does, however it keeps its state.
 
-ghost use Rattle.std.specs.Prelude.{◌≡◌, ℕ, ◌≤◌, ◌<◌, List, [], ◌∷◌, IfOk, IfErr, OnErr, OnOk, Some, None, true};
+ghost use Rattle.std.specs.Prelude.{◌≡◌, ℕ, ◌≤◌, ◌<◌, List, [], ◌∷◌, IfOk, IfErr, OnErr, OnOk, Option, Some, None, true};
 ghost use Rattle.std.specs.List.{slice_get};
 ghost use Rattle.wl_types.specs.Refusals.{refused_or_memory};
 ghost use Rattle.wl_types.specs.declared.phases.Change.{Change};
 ghost use Rattle.wl_machine.specs.State.{State, opening, AreNumbers};
+ghost use Rattle.wl_machine.specs.Recorded.{with_entry};
 ghost use Rattle.wl_machine.specs.Refusals.{refusal};
 ghost use Rattle.wl_machine.specs.Step.{step, Gives, untaken_numbers};
 
@@ -32,18 +33,27 @@ pub trait LockCore: Drop {
     /// What `changes` tells.
     ghost recent: { Self → List Change };
 
+    /// How many entries its journal has ever had, where it keeps one.
+    ghost entries: { Self → Option ℕ };
+
+    /// The same of a core that was just made.
+    ghost no_entries: { Option ℕ };
+
     /// A core without agents, signals and requests, that gives these numbers next. It takes no memory.
     fn make(alloc: Global, seed: Self::Seed, next: Numbers) -> Self
         requires { AreNumbers next }
         ensures state { state result ≡ opening next }
-        ensures recent { recent result ≡ [] };
+        ensures recent { recent result ≡ [] }
+        ensures entries { entries result ≡ no_entries };
 
     /// A new agent, active. Its number is the answer. Refused: `TooManyAgents` where 4,096 are live, `NumbersSpent`.
     fn open(&mut self, kind: Kind) -> Result<u64, Refusal>
         ensures opened { IfOk result (λ agent. Gives (state self.old) (Command.Enter kind) (state self.new) (Reply.Agent agent) (recent self.new)) }
         ensures refused { IfErr result (λ r. r ≡ refused_or_memory (refusal (state self.old) (Command.Enter kind))) }
         ensures unchanged { OnErr result (state self.new ≡ state self.old) }
-        ensures no_changes { OnErr result (recent self.new ≡ []) };
+        ensures no_changes { OnErr result (recent self.new ≡ []) }
+        ensures recorded { IfOk result (λ agent. entries self.new ≡ with_entry (Reply.Agent agent) (entries self.old)) }
+        ensures not_recorded { OnErr result (entries self.new ≡ entries self.old) };
 
     /// Asks for a lock. The number of the request is the answer, also where it is unavailable at once; `changes`
     /// tells what became of it, and of others. Refused: `NoSuchAgent`, `InvalidState`, those of `Ask::check`,
@@ -53,16 +63,20 @@ pub trait LockCore: Drop {
         ensures requested { IfOk result (λ id. Gives (state self.old) (Command.Request agent ask.now) (state self.new) (Reply.Request id) (recent self.new)) }
         ensures refused { IfErr result (λ r. r ≡ refused_or_memory (refusal (state self.old) (Command.Request agent ask.now))) }
         ensures unchanged { OnErr result (state self.new ≡ state self.old) }
-        ensures no_changes { OnErr result (recent self.new ≡ []) };
+        ensures no_changes { OnErr result (recent self.new ≡ []) }
+        ensures recorded { IfOk result (λ id. entries self.new ≡ with_entry (Reply.Request id) (entries self.old)) }
+        ensures not_recorded { OnErr result (entries self.new ≡ entries self.old) };
 
     /// Marks a lock that is held and untaken as taken, whoever's it is: its agent is told of the grant. From then on
     /// an abort of its signal doesn't end it.
     fn take(&mut self, id: u64) -> TakeAnswer
-        ensures { Gives (state self.old) (Command.Take id) (state self.new) (Reply.Took result) (recent self.new) };
+        ensures taken { Gives (state self.old) (Command.Take id) (state self.new) (Reply.Took result) (recent self.new) }
+        ensures recorded { entries self.new ≡ with_entry (Reply.Took result) (entries self.old) };
 
     /// The agent gives up its lock, taken or not; then the queues are processed.
     fn release(&mut self, agent: u64, id: u64) -> ReleaseAnswer
-        ensures { Gives (state self.old) (Command.Release agent id) (state self.new) (Reply.Released result) (recent self.new) };
+        ensures released { Gives (state self.old) (Command.Release agent id) (state self.new) (Reply.Released result) (recent self.new) }
+        ensures recorded { entries self.new ≡ with_entry (Reply.Released result) (entries self.old) };
 
     /// Makes a window active or inactive: an inactive one may neither request nor query. Refused: `NoSuchAgent`,
     /// `NotAWindow`.
@@ -70,7 +84,9 @@ pub trait LockCore: Drop {
         ensures done { OnOk result (Gives (state self.old) (Command.SetActive agent active) (state self.new) Reply.Done (recent self.new)) }
         ensures refused { IfErr result (λ r. r ≡ refused_or_memory (refusal (state self.old) (Command.SetActive agent active))) }
         ensures unchanged { OnErr result (state self.new ≡ state self.old) }
-        ensures no_changes { OnErr result (recent self.new ≡ []) };
+        ensures no_changes { OnErr result (recent self.new ≡ []) }
+        ensures recorded { OnOk result (entries self.new ≡ with_entry Reply.Done (entries self.old)) }
+        ensures not_recorded { OnErr result (entries self.new ≡ entries self.old) };
 
     /// A new signal of the agent, not aborted. Its number is the answer. Refused: `NoSuchAgent`, `TooManySignals`
     /// where the agent has made 1,024, `NumbersSpent`.
@@ -78,7 +94,9 @@ pub trait LockCore: Drop {
         ensures made { IfOk result (λ signal. Gives (state self.old) (Command.NewSignal agent) (state self.new) (Reply.Signal signal) (recent self.new)) }
         ensures refused { IfErr result (λ r. r ≡ refused_or_memory (refusal (state self.old) (Command.NewSignal agent))) }
         ensures unchanged { OnErr result (state self.new ≡ state self.old) }
-        ensures no_changes { OnErr result (recent self.new ≡ []) };
+        ensures no_changes { OnErr result (recent self.new ≡ []) }
+        ensures recorded { IfOk result (λ signal. entries self.new ≡ with_entry (Reply.Signal signal) (entries self.old)) }
+        ensures not_recorded { OnErr result (entries self.new ≡ entries self.old) };
 
     /// Aborts the agent's signal for this reason, once. Its requests that wait and its locks that weren't taken end;
     /// then the queues are processed. Refused: `NoSuchAgent`, `NoSuchSignal`.
@@ -86,14 +104,18 @@ pub trait LockCore: Drop {
         ensures aborted { IfOk result (λ answer. Gives (state self.old) (Command.Abort agent signal reason) (state self.new) (Reply.Aborted answer) (recent self.new)) }
         ensures refused { IfErr result (λ r. refusal (state self.old) (Command.Abort agent signal reason) ≡ Some r) }
         ensures unchanged { OnErr result (state self.new ≡ state self.old) }
-        ensures no_changes { OnErr result (recent self.new ≡ []) };
+        ensures no_changes { OnErr result (recent self.new ≡ []) }
+        ensures recorded { IfOk result (λ answer. entries self.new ≡ with_entry (Reply.Aborted answer) (entries self.old)) }
+        ensures not_recorded { OnErr result (entries self.new ≡ entries self.old) };
 
     /// Ends the agent with its requests, locks and signals; then the queues are processed. Refused: `NoSuchAgent`.
     fn terminate(&mut self, agent: u64) -> Result<(), Refusal>
         ensures ended { OnOk result (Gives (state self.old) (Command.Terminate agent) (state self.new) Reply.Done (recent self.new)) }
         ensures refused { IfErr result (λ r. refusal (state self.old) (Command.Terminate agent) ≡ Some r) }
         ensures unchanged { OnErr result (state self.new ≡ state self.old) }
-        ensures no_changes { OnErr result (recent self.new ≡ []) };
+        ensures no_changes { OnErr result (recent self.new ≡ []) }
+        ensures recorded { OnOk result (entries self.new ≡ with_entry Reply.Done (entries self.old)) }
+        ensures not_recorded { OnErr result (entries self.new ≡ entries self.old) };
 
     /// The changes of the last call on `&mut self`: the ends, and then the grants, each in the machine's order. They
     /// are no part of the state.

@@ -111,6 +111,11 @@ impl LockCore for PlainCore {
 
     ghost recent = { λ c. c.recent };
 
+    // It keeps no journal.
+    ghost entries = { λ c. None };
+
+    ghost no_entries = { None };
+
     fn make(alloc: Global, _seed: (), next: Numbers) -> PlainCore {
         PlainCore {
             agents: Vec::new(alloc),

@@ -16,7 +16,8 @@ use Rattle.wl_journal.specs.declared.entry.Entry.{Entry}
 use Rattle.wl_journal.specs.Books.{IsKept}
 use Rattle.wl_journal.specs.Room.{entries_owed}
 use Rattle.wl_journal.proofs.Growth.{growth, growth_is_enough}
-use Rattle.wl_journal.specs.History.{IsLegal, state_of, commands_of, recorded, is_recorded}
+use Rattle.wl_machine.specs.Recorded.{is_recorded}
+use Rattle.wl_journal.specs.History.{IsLegal, state_of, commands_of, recorded}
 
 pub replies_of-append : (xs ys : List Command) (s : State) → replies_of (xs ++ ys) s ≡ replies_of xs s ++ replies_of ys (state_after xs s)
 replies_of-append [] ys s = refl

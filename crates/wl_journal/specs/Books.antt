@@ -1,4 +1,4 @@
--- What contracts see of a book, and what holds inside.
+-- What contracts see of a book, and what holds inside (own).
 use Rattle.std.specs.Prelude.{◌≡◌, ℕ, ◌+◌, ◌<◌, ◌≤◌, ◌^◌, List, [], ◌++◌, length}
 use Rattle.wl_types.specs.declared.phases.Change.{Change}
 use Rattle.wl_machine.specs.State.{State}

@@ -1,11 +1,8 @@
--- Legal histories: which entries the machine could have written, and where they lead.
-use Rattle.std.specs.Prelude.{◌≡◌, ℕ, ◌+◌, ◌<◌, Bool, true, false, List, [], ◌∷◌, length, map, take, if◌then◌else◌}
+-- Legal histories (own): which entries the machine could have written, and where they lead.
+use Rattle.std.specs.Prelude.{◌≡◌, ℕ, ◌+◌, ◌<◌, List, [], ◌∷◌, length, map, take, if◌then◌else◌}
 use Rattle.wl_machine.specs.declared.command.Command.{Command}
 use Rattle.wl_machine.specs.declared.command.Reply.{Reply}
-use Rattle.wl_machine.specs.declared.command.Reply.TheVariants as reply
-use Rattle.wl_types.specs.declared.answers.TakeAnswer.TheVariants.{NotGranted}
-use Rattle.wl_types.specs.declared.answers.ReleaseAnswer.TheVariants.{NotHeld}
-use Rattle.wl_types.specs.declared.answers.AbortAnswer.TheVariants.{AlreadyAborted}
+use Rattle.wl_machine.specs.Recorded.{is_recorded}
 use Rattle.wl_machine.specs.State.{State}
 use Rattle.wl_machine.specs.Step.{replies_of, state_after}
 use Rattle.wl_journal.specs.declared.entry.Entry.{Entry}
@@ -23,15 +20,6 @@ IsLegal base entries = map (λ entry. entry.reply) entries ≡ replies_of (comma
 abbrev pub state_of : State → List Entry → State
 state_of base entries = state_after (commands_of entries) base
 
--- what changed nothing is not recorded: a query's snapshot, a refusal, a lock not granted or not held, a signal aborted before
-abbrev pub is_recorded : Reply → Bool
-is_recorded (reply.Seen snapshot) = false
-is_recorded (reply.Refused refusal) = false
-is_recorded (reply.Took NotGranted) = false
-is_recorded (reply.Released NotHeld) = false
-is_recorded (reply.Aborted AlreadyAborted) = false
-is_recorded answer = true
-
 -- what a book adds for a command and its reply
 abbrev pub recorded : Command → Reply → List Entry
 recorded asked answer = if is_recorded answer then record { command = asked; reply = answer } ∷ [] else []
@@ -42,7 +30,7 @@ pub record IsFirstIllegal (base : State) (entries : List Entry) (place : ℕ) : 
   pub before : IsLegal base (take place entries)
   pub there : IsLegal base (take (place + 1) entries) → ⊥
 
--- what a fault of an audit says
+-- what a fault of an audit says of the entries
 abbrev pub Explains : State → List Entry → AuditFault → Type 0
 Explains base entries (Illegal place) = IsFirstIllegal base entries place
 Explains base entries Memory = Unit {0}

@@ -83,8 +83,8 @@ fn a_wrong_reply_is_found_in_its_place(rt: HostRuntime) -> Result<(), Fail> {
     let alloc = rt.alloc();
     let base: PlainCore = opening(alloc);
     let mut entries = one_lock(alloc)?.cut()?;
-    let not_held = Reply::Released(ReleaseAnswer::NotHeld);
-    entries[3].reply = not_held;
+    assert_eq!(rt; entries.len(), 4);
+    entries[3].reply = Reply::Released(ReleaseAnswer::NotHeld);
     assert_eq!(rt; audit(&base, &entries), Err(AuditFault::Illegal(3)));
     entries[0].reply = Reply::Agent(2);
     assert_eq!(rt; audit(&base, &entries), Err(AuditFault::Illegal(0)));
@@ -120,19 +120,6 @@ fn a_set_that_changes_nothing_is_recorded(rt: HostRuntime) -> Result<(), Fail> {
 }
 
 #[test]
-fn a_refused_call_leaves_no_changes(rt: HostRuntime) -> Result<(), Fail> {
-    let alloc = rt.alloc();
-    let mut book: Book<PlainCore> = opening(alloc);
-    assert_eq!(rt; book.open(Kind::Window)?, 1);
-    assert_eq!(rt; book.request(1, &ask(alloc, None)?)?, 1);
-    assert_eq!(rt; book.changes().len(), 1);
-    assert!(rt; book.request(1, &ask(alloc, Some(1))?) == Err(Refusal::NoSuchSignal));
-    assert_eq!(rt; book.changes().len(), 0);
-    assert_eq!(rt; book.len(), 2);
-    Ok(())
-}
-
-#[test]
 fn a_sight_tells_how_much_was_recorded(rt: HostRuntime) -> Result<(), Fail> {
     let mut book: Book<PlainCore> = opening(rt.alloc());
     assert_eq!(rt; book.open(Kind::Window)?, 1);
@@ -140,6 +127,15 @@ fn a_sight_tells_how_much_was_recorded(rt: HostRuntime) -> Result<(), Fail> {
     assert_eq!(rt; sight.seen, 1);
     assert_eq!(rt; sight.snapshot.held.as_slice().len(), 0);
     assert_eq!(rt; sight.snapshot.pending.as_slice().len(), 0);
+    Ok(())
+}
+
+#[test]
+fn faults_have_texts(rt: HostRuntime) -> Result<(), Fail> {
+    let line = format!(in rt.alloc(); "{}", AuditFault::Illegal(3))?;
+    assert_eq!(rt; line.as_str(), "entry 3 is illegal");
+    let line = format!(in rt.alloc(); "{}", AuditFault::Memory)?;
+    assert_eq!(rt; line.as_str(), "out of memory");
     Ok(())
 }
 

@@ -2,3 +2,4 @@ pub mod Pieces
 pub mod Ends
 pub mod AtOnce
 pub mod Scripts
+pub mod Audits

@@ -5,3 +5,4 @@ pub mod Faults
 pub mod Leaves
 pub mod Progress
 pub mod Laws
+pub mod Audits

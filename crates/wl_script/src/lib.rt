@@ -5,6 +5,7 @@
 #![tactic(auto)]
 
 mod answerer;
+mod auditing;
 mod fault;
 mod feeding;
 pub mod laws;
@@ -17,6 +18,7 @@ mod streams;
 mod tests;
 
 pub use answerer::Answerer;
+pub use auditing::audit;
 pub use fault::ScriptFault;
 pub use limits::Limits;
 pub use running::{run, run_lines, run_with};

@@ -11,7 +11,7 @@ ghost use Rattle.wl_world.specs.World.{next};
 use crate::{Answerer, Failed, Output, ScriptFault};
 
 /// Writes all of the bytes.
-fn write_all<W: Output>(writer: &mut W, bytes: &[u8]) -> Result<(), Failed>
+pub fn write_all<W: Output>(writer: &mut W, bytes: &[u8]) -> Result<(), Failed>
     ensures ok { OnOk result (Appends (W.held writer.old) (W.held writer.new) bytes.now) }
     // Some of the bytes were taken, but not all.
     ensures err { OnErr result ((part more : List ℕ) × (0 < length more) × (bytes.now ≡ part ++ more)

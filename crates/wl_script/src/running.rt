@@ -21,6 +21,12 @@ use wl_world::Engine;
 /// The bytes of one read.
 const READ: usize = 65_536;
 
+/// The limits of a script that names none.
+pub const LIMITS: Limits = Limits {
+    line: 65_536,
+    turns: 4_294_967_296,
+};
+
 /// Answers a last line that has no LF, if there is one, and says how many lines were answered in all.
 fn finish<A: Answerer, W: Output>(
     answerer: &mut A,
@@ -160,11 +166,7 @@ pub fn run<R: Input, W: Output>(
     ensures turns { IsTooManyTurns result → GrewBy (R.reads reader.old) (R.reads reader.new) 4294967296
         × GaveBytes (R.rest reader.old) (R.rest reader.new) 4294967296 }
 {
-    let limits = Limits {
-        line: 65_536,
-        turns: 4_294_967_296,
-    };
-    run_with(alloc, reader, writer, limits)
+    run_with(alloc, reader, writer, LIMITS)
 }
 
 /// Room for one read.

@@ -1,5 +1,6 @@
-//! What a run writes, for any pieces of input, and what each fault leaves.
+//! What runs and audits write, for any pieces of input, and what each fault leaves.
 
+mod audits;
 mod fakes;
 mod faults;
 mod growth;

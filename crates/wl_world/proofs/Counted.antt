@@ -19,8 +19,8 @@ use Rattle.wl_session.specs.Told.{IsByNumber, Look}
 use Rattle.wl_world.specs.declared.requests.Request.{Request}
 use Rattle.wl_types.specs.declared.answers.TakeAnswer.TheVariants as took
 use Rattle.std.proofs.Common.{map}
-use Rattle.wl_world.specs.Requests.{IsRising, listed, news_of, told, without}
-use Rattle.wl_world.specs.Origins.{Origin, Acted, act, as_taken, is_granted, outcome_of, stepped, take_look}
+use Rattle.wl_world.specs.Requests.{IsRising, listed, news_of, told}
+use Rattle.wl_world.specs.Origins.{Core, Origin, Acted, act, after, is_granted, outcome_of, stepped, take_look}
 use Rattle.wl_world.specs.Views.{made}
 use Rattle.wl_world.proofs.Rising.{added, filtered, higher, news_rising, noted_rising, told_rising}
 
@@ -86,12 +86,12 @@ listed_rising (reply.Refused x) b agent low high requests le r = higher 0 low hi
 
 -- an origin whose requests are in order
 abbrev pub InOrder : Origin → Type 0
-InOrder o = IsRising 0 o.state.next.request o.requests
+InOrder o = IsRising 0 o.core.state.next.request o.requests
 
 stepped_in_order : (o : Origin) (agent : ℕ) (b : Body) (c : Command) → InOrder o → InOrder (stepped o agent b c).origin
 stepped_in_order o agent b c r =
-    unfold stepped in noted_rising 0 (machine.step o.state c).state.next.request (machine.step o.state c).changes (listed agent (outcome_of b (machine.step o.state c).reply) o.requests)
-    (listed_rising (machine.step o.state c).reply b agent o.state.next.request (machine.step o.state c).state.next.request o.requests (step_counted o.state c) r)
+    unfold stepped in noted_rising 0 (machine.step o.core.state c).state.next.request (machine.step o.core.state c).changes (listed agent (outcome_of b (machine.step o.core.state c).reply) o.requests)
+    (listed_rising (machine.step o.core.state c).reply b agent o.core.state.next.request (machine.step o.core.state c).state.next.request o.requests (step_counted o.core.state c) r)
 
 act_in_order : (o : Origin) (agent : ℕ) (b : Body) → InOrder o → InOrder (act o agent b).origin
 act_in_order o agent (body.Enter url kind) r = r
@@ -105,42 +105,42 @@ act_in_order o agent body.Poll r = r
 act_in_order o agent body.Close r = stepped_in_order o agent body.Close _ r
 
 result_in_order : (result : Result Outcome memory.Memory) (o : Origin) (a : Acted) → is_err result ≡ false
-    → IfOk result (λ outcome. made o.state o.requests outcome ≡ a) → InOrder a.origin → InOrder o
+    → IfOk result (λ outcome. made o.core o.requests outcome ≡ a) → InOrder a.origin → InOrder o
 result_in_order (Err e) o a ok is r = absurd cc
 result_in_order (Ok outcome) o a ok is r = subst (λ (x : Acted). InOrder x.origin) (sym is) r
 
 -- what was done keeps the order
 pub acted_in_order : (result : Result Outcome memory.Memory) (old new : Origin) (agent : ℕ) (b : Body) → is_err result ≡ false
-    → IfOk result (λ outcome. made new.state new.requests outcome ≡ act old agent b) → InOrder old → InOrder new
+    → IfOk result (λ outcome. made new.core new.requests outcome ≡ act old agent b) → InOrder old → InOrder new
 acted_in_order result old new agent b ok is r = result_in_order result new (act old agent b) ok is (act_in_order old agent b r)
 
 pub entered_in_order : (result : Result Outcome memory.Memory) (old new : Origin) (agent : ℕ) (b : Body) (c : Command) → is_err result ≡ false
-    → IfOk result (λ outcome. made new.state new.requests outcome ≡ stepped old agent b c) → InOrder old → InOrder new
+    → IfOk result (λ outcome. made new.core new.requests outcome ≡ stepped old agent b c) → InOrder old → InOrder new
 entered_in_order result old new agent b c ok is r = result_in_order result new (stepped old agent b c) ok is (stepped_in_order old agent b c r)
 
 -- a take numbers nothing
-take_next : (s : State) (look : Look) → (take_look s look).next ≡ s.next
-take_next s look = granted (is_granted look.1)
+take_next : (core : Core) (look : Look) → (take_look core look).state.next ≡ core.state.next
+take_next core look = granted (is_granted look.1)
   where
-    untaken : (c : Bool) → (if c then machine.no_changes (record s { held = map (machine.with_taken look.0) s.held }) (reply.Took took.Taken) else machine.no_changes s (reply.Took took.NotGranted)).state.next ≡ s.next
+    untaken : (c : Bool) → (if c then machine.no_changes (record core.state { held = map (machine.with_taken look.0) core.state.held }) (reply.Took took.Taken) else machine.no_changes core.state (reply.Took took.NotGranted)).state.next ≡ core.state.next
     untaken true = refl
     untaken false = refl
 
-    granted : (c : Bool) → (if c then (machine.step s (command.Take look.0)).state else s).next ≡ s.next
-    granted true = untaken (list_any (machine.is_untaken look.0) s.held)
+    granted : (c : Bool) → (if c then after core (machine.step core.state (command.Take look.0)) else core).state.next ≡ core.state.next
+    granted true = untaken (list_any (machine.is_untaken look.0) core.state.held)
     granted false = refl
 
-takes_next : (s : State) (looks : List Look) → (fold take_look s looks).next ≡ s.next
-takes_next s [] = refl
-takes_next s (look ∷ looks) = takes_next (take_look s look) looks ∙ take_next s look
+takes_next : (core : Core) (looks : List Look) → (fold take_look core looks).state.next ≡ core.state.next
+takes_next core [] = refl
+takes_next core (look ∷ looks) = takes_next (take_look core look) looks ∙ take_next core look
 
 pub news_in_order : {A E : Type 0} (items : A → List Look) (result : Result A E) (agent high : ℕ) (requests given : List Request) → given ≡ requests → IsRising 0 high requests
     → IfOk result (λ found. items found ≡ news_of agent given) → IfOk result (λ found. IsByNumber (items found))
 news_in_order items (Err e) agent high requests given same r is = tt
 news_in_order items (Ok found) agent high requests given same r is = subst IsByNumber (sym (is ∙ ap (news_of agent) same)) (news_rising agent 0 high requests r)
 
-pub told_in_order : (agent : ℕ) (s t : State) (looks : List Look) (old new : List Request) → t ≡ fold take_look s looks → new ≡ told agent old
-    → IsRising 0 s.next.request old → IsRising 0 t.next.request new
+pub told_in_order : (agent : ℕ) (s t : Core) (looks : List Look) (old new : List Request) → t ≡ fold take_look s looks → new ≡ told agent old
+    → IsRising 0 s.state.next.request old → IsRising 0 t.state.next.request new
 told_in_order agent s t looks old new is mark r =
-    subst (λ (n : Numbers). IsRising 0 n.request new) (sym (ap (λ (s : State). s.next) is ∙ takes_next s looks))
-    (subst (IsRising 0 s.next.request) (sym mark) (told_rising agent 0 s.next.request old r))
+    subst (λ (n : Numbers). IsRising 0 n.request new) (sym (ap (λ (core : Core). core.state.next) is ∙ takes_next s looks))
+    (subst (IsRising 0 s.state.next.request) (sym mark) (told_rising agent 0 s.state.next.request old r))

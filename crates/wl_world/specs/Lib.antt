@@ -6,4 +6,5 @@ pub mod Labels
 pub mod World
 pub mod Realms
 pub mod Worlds
+pub mod Cores
 pub mod Isolation

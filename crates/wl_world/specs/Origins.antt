@@ -1,10 +1,11 @@
 -- The manager of one origin, and what an agent's operation makes of it (own; the operations are Web Locks').
-use Rattle.std.specs.Prelude.{ℕ, List, [], map, Some, if◌then◌else◌, Bool, true, false}
+use Rattle.std.specs.Prelude.{ℕ, List, [], Option, Some, if◌then◌else◌, Bool, true, false}
 use Rattle.std.specs.List.{fold}
 use Rattle.wl_types.specs.declared.phases.Numbers.{Numbers}
 use Rattle.wl_types.specs.declared.phases.Phase.{Phase}
 use Rattle.wl_types.specs.declared.phases.Phase.TheVariants.{Pending, Granted, Taken, Unavailable, Aborted, Released, Stolen}
 use Rattle.wl_machine.specs.State.{State, opening}
+use Rattle.wl_machine.specs.Recorded.{with_entry}
 use Rattle.wl_machine.specs.Step as machine
 use Rattle.wl_machine.specs.declared.command.Command.{Command}
 use Rattle.wl_machine.specs.declared.command.Command.TheVariants as command
@@ -18,16 +19,21 @@ use Rattle.wl_session.specs.Told.{Look}
 use Rattle.wl_world.specs.declared.requests.Request.{Request}
 use Rattle.wl_world.specs.Requests.{noted, listed, told}
 
--- the machine's state, and the requests whose ends were not told
-pub record Origin : Type 0 where
+-- what is seen of a core: the machine's state, and how many entries its journal has had, where it keeps one
+pub record Core : Type 0 where
   pub state : State
+  pub entries : Option ℕ
+
+-- a core, and the requests whose ends were not told
+pub record Origin : Type 0 where
+  pub core : Core
   pub requests : List Request
 
 abbrev pub ones : Numbers
 ones = record { agent = 1; request = 1; signal = 1 }
 
-abbrev pub unused : Origin
-unused = record { state = opening ones; requests = [] }
+abbrev pub unused : Option ℕ → Origin
+unused entries = record { core = record { state = opening ones; entries = entries }; requests = [] }
 
 -- an origin after an operation, and what the operation answers
 pub record Acted : Type 0 where
@@ -51,16 +57,20 @@ outcome_of b reply.Done = done b
 outcome_of b (reply.Seen snapshot) = outcome.Seen snapshot
 outcome_of b (reply.Refused refusal) = outcome.Refused refusal
 
+-- a core after what the machine gave
+abbrev pub after : Core → machine.Outcome → Core
+after core gives = record { state = gives.state; entries = with_entry gives.reply core.entries }
+
 -- what the machine gave is noted
 abbrev pub noting : Origin → ℕ → Body → machine.Outcome → Acted
 noting o agent b gives = record {
-  origin = record { state = gives.state; requests = noted gives.changes (listed agent (outcome_of b gives.reply) o.requests) };
+  origin = record { core = after o.core gives; requests = noted gives.changes (listed agent (outcome_of b gives.reply) o.requests) };
   outcome = outcome_of b gives.reply;
 }
 
 -- the machine's step
 unfoldable pub stepped : Origin → ℕ → Body → Command → Acted
-stepped o agent b c = noting o agent b (machine.step o.state c)
+stepped o agent b c = noting o agent b (machine.step o.core.state c)
 
 -- what an agent's operation makes of its origin; `poll` has no step
 abbrev pub act : Origin → ℕ → Body → Acted
@@ -84,12 +94,12 @@ is_granted Released = false
 is_granted Stolen = false
 
 -- a lock that is granted is taken, as its agent is told of it now
-abbrev pub take_look : State → Look → State
-take_look s look = if is_granted look.1 then (machine.step s (command.Take look.0)).state else s
+abbrev pub take_look : Core → Look → Core
+take_look core look = if is_granted look.1 then after core (machine.step core.state (command.Take look.0)) else core
 
 abbrev pub as_taken : Look → Look
 as_taken look = (look.0, (if is_granted look.1 then Taken else look.1))
 
 -- The agent is told its news: each granted lock in it is taken, in order of number.
 unfoldable pub telling : ℕ → List Look → Origin → Origin
-telling agent news o = record { state = fold take_look o.state news; requests = told agent o.requests }
+telling agent news o = record { core = fold take_look o.core news; requests = told agent o.requests }

@@ -1,20 +1,23 @@
 -- What the code's values stand for.
 use Rattle.wl_world.specs.declared.requests.Request.{Request}
-use Rattle.std.specs.Prelude.{◌≡◌, List, Result, Ok, Err}
+use Rattle.std.specs.Prelude.{◌≡◌, ℕ, List, Option, Result, Ok, Err}
 use Rattle.wl_types.specs.declared.refusal.Refusal.{Refusal}
 use Rattle.wl_types.specs.declared.refusal.Refusal.TheVariants.{Memory}
 use Rattle.wl_types.specs.declared.memory.Memory as memory
 use Rattle.wl_codec.specs.declared.reply.Outcome.TheVariants as outcome
 use Rattle.wl_machine.specs.State.{State}
-use Rattle.wl_world.specs.Origins.{Origin, Acted}
+use Rattle.wl_world.specs.Origins.{Core, Origin, Acted}
 use Rattle.wl_codec.specs.declared.reply.Outcome.{Outcome}
 
-abbrev pub origin : State → List Request → Origin
-origin state requests = record { state = state; requests = requests }
+abbrev pub core : State → Option ℕ → Core
+core state entries = record { state = state; entries = entries }
+
+abbrev pub origin : Core → List Request → Origin
+origin core requests = record { core = core; requests = requests }
 
 -- an origin of these parts, and an outcome
-abbrev pub made : State → List Request → Outcome → Acted
-made state requests outcome = record { origin = origin state requests; outcome = outcome }
+abbrev pub made : Core → List Request → Outcome → Acted
+made core requests outcome = record { origin = origin core requests; outcome = outcome }
 
 abbrev pub made_of : Origin → Outcome → Acted
 made_of o outcome = record { origin = o; outcome = outcome }

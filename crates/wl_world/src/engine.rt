@@ -1,9 +1,11 @@
 //! What answers the lines of a script.
 
 ghost use Rattle.std.specs.Prelude.{◌≡◌, IfOk, OnOk, string_bytes};
-ghost use Rattle.wl_world.specs.World.{next, opening, reply};
+ghost use Rattle.wl_world.specs.Cores.{AreCoresOf, listed};
+ghost use Rattle.wl_world.specs.World.{next, opening_with, reply};
 ghost use Rattle.wl_world.specs.Worlds.{world_of};
 
+use crate::cores::take_cores;
 use crate::label::Label;
 use crate::labels::serve_named;
 use crate::origin::Origin;
@@ -27,7 +29,7 @@ pub struct Engine<C: LockCore> {
 impl<C: LockCore<Seed = ()>> Engine<C> {
     /// A world in which nobody has opened.
     pub fn new(alloc: Global) -> Engine<C>
-        ensures { world_of result ≡ opening }
+        ensures { world_of C.no_entries result ≡ opening_with C.no_entries }
     {
         Engine {
             alloc,
@@ -40,8 +42,8 @@ impl<C: LockCore<Seed = ()>> Engine<C> {
     /// promises nothing more.
     #[tactic(auto, unfolding(crate::specs::World::answered, crate::specs::World::next, crate::specs::World::reply))]
     pub fn answer(&mut self, line: &[u8]) -> Result<String, Memory>
-        ensures reply { IfOk result (λ text. string_bytes text ≡ reply (world_of self.old) line.now) }
-        ensures next { OnOk result (world_of self.new ≡ next (world_of self.old) line.now) }
+        ensures reply { IfOk result (λ text. string_bytes text ≡ reply (world_of C.no_entries self.old) line.now) }
+        ensures next { OnOk result (world_of C.no_entries self.new ≡ next (world_of C.no_entries self.old) line.now) }
     {
         match read_line(self.alloc, line)? {
             Line::Bad(id, fault) => plain_text(self.alloc, id, Outcome::Fault(fault)),
@@ -54,5 +56,12 @@ impl<C: LockCore<Seed = ()>> Engine<C> {
                 &message.body,
             ),
         }
+    }
+
+    /// The cores of the origins that agents entered, in the order of their keys.
+    pub fn into_cores(self) -> Result<Vec<(OriginKey, C)>, Memory>
+        ensures { IfOk result (λ cores. AreCoresOf C.no_entries (world_of C.no_entries self) (listed C.state C.entries cores.items)) }
+    {
+        take_cores(self.alloc, self.realm)
     }
 }

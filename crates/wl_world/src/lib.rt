@@ -1,6 +1,7 @@
 //! The world of a script: the managers of all origins, and what each label is.
 #![tactic(auto)]
 
+mod cores;
 mod engine;
 mod label;
 mod labels;

@@ -52,11 +52,11 @@ fn open_label<C: LockCore<Seed = ()>>(
     body: &Body,
 ) -> Result<Opening, Memory>
     ensures text { IfOk result (λ opening. string_bytes opening.text
-        ≡ reply_text (opened (realm_of realm.old) id body.now kind (standing_of url.now)).reply) }
+        ≡ reply_text (opened (realm_of C.no_entries realm.old) id body.now kind (standing_of url.now)).reply) }
     ensures label { IfOk result (λ opening. opening.label
-        ≡ (opened (realm_of realm.old) id body.now kind (standing_of url.now)).label) }
-    ensures realm { OnOk result (realm_of realm.new
-        ≡ (opened (realm_of realm.old) id body.now kind (standing_of url.now)).realm) }
+        ≡ (opened (realm_of C.no_entries realm.old) id body.now kind (standing_of url.now)).label) }
+    ensures realm { OnOk result (realm_of C.no_entries realm.new
+        ≡ (opened (realm_of C.no_entries realm.old) id body.now kind (standing_of url.now)).realm) }
 {
     match key_of(alloc, url) {
         Ok(Standing::Tuple(key)) => {
@@ -83,11 +83,11 @@ pub(crate) fn serve_unopened<C: LockCore<Seed = ()>>(
     body: &Body,
 ) -> Result<Opening, Memory>
     ensures text { IfOk result (λ opening. string_bytes opening.text
-        ≡ reply_text (from_unopened (realm_of realm.old) id body.now).reply) }
+        ≡ reply_text (from_unopened (realm_of C.no_entries realm.old) id body.now).reply) }
     ensures label { IfOk result (λ opening. opening.label
-        ≡ (from_unopened (realm_of realm.old) id body.now).label) }
-    ensures realm { OnOk result (realm_of realm.new
-        ≡ (from_unopened (realm_of realm.old) id body.now).realm) }
+        ≡ (from_unopened (realm_of C.no_entries realm.old) id body.now).label) }
+    ensures realm { OnOk result (realm_of C.no_entries realm.new
+        ≡ (from_unopened (realm_of C.no_entries realm.old) id body.now).realm) }
 {
     match body {
         Body::Enter { url, kind } => open_label(alloc, realm, id, url.as_str(), *kind, body),

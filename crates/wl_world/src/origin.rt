@@ -6,7 +6,7 @@ ghost use Rattle.wl_machine.specs.declared.command.Command.TheVariants as comman
 ghost use Rattle.wl_session.specs.Told.{IsByNumber};
 ghost use Rattle.wl_world.specs.Origins.{act, as_taken, is_granted, stepped, take_look, telling, unused};
 ghost use Rattle.wl_world.specs.Requests.{news_of};
-ghost use Rattle.wl_world.specs.Views.{made_of};
+ghost use Rattle.wl_world.specs.Views.{core as seen, made_of};
 
 use crate::requests::Requests;
 use crate::steps::{act, enter};
@@ -29,7 +29,7 @@ impl<C: LockCore> Model for Origin<C> {
 
     ghost Value = { origins.Origin };
 
-    ghost view = { λ o. record { state = C.state o.core; requests = o.requests } };
+    ghost view = { λ o. record { core = record { state = C.state o.core; entries = C.entries o.core }; requests = o.requests } };
 
     // Each request is older than the next, and all are older than the one to come.
     ghost invariant = { λ o. IsRising 0 (C.state o.core).next.request o.requests };
@@ -37,7 +37,7 @@ impl<C: LockCore> Model for Origin<C> {
 
 impl<C: LockCore<Seed = ()>> Origin<C> {
     pub(crate) fn new(alloc: Global) -> Origin<C>
-        ensures { result ≡ unused }
+        ensures { result ≡ unused C.no_entries }
     {
         let next = Numbers {
             agent: 1,
@@ -52,6 +52,13 @@ impl<C: LockCore<Seed = ()>> Origin<C> {
 }
 
 impl<C: LockCore> Origin<C> {
+    /// The core alone.
+    pub(crate) fn into_core(self) -> C
+        ensures { seen (C.state result) (C.entries result) ≡ self.core }
+    {
+        self.core
+    }
+
     /// A new agent, which the machine numbers.
     pub(crate) fn enter(&mut self, kind: Kind, body: &Body) -> Result<Outcome, Memory>
         ensures { IfOk result (λ outcome. made_of self.new outcome ≡ stepped self.old 0 body.now (command.Enter kind)) }
@@ -97,7 +104,7 @@ impl<C: LockCore> Origin<C> {
 
 /// Takes each lock that is granted, in order.
 fn take_all<C: LockCore>(core: &mut C, news: &mut [(u64, Phase)])
-    ensures state { C.state core.new ≡ fold take_look (C.state core.old) news.old }
+    ensures core { seen (C.state core.new) (C.entries core.new) ≡ fold take_look (seen (C.state core.old) (C.entries core.old)) news.old }
     ensures taken { news.new ≡ map as_taken news.old }
 {
     for look in news.iter_mut() {
@@ -106,7 +113,7 @@ fn take_all<C: LockCore>(core: &mut C, news: &mut [(u64, Phase)])
 }
 
 fn take_one<C: LockCore>(core: &mut C, look: &mut (u64, Phase))
-    ensures state { C.state core.new ≡ take_look (C.state core.old) look.old }
+    ensures core { seen (C.state core.new) (C.entries core.new) ≡ take_look (seen (C.state core.old) (C.entries core.old)) look.old }
     ensures taken { look.new ≡ as_taken look.old }
 {
     if is_granted(look.1) {

@@ -27,7 +27,7 @@ fn seat<C: LockCore<Seed = ()>>(
     key: &OriginKey,
 ) -> Result<(), Memory>
     ensures seated { OnOk result (IsSome (get tuple_cmp realm.new key.now)) }
-    ensures same { OnOk result (realm_of realm.new ≡ realm_of realm.old) }
+    ensures same { OnOk result (realm_of C.no_entries realm.new ≡ realm_of C.no_entries realm.old) }
 {
     if realm.contains_key(key) {
         return Ok(());
@@ -48,13 +48,13 @@ pub(crate) fn serve_at<C: LockCore<Seed = ()>>(
     body: &Body,
 ) -> Result<Answer, Memory>
     ensures text { IfOk result (λ answer. string_bytes answer.text
-        ≡ reply_text (served (realm_of realm.old key.now) agent session.old id body.now).reply) }
+        ≡ reply_text (served (realm_of C.no_entries realm.old key.now) agent session.old id body.now).reply) }
     ensures closed { IfOk result (λ answer. answer.closed
-        ≡ closes (served (realm_of realm.old key.now) agent session.old id body.now).outcome) }
-    ensures realm { OnOk result (realm_of realm.new ≡ with_origin (realm_of realm.old) key.now
-        (served (realm_of realm.old key.now) agent session.old id body.now).origin) }
+        ≡ closes (served (realm_of C.no_entries realm.old key.now) agent session.old id body.now).outcome) }
+    ensures realm { OnOk result (realm_of C.no_entries realm.new ≡ with_origin (realm_of C.no_entries realm.old) key.now
+        (served (realm_of C.no_entries realm.old key.now) agent session.old id body.now).origin) }
     ensures session { OnOk result (session.new
-        ≡ (served (realm_of realm.old key.now) agent session.old id body.now).session) }
+        ≡ (served (realm_of C.no_entries realm.old key.now) agent session.old id body.now).session) }
 {
     seat(alloc, realm, key)?;
     match realm.get_mut(key) {
@@ -71,9 +71,9 @@ pub(crate) fn enter_at<C: LockCore<Seed = ()>>(
     kind: Kind,
     body: &Body,
 ) -> Result<Outcome, Memory>
-    ensures outcome { IfOk result (λ outcome. outcome ≡ (stepped (realm_of realm.old key.now) 0 body.now (command.Enter kind)).outcome) }
-    ensures realm { OnOk result (realm_of realm.new ≡ with_origin (realm_of realm.old) key.now
-        (stepped (realm_of realm.old key.now) 0 body.now (command.Enter kind)).origin) }
+    ensures outcome { IfOk result (λ outcome. outcome ≡ (stepped (realm_of C.no_entries realm.old key.now) 0 body.now (command.Enter kind)).outcome) }
+    ensures realm { OnOk result (realm_of C.no_entries realm.new ≡ with_origin (realm_of C.no_entries realm.old) key.now
+        (stepped (realm_of C.no_entries realm.old key.now) 0 body.now (command.Enter kind)).origin) }
 {
     seat(alloc, realm, key)?;
     match realm.get_mut(key) {

@@ -4,7 +4,7 @@ ghost use Rattle.std.specs.Prelude.{◌≡◌, IfOk, OnOk};
 ghost use Rattle.wl_machine.specs.declared.command.Command.TheVariants as command;
 ghost use Rattle.wl_world.specs.Origins.{act, stepped};
 ghost use Rattle.wl_world.specs.Requests.{noted, listed};
-ghost use Rattle.wl_world.specs.Views.{made, origin, Told};
+ghost use Rattle.wl_world.specs.Views.{core as seen, made, origin, Told};
 
 use crate::requests::Requests;
 use wl_codec::{Body, Outcome};
@@ -28,7 +28,7 @@ fn accept<C: LockCore>(
     agent: u64,
     outcome: Outcome,
 ) -> Result<Outcome, Memory>
-    ensures { IfOk result (λ same. made (C.state core.now) requests.new same ≡ made (C.state core.now)
+    ensures { IfOk result (λ same. made (seen (C.state core.now) (C.entries core.now)) requests.new same ≡ made (seen (C.state core.now) (C.entries core.now))
         (noted (C.recent core.now) (listed agent outcome requests.old)) outcome) }
 {
     match &outcome {
@@ -41,8 +41,8 @@ fn accept<C: LockCore>(
 }
 
 fn signal<C: LockCore>(core: &mut C, requests: &mut Requests, agent: u64) -> Result<Outcome, Memory>
-    ensures { IfOk result (λ outcome. made (C.state core.new) requests.new outcome
-        ≡ stepped (origin (C.state core.old) requests.old) agent Body.Signal (command.NewSignal agent)) }
+    ensures { IfOk result (λ outcome. made (seen (C.state core.new) (C.entries core.new)) requests.new outcome
+        ≡ stepped (origin (seen (C.state core.old) (C.entries core.old)) requests.old) agent Body.Signal (command.NewSignal agent)) }
 {
     match core.new_signal(agent) {
         Ok(signal) => accept(core, requests, agent, Outcome::Signal(signal)),
@@ -56,8 +56,8 @@ fn request<C: LockCore>(
     agent: u64,
     ask: &Ask,
 ) -> Result<Outcome, Memory>
-    ensures { IfOk result (λ outcome. made (C.state core.new) requests.new outcome
-        ≡ stepped (origin (C.state core.old) requests.old) agent (Body.Request ask.now) (command.Request agent ask.now)) }
+    ensures { IfOk result (λ outcome. made (seen (C.state core.new) (C.entries core.new)) requests.new outcome
+        ≡ stepped (origin (seen (C.state core.old) (C.entries core.old)) requests.old) agent (Body.Request ask.now) (command.Request agent ask.now)) }
 {
     match core.request(agent, ask) {
         Ok(request) => accept(core, requests, agent, Outcome::Request(request)),
@@ -71,8 +71,8 @@ fn release<C: LockCore>(
     agent: u64,
     id: u64,
 ) -> Result<Outcome, Memory>
-    ensures { IfOk result (λ outcome. made (C.state core.new) requests.new outcome
-        ≡ stepped (origin (C.state core.old) requests.old) agent (Body.Release id) (command.Release agent id)) }
+    ensures { IfOk result (λ outcome. made (seen (C.state core.new) (C.entries core.new)) requests.new outcome
+        ≡ stepped (origin (seen (C.state core.old) (C.entries core.old)) requests.old) agent (Body.Release id) (command.Release agent id)) }
 {
     let answer = core.release(agent, id);
     accept(core, requests, agent, Outcome::Release(answer))
@@ -85,8 +85,8 @@ fn abort<C: LockCore>(
     signal: u64,
     reason: Reason,
 ) -> Result<Outcome, Memory>
-    ensures { IfOk result (λ outcome. made (C.state core.new) requests.new outcome
-        ≡ stepped (origin (C.state core.old) requests.old) agent (Body.Abort signal reason) (command.Abort agent signal reason)) }
+    ensures { IfOk result (λ outcome. made (seen (C.state core.new) (C.entries core.new)) requests.new outcome
+        ≡ stepped (origin (seen (C.state core.old) (C.entries core.old)) requests.old) agent (Body.Abort signal reason) (command.Abort agent signal reason)) }
 {
     match core.abort(agent, signal, reason) {
         Ok(answer) => accept(core, requests, agent, Outcome::Abort(answer)),
@@ -100,8 +100,8 @@ fn set_active<C: LockCore>(
     agent: u64,
     active: bool,
 ) -> Result<Outcome, Memory>
-    ensures { IfOk result (λ outcome. made (C.state core.new) requests.new outcome
-        ≡ stepped (origin (C.state core.old) requests.old) agent (Body.Active active) (command.SetActive agent active)) }
+    ensures { IfOk result (λ outcome. made (seen (C.state core.new) (C.entries core.new)) requests.new outcome
+        ≡ stepped (origin (seen (C.state core.old) (C.entries core.old)) requests.old) agent (Body.Active active) (command.SetActive agent active)) }
 {
     match core.set_active(agent, active) {
         Ok(()) => accept(core, requests, agent, Outcome::Active(active)),
@@ -110,8 +110,8 @@ fn set_active<C: LockCore>(
 }
 
 fn close<C: LockCore>(core: &mut C, requests: &mut Requests, agent: u64) -> Result<Outcome, Memory>
-    ensures { IfOk result (λ outcome. made (C.state core.new) requests.new outcome
-        ≡ stepped (origin (C.state core.old) requests.old) agent Body.Close (command.Terminate agent)) }
+    ensures { IfOk result (λ outcome. made (seen (C.state core.new) (C.entries core.new)) requests.new outcome
+        ≡ stepped (origin (seen (C.state core.old) (C.entries core.old)) requests.old) agent Body.Close (command.Terminate agent)) }
 {
     match core.terminate(agent) {
         Ok(()) => accept(core, requests, agent, Outcome::Closed),
@@ -120,8 +120,8 @@ fn close<C: LockCore>(core: &mut C, requests: &mut Requests, agent: u64) -> Resu
 }
 
 fn query<C: LockCore>(core: &C, requests: &Requests, agent: u64) -> Result<Outcome, Memory>
-    ensures { IfOk result (λ outcome. made (C.state core.now) requests.now outcome
-        ≡ stepped (origin (C.state core.now) requests.now) agent Body.Query (command.Query agent)) }
+    ensures { IfOk result (λ outcome. made (seen (C.state core.now) (C.entries core.now)) requests.now outcome
+        ≡ stepped (origin (seen (C.state core.now) (C.entries core.now)) requests.now) agent Body.Query (command.Query agent)) }
 {
     match core.snapshot(agent) {
         Ok(snapshot) => Ok(Outcome::Seen(snapshot)),
@@ -136,8 +136,8 @@ pub(crate) fn enter<C: LockCore>(
     kind: Kind,
     body: &Body,
 ) -> Result<Outcome, Memory>
-    ensures { IfOk result (λ outcome. made (C.state core.new) requests.new outcome
-        ≡ stepped (origin (C.state core.old) requests.old) 0 body.now (command.Enter kind)) }
+    ensures { IfOk result (λ outcome. made (seen (C.state core.new) (C.entries core.new)) requests.new outcome
+        ≡ stepped (origin (seen (C.state core.old) (C.entries core.old)) requests.old) 0 body.now (command.Enter kind)) }
 {
     match core.open(kind) {
         Ok(agent) => accept(core, requests, 0, Outcome::Client(Some(agent))),
@@ -152,8 +152,8 @@ pub(crate) fn act<C: LockCore>(
     agent: u64,
     body: &Body,
 ) -> Result<Outcome, Memory>
-    ensures { IfOk result (λ outcome. made (C.state core.new) requests.new outcome
-        ≡ act (origin (C.state core.old) requests.old) agent body.now) }
+    ensures { IfOk result (λ outcome. made (seen (C.state core.new) (C.entries core.new)) requests.new outcome
+        ≡ act (origin (seen (C.state core.old) (C.entries core.old)) requests.old) agent body.now) }
 {
     match body {
         Body::Enter { .. } => Ok(Outcome::AlreadyOpen),

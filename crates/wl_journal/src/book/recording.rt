@@ -4,6 +4,7 @@
 ghost use Rattle.std.specs.Prelude.{◌≡◌, [], IfOk, IfErr, OnErr, OnOk, Some};
 ghost use Rattle.wl_types.specs.Refusals.{refused_or_memory};
 ghost use Rattle.wl_machine.specs.State.{opening, AreNumbers};
+ghost use Rattle.wl_machine.specs.Recorded.{with_entry};
 ghost use Rattle.wl_machine.specs.Refusals.{refusal};
 ghost use Rattle.wl_machine.specs.Step.{Gives};
 ghost use Rattle.wl_journal.specs.History.{recorded};
@@ -23,13 +24,17 @@ impl<C: LockCore> LockCore for Book<C> {
 
     ghost recent = { λ b. b.recent };
 
+    ghost entries = { λ b. Some b.total };
+
+    ghost no_entries = { Some 0 };
+
     fn make(alloc: Global, seed: C::Seed, next: Numbers) -> Book<C>
         requires { AreNumbers next }
         ensures state { result.state ≡ opening next }
         ensures recent { result.recent ≡ [] }
         ensures base { result.base ≡ opening next }
-        ensures entries { result.entries ≡ [] }
-        ensures total { result.total ≡ 0 }
+        ensures no_entries { result.entries ≡ [] }
+        ensures entries { Some result.total ≡ Some 0 }
     {
         Book {
             core: C::make(alloc, seed, next),
@@ -48,7 +53,9 @@ impl<C: LockCore> LockCore for Book<C> {
         ensures unchanged { OnErr result (self.new.state ≡ self.old.state) }
         ensures no_changes { OnErr result (self.new.recent ≡ []) }
         ensures added { IfOk result (λ agent. Appends self.old self.new (recorded (Command.Enter kind) (Reply.Agent agent))) }
+        ensures recorded { IfOk result (λ agent. Some self.new.total ≡ with_entry (Reply.Agent agent) (Some self.old.total)) }
         ensures nothing_added { OnErr result (Appends self.old self.new []) }
+        ensures not_recorded { OnErr result (Some self.new.total ≡ Some self.old.total) }
     {
         self.is_quiet = true;
         self.core.may_open()?;
@@ -66,15 +73,19 @@ impl<C: LockCore> LockCore for Book<C> {
     fn take(&mut self, id: u64) -> TakeAnswer
         ensures taken { Gives self.old.state (Command.Take id) self.new.state (Reply.Took result) self.new.recent }
         ensures added { Appends self.old self.new (recorded (Command.Take id) (Reply.Took result)) }
+        ensures recorded { Some self.new.total ≡ with_entry (Reply.Took result) (Some self.old.total) }
     {
         self.is_quiet = false;
         let answer = self.core.take(id);
-        if let TakeAnswer::Taken = answer {
-            self.entries.push_reserved(Entry {
-                command: Command::Take(id),
-                reply: Reply::Took(answer),
-            });
-            self.owed -= 1;
+        match answer {
+            TakeAnswer::Taken => {
+                self.entries.push_reserved(Entry {
+                    command: Command::Take(id),
+                    reply: Reply::Took(answer),
+                });
+                self.owed -= 1;
+            }
+            TakeAnswer::NotGranted => {}
         }
         answer
     }
@@ -82,15 +93,19 @@ impl<C: LockCore> LockCore for Book<C> {
     fn release(&mut self, agent: u64, id: u64) -> ReleaseAnswer
         ensures released { Gives self.old.state (Command.Release agent id) self.new.state (Reply.Released result) self.new.recent }
         ensures added { Appends self.old self.new (recorded (Command.Release agent id) (Reply.Released result)) }
+        ensures recorded { Some self.new.total ≡ with_entry (Reply.Released result) (Some self.old.total) }
     {
         self.is_quiet = false;
         let answer = self.core.release(agent, id);
-        if let ReleaseAnswer::Released = answer {
-            self.entries.push_reserved(Entry {
-                command: Command::Release(agent, id),
-                reply: Reply::Released(answer),
-            });
-            self.owed -= 1;
+        match answer {
+            ReleaseAnswer::Released => {
+                self.entries.push_reserved(Entry {
+                    command: Command::Release(agent, id),
+                    reply: Reply::Released(answer),
+                });
+                self.owed -= 1;
+            }
+            ReleaseAnswer::NotHeld => {}
         }
         answer
     }
@@ -101,7 +116,9 @@ impl<C: LockCore> LockCore for Book<C> {
         ensures unchanged { OnErr result (self.new.state ≡ self.old.state) }
         ensures no_changes { OnErr result (self.new.recent ≡ []) }
         ensures added { IfOk result (λ id. Appends self.old self.new (recorded (Command.Request agent ask.now) (Reply.Request id))) }
+        ensures recorded { IfOk result (λ id. Some self.new.total ≡ with_entry (Reply.Request id) (Some self.old.total)) }
         ensures nothing_added { OnErr result (Appends self.old self.new []) }
+        ensures not_recorded { OnErr result (Some self.new.total ≡ Some self.old.total) }
     {
         self.is_quiet = true;
         self.core.may_request(agent, ask)?;
@@ -125,7 +142,9 @@ impl<C: LockCore> LockCore for Book<C> {
         ensures unchanged { OnErr result (self.new.state ≡ self.old.state) }
         ensures no_changes { OnErr result (self.new.recent ≡ []) }
         ensures added { OnOk result (Appends self.old self.new (recorded (Command.SetActive agent active) Reply.Done)) }
+        ensures recorded { OnOk result (Some self.new.total ≡ with_entry Reply.Done (Some self.old.total)) }
         ensures nothing_added { OnErr result (Appends self.old self.new []) }
+        ensures not_recorded { OnErr result (Some self.new.total ≡ Some self.old.total) }
     {
         self.is_quiet = true;
         self.core.may_set(agent)?;
@@ -145,7 +164,9 @@ impl<C: LockCore> LockCore for Book<C> {
         ensures unchanged { OnErr result (self.new.state ≡ self.old.state) }
         ensures no_changes { OnErr result (self.new.recent ≡ []) }
         ensures added { IfOk result (λ signal. Appends self.old self.new (recorded (Command.NewSignal agent) (Reply.Signal signal))) }
+        ensures recorded { IfOk result (λ signal. Some self.new.total ≡ with_entry (Reply.Signal signal) (Some self.old.total)) }
         ensures nothing_added { OnErr result (Appends self.old self.new []) }
+        ensures not_recorded { OnErr result (Some self.new.total ≡ Some self.old.total) }
     {
         self.is_quiet = true;
         self.core.may_signal(agent)?;
@@ -166,7 +187,9 @@ impl<C: LockCore> LockCore for Book<C> {
         ensures unchanged { OnErr result (self.new.state ≡ self.old.state) }
         ensures no_changes { OnErr result (self.new.recent ≡ []) }
         ensures added { IfOk result (λ answer. Appends self.old self.new (recorded (Command.Abort agent signal reason) (Reply.Aborted answer))) }
+        ensures recorded { IfOk result (λ answer. Some self.new.total ≡ with_entry (Reply.Aborted answer) (Some self.old.total)) }
         ensures nothing_added { OnErr result (Appends self.old self.new []) }
+        ensures not_recorded { OnErr result (Some self.new.total ≡ Some self.old.total) }
     {
         self.is_quiet = false;
         let answer = self.core.abort(agent, signal, reason)?;
@@ -186,7 +209,9 @@ impl<C: LockCore> LockCore for Book<C> {
         ensures unchanged { OnErr result (self.new.state ≡ self.old.state) }
         ensures no_changes { OnErr result (self.new.recent ≡ []) }
         ensures added { OnOk result (Appends self.old self.new (recorded (Command.Terminate agent) Reply.Done)) }
+        ensures recorded { OnOk result (Some self.new.total ≡ with_entry Reply.Done (Some self.old.total)) }
         ensures nothing_added { OnErr result (Appends self.old self.new []) }
+        ensures not_recorded { OnErr result (Some self.new.total ≡ Some self.old.total) }
     {
         self.is_quiet = false;
         self.core.terminate(agent)?;

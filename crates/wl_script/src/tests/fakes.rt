@@ -1,6 +1,6 @@
 //! Readers, writers and an answerer in memory, which fail where they are told to.
 
-ghost use Rattle.std.specs.Prelude.{Some};
+ghost use Rattle.std.specs.Prelude.{None, Some};
 ghost use Rattle.wl_world.specs.Worlds.{world_of};
 
 use crate::{Answerer, Failed, Input, Output};
@@ -166,7 +166,7 @@ pub struct Refusing {
 }
 
 impl Answerer for Refusing {
-    ghost world = { λ s. world_of s.inner };
+    ghost world = { λ s. world_of None s.inner };
 
     fn answer(&mut self, line: &[u8]) -> Result<String, Memory> {
         if self.left == 0 {

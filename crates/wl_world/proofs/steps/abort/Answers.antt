@@ -1,14 +1,14 @@
 use Rattle.wl_machine.specs.declared.command.Command.TheVariants as command
 use Rattle.wl_machine.specs.declared.command.Reply.TheVariants as reply
 use Rattle.wl_codec.specs.declared.message.Body.TheVariants as body
-use Rattle.wl_world.specs.Views.{made, origin}
+use Rattle.wl_world.specs.Views.{core, made, origin}
 use Rattle.wl_world.proofs.Operations.{accepts, refuses, or_memory}
 use Rattle.wl_world.proofs.steps.abort.Goals as goal
 
 pub returns-in-Ok : goal.returns-in-Ok
 returns-in-Ok g c =
-    accepts (origin (g.C.LockCore.state c.args.core.now) c.args.requests.now) c.args.agent (body.Abort c.args.signal c.args.reason) (command.Abort c.args.agent c.args.signal c.args.reason) _ (reply.Aborted c.in-Ok.answer) _ c.accept.result
-    (made (g.C.LockCore.state c.abort.new.self) c.accept.new.requests) c.in-Ok.ensures.aborted c.accept.ensures
+    accepts (origin (core (g.C.LockCore.state c.args.core.now) (g.C.LockCore.entries c.args.core.now)) c.args.requests.now) c.args.agent (body.Abort c.args.signal c.args.reason) (command.Abort c.args.agent c.args.signal c.args.reason) _ _ (reply.Aborted c.in-Ok.answer) _ c.accept.result
+    (made (core (g.C.LockCore.state c.abort.new.self) (g.C.LockCore.entries c.abort.new.self)) c.accept.new.requests) c.in-Ok.ensures.aborted c.in-Ok.ensures.recorded c.accept.ensures
 
 pub returns-in-Err : goal.returns-in-Err
-returns-in-Err g c = refuses _ _ _ _ _ _ _ (or_memory _ _ c.in-Err.ensures.refused) c.in-Err.ensures.unchanged c.refused.ensures
+returns-in-Err g c = refuses _ _ _ _ _ _ _ _ (or_memory _ _ c.in-Err.ensures.refused) c.in-Err.ensures.unchanged c.in-Err.ensures.not_recorded c.refused.ensures

@@ -1,0 +1,141 @@
+//! Audits a script: runs it over books, and says for each origin whether its journal is legal.
+
+ghost use Rattle.std.specs.Prelude.{◌≡◌, ◌+◌, ◌<◌, ◌≤◌, ◌^◌, true, Some, None, All, length, IfOk, IfErr, IfSome, OnOk, string_bytes};
+ghost use Rattle.std.specs.Io.KnownBytes.{Appends};
+ghost use Rattle.serde_json.specs.View.{view};
+ghost use Rattle.wl_script.specs.Audits.{Audited, LeavesAudit, LeavesOrigins, IsUnwritten, WritesNext, WritesOrigins, all_seen, audit_line, audit_value, recording, seen};
+ghost use Rattle.wl_script.specs.Faults.{is_read, is_write, IsTooManyTurns};
+ghost use Rattle.wl_script.specs.Leaves.{AnswersAtOnce, GaveBytes};
+ghost use Rattle.wl_script.specs.Lines.{lines};
+ghost use Rattle.wl_script.specs.Streams.{Counts, GrewBy, GrewAtMostBy};
+ghost use Rattle.wl_script.specs.Transcript.{after};
+
+use crate::replying::write_all;
+use crate::running::{LIMITS, run_lines};
+use crate::{Failed, Input, Output, ScriptFault};
+use serde_json::{Value, json};
+use std::alloc::Global;
+use wl_core::PlainCore;
+use wl_journal::{AuditFault, Book};
+use wl_origin::OriginKey;
+use wl_types::Memory;
+use wl_world::Engine;
+
+/// Takes the replies of a script, and keeps none.
+#[derive(Drop)]
+struct Sink;
+
+impl Output for Sink {
+    ghost held = { λ s. None };
+
+    ghost failures = { λ s. 0 };
+
+    fn write(&mut self, piece: &[u8]) -> Result<usize, Failed> {
+        Ok(piece.len())
+    }
+}
+
+/// Whether the book's entries are legal. They always are: the book's type says so.
+fn is_legal(book: &Book<PlainCore>) -> Result<bool, Memory>
+    ensures { IfOk result (λ legal. legal ≡ true) }
+{
+    match wl_journal::audit(book.base(), book.entries()) {
+        Ok(()) => Ok(true),
+        Err(AuditFault::Illegal(_)) => Ok(false),
+        Err(AuditFault::Memory) => Err(Memory),
+    }
+}
+
+/// The JSON value of an origin's line.
+fn value_of(alloc: Global, entries: u64, legal: bool, origin: String) -> Result<Value, Memory>
+    ensures { IfOk result (λ value. view value ≡ audit_value entries legal (string_bytes origin)) }
+{
+    Ok(json!(in alloc; {"entries": entries, "legal": legal, "origin": origin})?)
+}
+
+/// An origin's line.
+fn line_of(alloc: Global, key: &OriginKey, book: &Book<PlainCore>) -> Result<String, Memory>
+    ensures { IfOk result (λ line. string_bytes line ≡ audit_line key.now book.now.total) }
+{
+    let legal = is_legal(book)?;
+    let value = value_of(alloc, book.total(), legal, key.text(alloc)?)?;
+    let mut line = value.to_string(alloc)?;
+    line.push_str("\n")?;
+    Ok(line)
+}
+
+/// Writes the line of one origin, if something was recorded there, after `lines` lines of the script and those of
+/// `written` other origins; says how many were written then.
+fn write_origin<W: Output>(
+    alloc: Global,
+    writer: &mut W,
+    key: &OriginKey,
+    book: &Book<PlainCore>,
+    lines: u64,
+    written: u64,
+) -> Result<u64, ScriptFault>
+    requires { written + 1 < 2 ^ 64 }
+    ensures ok { IfOk result (λ n. WritesNext written (key.now, seen book.now) n (W.held writer.old) (W.held writer.new)) }
+    ensures err { IfErr result (λ fault.
+        IsUnwritten lines written (key.now, seen book.now) (W.held writer.old) fault (W.held writer.new)) }
+    ensures counted { Counts (W.failures writer.old) (W.failures writer.new) (is_write result) }
+{
+    if book.total() == 0 {
+        return Ok(written);
+    }
+    let Ok(line) = line_of(alloc, key, book) else {
+        return Err(ScriptFault::Memory(lines));
+    };
+    match write_all(writer, line.as_bytes()) {
+        Ok(()) => Ok(written + 1),
+        Err(Failed) => Err(ScriptFault::Write(written)),
+    }
+}
+
+/// Writes the lines of all origins where something was recorded, and says how many.
+fn write_origins<W: Output>(
+    alloc: Global,
+    writer: &mut W,
+    books: &[(OriginKey, Book<PlainCore>)],
+    lines: u64,
+) -> Result<u64, ScriptFault>
+    ensures ok { IfOk result (λ n. WritesOrigins (all_seen books.now) n (W.held writer.old) (W.held writer.new)) }
+    ensures err { IfErr result (λ fault.
+        LeavesOrigins lines (all_seen books.now) fault (W.held writer.old) (W.held writer.new)) }
+    ensures counted { Counts (W.failures writer.old) (W.failures writer.new) (is_write result) }
+{
+    let mut written = 0;
+    for (key, book) in books {
+        written = write_origin(alloc, writer, key, book, lines, written)?;
+    }
+    Ok(written)
+}
+
+/// Runs a script over books, without its replies; then writes a line for each origin in the order of their keys, and
+/// answers their number. A line says how many commands the origin's journal records, and that it is legal. Limits
+/// are those of `run`.
+///
+/// A fault carries the lines of the script that were done, and `Write` the origins that were written whole. Before the
+/// end of the script nothing is written. An origin has a line once an agent has entered it; opaque ones have none.
+pub fn audit<R: Input, W: Output>(
+    alloc: Global,
+    reader: &mut R,
+    writer: &mut W,
+) -> Result<u64, ScriptFault>
+    ensures ok { IfOk result (λ n. IfSome (R.rest reader.old) (λ input. All (λ line. length line ≤ 65536) (lines input)
+        × Audited (after recording (lines input)) n (W.held writer.old) (W.held writer.new))) }
+    ensures err { IfErr result (λ fault. IfSome (R.rest reader.old) (λ input.
+        LeavesAudit 65536 (lines input) fault (W.held writer.old) (W.held writer.new))) }
+    ensures read { Counts (R.failures reader.old) (R.failures reader.new) (is_read result) }
+    ensures write { Counts (W.failures writer.old) (W.failures writer.new) (is_write result) }
+    ensures reads { GrewAtMostBy (R.reads reader.old) (R.reads reader.new) 4294967296 }
+    ensures turns { IsTooManyTurns result → GrewBy (R.reads reader.old) (R.reads reader.new) 4294967296
+        × GaveBytes (R.rest reader.old) (R.rest reader.new) 4294967296 }
+{
+    let mut engine = Engine::<Book<PlainCore>>::new(alloc);
+    let lines = run_lines(alloc, &mut engine, reader, &mut Sink, LIMITS)?;
+    let Ok(books) = engine.into_cores() else {
+        return Err(ScriptFault::Memory(lines));
+    };
+    write_origins(alloc, writer, &books, lines)
+}
