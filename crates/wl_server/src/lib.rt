@@ -5,10 +5,20 @@
 //! and writes their replies.
 #![tactic(auto)]
 
+mod acting;
 mod crowd;
 mod fault;
 mod link;
+mod listening;
+mod peer;
+mod requests;
+mod serving;
 mod socket;
 mod talk;
+mod visit;
 
 pub use crate::fault::{ListenFault, RelayFault, ServeEnd, ServeFault, Served};
+pub use crate::listening::serve;
+pub use crate::peer::Peer;
+pub use crate::serving::serve_one;
+pub use crate::talk::Gate;
