@@ -1,1 +1,2 @@
 mod Talks
+mod Looks

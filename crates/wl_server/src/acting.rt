@@ -3,13 +3,14 @@
 ghost use Rattle.std.specs.Prelude.{◌≡◌, ℕ, List, IfOk};
 ghost use Rattle.wl_codec.specs.declared.message.Body.{Body};
 ghost use Rattle.wl_codec.specs.declared.message.Body.TheVariants.{Enter, Request};
-ghost use Rattle.wl_server.specs.Peers.{IsOutcomeOf};
+ghost use Rattle.wl_server.specs.Peers.{IsOutcome, IsOutcomeOf};
 
 use crate::requests::Requests;
 use std::alloc::Global;
 use std::sync::Wait;
 use wl_codec::{Body, Outcome};
 use wl_service::{Client, OpenFault, Service};
+use wl_session::Action;
 use wl_types::{Ask, Kind, Memory, Refusal, ReleaseAnswer};
 
 /// The outcome of a refused operation. No reply tells of want of memory.
@@ -110,7 +111,7 @@ fn operate<R: Wait>(
 }
 
 /// Does what a message asks for. An agent opens or leaves by it.
-pub fn act<R: Wait>(
+fn act<R: Wait>(
     rt: &R,
     alloc: Global,
     service: &Service,
@@ -134,5 +135,22 @@ pub fn act<R: Wait>(
             // An open session has a client.
             None => refused(Refusal::NoSuchAgent),
         },
+    }
+}
+
+/// The outcome of what was planned for a message.
+pub fn outcome_of<R: Wait>(
+    rt: &R,
+    alloc: Global,
+    service: &Service,
+    client: &mut Option<Client>,
+    requests: &mut Requests,
+    action: Action,
+) -> Result<Outcome, Memory>
+    ensures { IfOk result (λ outcome. IsOutcome action outcome) }
+{
+    match action {
+        Action::Answer(outcome) => Ok(outcome),
+        Action::Act(body) => act(rt, alloc, service, client, requests, body),
     }
 }

@@ -67,32 +67,36 @@ where
         left: Condvar::new(),
     };
     let shared = &hall;
-    let come = thread::scope(thread::scope_env(), rt, |scope| -> Result<(), ListenFault>
-        ensures { IfErr result (λ fault. ended fault < n) }
-    {
-        for before in 0..n {
-            come_in(rt, shared);
-            let stream = match listener.accept() {
-                Ok((stream, _)) => stream,
-                Err(error) => {
-                    return Err(if error.kind() == ErrorKind::OutOfMemory {
-                        ListenFault::Memory(before)
-                    } else {
-                        ListenFault::Accept(before)
-                    });
+    let come = thread::scope(
+        thread::scope_env(),
+        rt,
+        |scope| -> Result<(), ListenFault>
+            ensures { IfErr result (λ fault. ended fault < n) }
+        {
+            for before in 0..n {
+                come_in(rt, shared);
+                let stream = match listener.accept() {
+                    Ok((stream, _)) => stream,
+                    Err(error) => {
+                        return Err(if error.kind() == ErrorKind::OutOfMemory {
+                            ListenFault::Memory(before)
+                        } else {
+                            ListenFault::Accept(before)
+                        });
+                    }
+                };
+                // Without it a reply may wait for the peer's word of the one before.
+                let _ = stream.set_nodelay(true);
+                let spawned = scope.spawn(move || {
+                    run_one(rt, alloc, stream, gate, before + 1, service, shared)
+                });
+                if spawned.is_err() {
+                    return Err(ListenFault::Thread(before));
                 }
-            };
-            // Without it a reply may wait for the peer's word of the one before.
-            let _ = stream.set_nodelay(true);
-            let spawned = scope.spawn(move || {
-                run_one(rt, alloc, stream, gate, before + 1, service, shared)
-            });
-            if spawned.is_err() {
-                return Err(ListenFault::Thread(before));
             }
-        }
-        Ok(())
-    });
+            Ok(())
+        },
+    );
     come?;
     Ok(Served {
         connections: n,

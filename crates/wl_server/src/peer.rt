@@ -4,14 +4,14 @@ ghost use Rattle.std.specs.Prelude.{◌≡◌, IfOk, OnOk, string_bytes};
 ghost use Rattle.wl_session.specs.Step.{closed};
 ghost use Rattle.wl_server.specs.Peers.{Answers};
 
-use crate::acting::act;
+use crate::acting::outcome_of;
 use crate::requests::Requests;
 use std::alloc::Global;
 use std::marker::Model;
 use std::sync::Wait;
 use wl_codec::read_message;
 use wl_service::{Client, Service};
-use wl_session::{Action, Plan, Session, tells};
+use wl_session::{Plan, Session};
 use wl_types::Memory;
 
 /// The agent of a connection: the session with it, and once it opened the client and its requests. Contracts see the
@@ -76,22 +76,15 @@ impl Peer {
     {
         let reading = read_message(self.alloc, message)?;
         let Plan { id, action } = self.session.plan(reading);
-        let outcome = match action {
-            Action::Answer(outcome) => outcome,
-            Action::Act(body) => act(
-                rt,
-                self.alloc,
-                service,
-                &mut self.client,
-                &mut self.requests,
-                body,
-            )?,
-        };
-        let looks = if tells(&outcome) {
-            self.requests.looks()?
-        } else {
-            Vec::new(self.alloc)
-        };
+        let outcome = outcome_of(
+            rt,
+            self.alloc,
+            service,
+            &mut self.client,
+            &mut self.requests,
+            action,
+        )?;
+        let looks = self.requests.looks(&outcome)?;
         let text = self.session.finish_changed(id, outcome, &looks)?;
         self.requests.tell(&looks);
         Ok(text)

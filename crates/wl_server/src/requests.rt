@@ -7,7 +7,9 @@ ghost use Rattle.wl_session.specs.Told.{IsByNumber};
 use std::alloc::Global;
 use std::collections::BTreeMap;
 use wl_cell::Taking;
+use wl_codec::Outcome;
 use wl_service::Ticket;
+use wl_session::tells;
 use wl_types::{Memory, Phase};
 
 /// A request, and the phase that was told last. Of a new one nothing was told.
@@ -38,24 +40,6 @@ fn found(ticket: &mut Ticket) -> Phase
     }
 }
 
-/// Adds a look behind those of lower numbers.
-fn add_look(looks: &mut Vec<(u64, Phase)>, number: u64, phase: Phase) -> Result<(), Memory>
-    requires by_number { IsByNumber looks.old.items }
-    requires taken { All (λ look. look.1 ≢ Granted) looks.old.items }
-    requires new { phase ≢ Granted }
-    ensures by_number { IsByNumber looks.new.items }
-    ensures taken { All (λ look. look.1 ≢ Granted) looks.new.items }
-{
-    let follows = match looks.last() {
-        Some(last) => last.0 < number,
-        None => true,
-    };
-    if follows {
-        looks.push((number, phase))?;
-    }
-    Ok(())
-}
-
 impl Requests {
     pub fn new(alloc: Global) -> Requests {
         Requests {
@@ -79,9 +63,21 @@ impl Requests {
         self.by_number.get_mut(&number)
     }
 
+    /// What a reply of this outcome looks at: nothing where it has no notices, else what changed.
+    pub fn looks(&mut self, outcome: &Outcome) -> Result<Vec<(u64, Phase)>, Memory>
+        ensures by_number { IfOk result (λ looks. IsByNumber looks.items) }
+        ensures taken { IfOk result (λ looks. All (λ look. look.1 ≢ Granted) looks.items) }
+    {
+        if tells(outcome) {
+            self.changed()
+        } else {
+            Ok(Vec::new(self.alloc))
+        }
+    }
+
     /// The requests whose phase is another than the one told, by number, after each grant was taken. It is one load a
     /// request, and one exchange for each grant.
-    pub fn looks(&mut self) -> Result<Vec<(u64, Phase)>, Memory>
+    fn changed(&mut self) -> Result<Vec<(u64, Phase)>, Memory>
         ensures by_number { IfOk result (λ looks. IsByNumber looks.items) }
         ensures taken { IfOk result (λ looks. All (λ look. look.1 ≢ Granted) looks.items) }
     {
@@ -89,7 +85,7 @@ impl Requests {
         for (number, request) in self.by_number.iter_mut() {
             let phase = found(&mut request.ticket);
             if request.told != Some(phase) {
-                add_look(&mut looks, *number, phase)?;
+                looks.push((*number, phase))?;
             }
         }
         Ok(looks)
