@@ -1,0 +1,24 @@
+//! A lock service over WebSockets: each connection is an agent of its own, whose messages are answered one by one.
+//!
+//! `talk` is one conversation, over a small trait for the connection and one for what answers; `serving` runs it over a
+//! WebSocket, and `listening` on a thread for each connection. `relay` is the other end: it sends the lines of a reader
+//! and writes their replies.
+#![tactic(auto)]
+
+mod acting;
+mod crowd;
+mod fault;
+mod link;
+mod listening;
+mod peer;
+mod requests;
+mod serving;
+mod socket;
+mod talk;
+mod visit;
+
+pub use crate::fault::{ListenFault, RelayFault, ServeEnd, ServeFault, Served};
+pub use crate::listening::serve;
+pub use crate::peer::Peer;
+pub use crate::serving::serve_one;
+pub use crate::talk::Gate;
