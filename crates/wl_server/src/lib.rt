@@ -8,17 +8,22 @@
 mod acting;
 mod crowd;
 mod fault;
+mod lines;
 mod link;
 mod listening;
 mod peer;
+mod relaying;
 mod requests;
 mod serving;
 mod socket;
 mod talk;
+#[cfg(test)]
+mod tests;
 mod visit;
 
 pub use crate::fault::{ListenFault, RelayFault, ServeEnd, ServeFault, Served};
 pub use crate::listening::serve;
 pub use crate::peer::Peer;
+pub use crate::relaying::relay;
 pub use crate::serving::serve_one;
 pub use crate::talk::Gate;
