@@ -1,0 +1,44 @@
+-- What a client is, and what the client of an opaque origin is answered. Storage, "obtain a local storage bottle map", fails for
+-- such an origin, and then `request()` and `query()` throw a SecurityError (Web Locks); the other answers are (own).
+use Rattle.std.specs.Prelude.{ℕ, Bool, not, ◌&&◌, Option, Some, None, Result, Ok, Err, if◌then◌else◌}
+use Rattle.wl_types.specs.declared.words.Kind.{Kind}
+use Rattle.wl_types.specs.declared.refusal.Refusal.{Refusal}
+use Rattle.wl_types.specs.declared.refusal.Refusal.TheVariants.{InvalidState, Security, NotAWindow}
+use Rattle.wl_machine.specs.Refusals.{is_window}
+use Rattle.wl_service.specs.declared.client.Side.{Side}
+use Rattle.wl_service.specs.declared.client.Side.TheVariants as side
+
+-- an agent of its origin's manager, by its number there; or an opaque one, and whether it is active
+pub data Who : Type 0 where
+  Managed : ℕ → Who
+  Opaque : Kind → Bool → Who
+
+-- the number of a client that has one
+abbrev pub number_of : Who → Option ℕ
+number_of (Managed n) = Some n
+number_of (Opaque kind active) = None
+
+-- what `request` and `query` of an opaque client are refused
+abbrev pub no_storage : Kind → Bool → Refusal
+no_storage kind active = if is_window kind && not active then InvalidState else Security
+
+-- what making an opaque client active or inactive is answered, and what the client is then
+abbrev pub activity : Kind → Result Unit Refusal
+activity kind = if is_window kind then Ok tt else Err NotAWindow
+
+abbrev pub active_after : Kind → Bool → Bool → Bool
+active_after kind active wanted = if is_window kind then wanted else active
+
+-- what holds of an opaque client; of a managed one nothing is said
+abbrev pub IfOpaque : Who → (Kind → Bool → Type 0) → Type 0
+IfOpaque (Managed n) P = Unit
+IfOpaque (Opaque kind active) P = P kind active
+
+-- a managed client stays, and of an opaque one only its activity may change
+abbrev pub made_active : Who → Bool → Who
+made_active (Managed n) wanted = Managed n
+made_active (Opaque kind active) wanted = Opaque kind (active_after kind active wanted)
+
+abbrev pub who_of : Side → Who
+who_of (side.Managed agent) = Managed agent.number
+who_of (side.Opaque agent) = Opaque agent.kind agent.active

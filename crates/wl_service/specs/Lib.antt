@@ -1,0 +1,3 @@
+pub mod Clients
+pub mod Opening
+pub mod Directory

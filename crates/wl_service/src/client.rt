@@ -1,0 +1,155 @@
+//! A client of the service.
+
+ghost use Rattle.std.specs.Prelude.{◌≡◌, true, Err, is_some};
+ghost use Rattle.wl_types.specs.declared.refusal.Refusal.TheVariants.{NoSuchSignal, Security};
+ghost use Rattle.wl_types.specs.declared.answers.ReleaseAnswer.TheVariants.{NotHeld};
+ghost use Rattle.wl_service.specs.Clients.{Managed, Opaque, IfOpaque, activity, made_active, no_storage, number_of};
+
+use crate::directory::Core;
+use crate::opaque::OpaqueAgent;
+use std::marker::Model;
+use std::sync::Wait;
+use wl_journal::Sight;
+use wl_manager::{Agent, Loose};
+use wl_types::{AbortAnswer, Ask, Kind, Reason, Refusal, ReleaseAnswer};
+
+/// What a client has of its request.
+pub type Ticket = wl_manager::Ticket<Core, Loose>;
+
+/// What a client leaves that ended.
+pub type Leaving = wl_manager::Leaving<Loose>;
+
+#[derive(Drop)]
+enum Side {
+    Managed(Agent<Core, Loose>),
+    Opaque(OpaqueAgent),
+}
+
+/// A window or worker that opened: an agent of its origin's manager, or one of an opaque origin, which is refused.
+///
+/// Each call of a managed client but `client` is that of its agent, and takes its manager's lock. A client should end
+/// by `terminate`: one that is dropped stays in its manager, with its locks.
+#[derive(Drop)]
+pub struct Client {
+    side: Side,
+}
+
+impl Model for Client {
+    ghost use Rattle.wl_service.specs.Clients.{Who, who_of};
+
+    ghost Value = { Who };
+
+    ghost view = { λ c. who_of c.side };
+}
+
+impl Client {
+    pub(crate) fn managed(agent: Agent<Core, Loose>) -> Client
+        ensures { result ≡ Managed agent.number }
+    {
+        Client {
+            side: Side::Managed(agent),
+        }
+    }
+
+    /// A window or worker of an opaque origin. It begins active.
+    pub(crate) fn opaque(kind: Kind) -> Client
+        ensures { result ≡ Opaque kind true }
+    {
+        Client {
+            side: Side::Opaque(OpaqueAgent { kind, active: true }),
+        }
+    }
+
+    /// Its number, from 1 in its origin's manager. An opaque client has none.
+    pub fn client(&self) -> Option<u64>
+        ensures { result ≡ number_of self.now }
+    {
+        match &self.side {
+            Side::Managed(agent) => Some(agent.client()),
+            Side::Opaque(_) => None,
+        }
+    }
+
+    /// Asks for a lock, as an agent does.
+    pub fn request<R: Wait>(&mut self, rt: &R, ask: &Ask) -> Result<Ticket, Refusal>
+        ensures opaque { IfOpaque self.old (λ kind active. result ≡ Err (no_storage kind active)) }
+        ensures same { self.new ≡ self.old }
+    {
+        match &mut self.side {
+            Side::Managed(agent) => agent.request(rt, ask),
+            Side::Opaque(agent) => Err(agent.no_storage()),
+        }
+    }
+
+    /// Gives up the lock of this ticket, by its number. `NotHeld` where this client doesn't hold it. The ticket should
+    /// be of this client's manager: the number of another's means another request here.
+    pub fn release<R: Wait>(&mut self, rt: &R, ticket: &mut Ticket) -> ReleaseAnswer
+        ensures opaque { IfOpaque self.old (λ kind active. result ≡ NotHeld) }
+        ensures ticket { ticket.new ≡ ticket.old }
+        ensures same { self.new ≡ self.old }
+    {
+        match &mut self.side {
+            Side::Managed(agent) => agent.release(rt, ticket),
+            Side::Opaque(_) => ReleaseAnswer::NotHeld,
+        }
+    }
+
+    /// A new signal, by its number.
+    pub fn new_signal<R: Wait>(&mut self, rt: &R) -> Result<u64, Refusal>
+        ensures opaque { IfOpaque self.old (λ kind active. result ≡ Err Security) }
+        ensures same { self.new ≡ self.old }
+    {
+        match &mut self.side {
+            Side::Managed(agent) => agent.new_signal(rt),
+            Side::Opaque(_) => Err(Refusal::Security),
+        }
+    }
+
+    /// Aborts a signal of this client.
+    pub fn abort<R: Wait>(
+        &mut self,
+        rt: &R,
+        signal: u64,
+        reason: Reason,
+    ) -> Result<AbortAnswer, Refusal>
+        ensures opaque { IfOpaque self.old (λ kind active. result ≡ Err NoSuchSignal) }
+        ensures same { self.new ≡ self.old }
+    {
+        match &mut self.side {
+            Side::Managed(agent) => agent.abort(rt, signal, reason),
+            Side::Opaque(_) => Err(Refusal::NoSuchSignal),
+        }
+    }
+
+    /// Makes this window active or inactive. A worker is refused.
+    pub fn set_active<R: Wait>(&mut self, rt: &R, active: bool) -> Result<(), Refusal>
+        ensures opaque { IfOpaque self.old (λ kind was. result ≡ activity kind) }
+        ensures new { self.new ≡ made_active self.old active }
+    {
+        match &mut self.side {
+            Side::Managed(agent) => agent.set_active(rt, active),
+            Side::Opaque(agent) => agent.set_active(active),
+        }
+    }
+
+    /// What is held and what waits in its manager, after how many entries.
+    pub fn query<R: Wait>(&mut self, rt: &R) -> Result<Sight, Refusal>
+        ensures opaque { IfOpaque self.old (λ kind active. result ≡ Err (no_storage kind active)) }
+        ensures same { self.new ≡ self.old }
+    {
+        match &mut self.side {
+            Side::Managed(agent) => agent.query(rt),
+            Side::Opaque(agent) => Err(agent.no_storage()),
+        }
+    }
+
+    /// Ends this client: its requests end, its locks are given up. An opaque one leaves nothing.
+    pub fn terminate<R: Wait>(self, rt: &R) -> Option<Leaving>
+        ensures { is_some result ≡ is_some (number_of self) }
+    {
+        match self.side {
+            Side::Managed(agent) => Some(agent.terminate(rt)),
+            Side::Opaque(_) => None,
+        }
+    }
+}

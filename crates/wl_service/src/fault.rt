@@ -1,0 +1,20 @@
+//! Why no client is opened.
+
+use thiserror::Error;
+
+/// Why a client wasn't opened. The service is then as it was.
+#[derive(Clone, Copy, Debug, PartialEq, Eq, Drop, Error)]
+pub enum OpenFault {
+    /// The text is no absolute URL.
+    #[error("not a URL")]
+    BadUrl,
+    /// 4,096 agents of the origin's manager are live.
+    #[error("too many agents")]
+    TooManyAgents,
+    /// The origin's next agent number would be 2^53.
+    #[error("numbers spent")]
+    NumbersSpent,
+    /// A growth was refused, or the URL would be longer than 4,294,967,295 bytes.
+    #[error("out of memory")]
+    Memory,
+}

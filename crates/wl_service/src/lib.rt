@@ -1,0 +1,18 @@
+//! A lock service: the managers of all origins, each under a lock of its own, in a directory under another.
+//!
+//! A client is an agent of its origin's manager, or, where the origin is opaque and so has none, an agent that is
+//! refused. No call of a client that is open takes the directory's lock.
+#![tactic(auto)]
+
+mod client;
+mod directory;
+mod fault;
+mod opaque;
+mod service;
+#[cfg(test)]
+mod tests;
+
+pub use client::{Client, Leaving, Ticket};
+pub use directory::Core;
+pub use fault::OpenFault;
+pub use service::Service;

@@ -1,0 +1,59 @@
+//! The service.
+
+ghost use Rattle.std.specs.Prelude.{Some, Ok};
+ghost use Rattle.wl_origin.specs.Standing.{standing_of};
+ghost use Rattle.wl_service.specs.Opening.{Opens};
+
+use crate::client::Client;
+use crate::directory::{Directory, Found, fault_of};
+use crate::fault::OpenFault;
+use std::alloc::Global;
+use std::sync::{Mutex, Wait};
+use wl_manager::Manager;
+use wl_origin::{KeyFault, OriginKey, Standing, key_of};
+use wl_types::{Kind, Memory};
+
+/// The managers of all origins. A manager is made when the first client of its origin opens, and stays for the life
+/// of the service.
+#[derive(Drop)]
+pub struct Service {
+    directory: Mutex<Directory>,
+    alloc: Global,
+}
+
+impl Service {
+    /// A service without managers. It takes no memory yet; a core that needs more than an allocator would.
+    pub fn new<R>(_rt: &R, alloc: Global) -> Result<Service, Memory> {
+        Ok(Service {
+            directory: Mutex::new(Directory::new(alloc)),
+            alloc,
+        })
+    }
+
+    /// Opens a window or worker at a URL: an agent of its origin's manager, or, where the origin is opaque, a client
+    /// that is refused. The directory's lock is held while the manager is looked up, and while a new manager opens
+    /// its first agent.
+    pub fn open<R: Wait>(&self, rt: &R, url: &str, kind: Kind) -> Result<Client, OpenFault>
+        ensures { Opens (standing_of url.now) kind result }
+    {
+        match key_of(self.alloc, url) {
+            Err(KeyFault::BadUrl) => Err(OpenFault::BadUrl),
+            Err(KeyFault::Memory) => Err(OpenFault::Memory),
+            Ok(Standing::Opaque) => Ok(Client::opaque(kind)),
+            Ok(Standing::Tuple(key)) => self.open_at(rt, key, kind),
+        }
+    }
+
+    fn open_at<R: Wait>(&self, rt: &R, key: OriginKey, kind: Kind) -> Result<Client, OpenFault>
+        ensures { Opens (Ok (Some key)) kind result }
+    {
+        let found = self.directory.lock(rt).find(rt, self.alloc, key, kind)?;
+        match found {
+            Found::First(agent) => Ok(Client::managed(agent)),
+            Found::Manager(manager) => match Manager::open(&manager, rt, kind) {
+                Ok(agent) => Ok(Client::managed(agent)),
+                Err(refusal) => Err(fault_of(refusal)),
+            },
+        }
+    }
+}
