@@ -1,15 +1,15 @@
 //! The service.
 
-ghost use Rattle.std.specs.Prelude.{Some, Ok};
+ghost use Rattle.std.specs.Prelude.{◌≡◌, ◌≢◌, true, Some, Ok};
 ghost use Rattle.wl_origin.specs.Standing.{standing_of};
 ghost use Rattle.wl_service.specs.Opening.{Opens};
 
 use crate::client::Client;
-use crate::directory::{Directory, Found, fault_of};
+use crate::directory::{Directory, fault_of};
 use crate::fault::OpenFault;
 use std::alloc::Global;
 use std::sync::{Mutex, Wait};
-use wl_manager::Manager;
+use wl_manager::{Manager, Visitor};
 use wl_origin::{KeyFault, OriginKey, Standing, key_of};
 use wl_types::{Kind, Memory};
 
@@ -47,13 +47,33 @@ impl Service {
     fn open_at<R: Wait>(&self, rt: &R, key: OriginKey, kind: Kind) -> Result<Client, OpenFault>
         ensures { Opens (Ok (Some key)) kind result }
     {
-        let found = self.directory.lock(rt).find(rt, self.alloc, key, kind)?;
-        match found {
-            Found::First(agent) => Ok(Client::managed(agent)),
-            Found::Manager(manager) => match Manager::open(&manager, rt, kind) {
-                Ok(agent) => Ok(Client::managed(agent)),
-                Err(refusal) => Err(fault_of(refusal)),
-            },
+        let mut directory = self.directory.lock(rt);
+        match directory.kept(&key) {
+            Err(Memory) => Err(OpenFault::Memory),
+            Ok(None) => Ok(Client::managed(directory.add(rt, self.alloc, key, kind)?)),
+            Ok(Some(manager)) => {
+                drop(directory);
+                let agent = Manager::open(&manager, rt, kind).map_err(fault_of)?;
+                Ok(Client::managed(agent))
+            }
         }
+    }
+
+    /// Shows the entries of the key's manager, without the directory's lock, and answers true; or answers false and
+    /// calls nobody where the key has no manager. `Memory` comes only where the manager's count of owners is used up.
+    pub fn visit<R: Wait, V: Visitor>(
+        &self,
+        rt: &R,
+        key: &OriginKey,
+        visitor: &mut V,
+    ) -> Result<bool, Memory>
+        ensures { result ≢ Ok true → visitor.new ≡ visitor.old }
+    {
+        let found = self.directory.lock(rt).kept(key)?;
+        let Some(manager) = found else {
+            return Ok(false);
+        };
+        manager.visit(rt, visitor);
+        Ok(true)
     }
 }
