@@ -22,7 +22,7 @@ pub struct Service {
 }
 
 impl Service {
-    /// A service without managers. It takes no memory yet; a core that needs more than an allocator would.
+    /// A service without managers. `Memory` comes only where a core's seed can't be made; a plain core has none.
     pub fn new<R>(_rt: &R, alloc: Global) -> Result<Service, Memory> {
         Ok(Service {
             directory: Mutex::new(Directory::new(alloc)),
@@ -31,8 +31,8 @@ impl Service {
     }
 
     /// Opens a window or worker at a URL: an agent of its origin's manager, or, where the origin is opaque, a client
-    /// that is refused. The directory's lock is held while the manager is looked up, and while a new manager opens
-    /// its first agent.
+    /// that is refused. A manager that is there opens its agent under its own lock alone; a new one opens its first
+    /// under the directory's, so that two who open a new origin at once get one manager.
     pub fn open<R: Wait>(&self, rt: &R, url: &str, kind: Kind) -> Result<Client, OpenFault>
         ensures { Opens (standing_of url.now) kind result }
     {

@@ -9,6 +9,7 @@ use crate::{Client, OpenFault, Service};
 use std::alloc::Global;
 use std::sync::Wait;
 use std::test::Fail;
+use wl_origin::{OriginKey, Standing, key_of};
 use wl_types::{Ask, Kind, Memory, Mode, Text};
 
 const HERE: &str = "https://a.test/";
@@ -26,6 +27,14 @@ fn ask(alloc: Global, name: &str) -> Result<Ask, Memory> {
         steal: false,
         signal: None,
     })
+}
+
+/// The key of a URL that has one.
+fn key(alloc: Global, url: &str) -> Result<OriginKey, Fail> {
+    match key_of(alloc, url)? {
+        Standing::Tuple(key) => Ok(key),
+        Standing::Opaque => Err(Fail::from("no key")),
+    }
 }
 
 /// A service and its first client, a window.

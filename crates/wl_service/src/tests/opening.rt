@@ -1,8 +1,10 @@
 //! Which client an opened URL gives.
 
-use super::{ELSEWHERE, HERE, first_client, open_twice};
+use super::{ELSEWHERE, HERE, first_client, key, open_twice};
 use crate::{OpenFault, Service};
 use std::test::Fail;
+use wl_journal::Entry;
+use wl_manager::Visitor;
 use wl_types::Kind;
 
 #[test]
@@ -58,5 +60,30 @@ fn faults_have_their_texts(rt: HostRuntime) -> Result<(), Fail> {
         let line = format!(in rt.alloc(); "{fault}")?;
         assert_eq!(rt; line.as_str(), text);
     }
+    Ok(())
+}
+
+/// How many entries a visit showed, if it showed any.
+#[derive(Drop)]
+struct Shown {
+    entries: Option<usize>,
+}
+
+impl Visitor for Shown {
+    fn visit(&mut self, entries: &[Entry]) {
+        self.entries = Some(entries.len());
+    }
+}
+
+#[test]
+fn an_origin_is_shown_once_somebody_opened_there(rt: HostRuntime) -> Result<(), Fail> {
+    let (service, _one) = first_client(&rt, rt.alloc())?;
+    let mut shown = Shown { entries: None };
+    let elsewhere = key(rt.alloc(), ELSEWHERE)?;
+    assert!(rt; service.visit(&rt, &elsewhere, &mut shown) == Ok(false));
+    assert_eq!(rt; shown.entries, None);
+    let here = key(rt.alloc(), HERE)?;
+    assert!(rt; service.visit(&rt, &here, &mut shown) == Ok(true));
+    assert_eq!(rt; shown.entries, Some(1));
     Ok(())
 }

@@ -1,6 +1,6 @@
 //! Managers that go on at once.
 
-use super::{ELSEWHERE, HERE, ask, first_client};
+use super::{ELSEWHERE, HERE, ask, first_client, key};
 use crate::Service;
 use std::process::Abort;
 use std::sync::Wait;
@@ -9,7 +9,7 @@ use std::test::Fail;
 use std::thread;
 use wl_journal::Entry;
 use wl_manager::Visitor;
-use wl_origin::{OriginKey, Standing, key_of};
+use wl_origin::OriginKey;
 use wl_types::{Ask, Kind, Phase};
 
 const TURNS: u64 = 100_000_000;
@@ -76,9 +76,7 @@ fn ask_elsewhere<R: Wait + Abort>(
 fn two_managers_go_on_at_once(rt: HostRuntime) -> Result<(), Fail> {
     let asked = ask(rt.alloc(), "db")?;
     let (service, _one) = first_client(&rt, rt.alloc())?;
-    let Standing::Tuple(key) = key_of(rt.alloc(), HERE)? else {
-        return Err("a key")?;
-    };
+    let key = key(rt.alloc(), HERE)?;
     let entered = AtomicBool::new(false);
     let answered = AtomicBool::new(false);
     let (in_time, phase) = thread::join(
@@ -88,5 +86,26 @@ fn two_managers_go_on_at_once(rt: HostRuntime) -> Result<(), Fail> {
     );
     assert!(rt; in_time);
     assert_eq!(rt; phase, Phase::Granted);
+    Ok(())
+}
+
+/// The number of a client that opens here.
+fn number<R: Wait>(rt: &R, service: &Service, url: &str) -> Option<u64> {
+    service.open(rt, url, Kind::Window).ok()?.client()
+}
+
+#[test]
+fn two_that_open_an_origin_at_once_share_its_manager(rt: HostRuntime) -> Result<(), Fail> {
+    let service = Service::new(&rt, rt.alloc())?;
+    for port in 1000..1100 {
+        let url = format!(in rt.alloc(); "https://a.test:{port}/")?;
+        let (one, two) = thread::join(
+            &rt,
+            || number(&rt, &service, url.as_str()),
+            || number(&rt, &service, url.as_str()),
+        );
+        let numbers = (one, two);
+        assert!(rt; numbers == (Some(1), Some(2)) || numbers == (Some(2), Some(1)));
+    }
     Ok(())
 }
