@@ -1,7 +1,7 @@
 //! The managers by origin.
 
-ghost use Rattle.std.specs.Prelude.{◌≡◌, ◌≢◌, [], None, option_map, IfOk, IfErr, OnErr, OnOk};
-ghost use Rattle.std.specs.Arc.{arc_value};
+ghost use Rattle.std.specs.Prelude.{◌≡◌, ◌≢◌, [], None, IfErr, OnErr, OnOk};
+ghost use Rattle.std.specs.Option.{option_copied};
 ghost use Rattle.wl_service.specs.declared.fault.OpenFault.TheVariants.{BadUrl};
 ghost use Rattle.wl_service.specs.Directory.{Adds, kept_for};
 ghost use Rattle.wl_service.specs.Opening.{fault_of};
@@ -13,7 +13,7 @@ use std::sync::{Arc, Wait};
 use wl_core::PlainCore;
 use wl_manager::{Agent, Loose, Manager};
 use wl_origin::OriginKey;
-use wl_types::{Kind, Memory, Refusal};
+use wl_types::{Kind, Refusal};
 
 /// The core of every manager.
 pub type Core = PlainCore;
@@ -48,14 +48,11 @@ impl Directory {
         }
     }
 
-    /// The manager of the key, if it has one. `Memory` comes only where its count of owners is used up.
-    pub(crate) fn kept(&self, key: &OriginKey) -> Result<Option<Shared>, Memory>
-        ensures { IfOk result (λ found. option_map arc_value found ≡ option_map arc_value (kept_for self.now.managers.entries key.now)) }
+    /// The manager of the key, if it has one.
+    pub(crate) fn kept(&self, key: &OriginKey) -> Option<&Shared>
+        ensures { option_copied result ≡ kept_for self.now.managers.entries key.now }
     {
-        match self.managers.get(key) {
-            Some(manager) => Ok(Some(Arc::try_clone(manager)?)),
-            None => Ok(None),
-        }
+        self.managers.get(key)
     }
 
     /// The first agent of a key that has no manager. Its manager enters last, so where something is refused none does.

@@ -8,7 +8,7 @@ use crate::client::Client;
 use crate::directory::{Directory, fault_of};
 use crate::fault::OpenFault;
 use std::alloc::Global;
-use std::sync::{Mutex, Wait};
+use std::sync::{Arc, Mutex, Wait};
 use wl_manager::{Manager, Visitor};
 use wl_origin::{KeyFault, OriginKey, Standing, key_of};
 use wl_types::{Kind, Memory};
@@ -48,15 +48,14 @@ impl Service {
         ensures { Opens (Ok (Some key)) kind result }
     {
         let mut directory = self.directory.lock(rt);
-        match directory.kept(&key) {
-            Err(Memory) => Err(OpenFault::Memory),
-            Ok(None) => Ok(Client::managed(directory.add(rt, self.alloc, key, kind)?)),
-            Ok(Some(manager)) => {
-                drop(directory);
-                let agent = Manager::open(&manager, rt, kind).map_err(fault_of)?;
-                Ok(Client::managed(agent))
-            }
+        if let Some(manager) = directory.kept(&key) {
+            let manager = Arc::try_clone(manager).map_err(|_| OpenFault::Memory)?;
+            drop(directory);
+            let agent = Manager::open(&manager, rt, kind).map_err(fault_of)?;
+            return Ok(Client::managed(agent));
         }
+        let agent = directory.add(rt, self.alloc, key, kind)?;
+        Ok(Client::managed(agent))
     }
 
     /// Shows the entries of the key's manager, without the directory's lock, and answers true; or answers false and
@@ -69,9 +68,9 @@ impl Service {
     ) -> Result<bool, Memory>
         ensures { result ≢ Ok true → visitor.new ≡ visitor.old }
     {
-        let found = self.directory.lock(rt).kept(key)?;
-        let Some(manager) = found else {
-            return Ok(false);
+        let manager = match self.directory.lock(rt).kept(key) {
+            Some(manager) => Arc::try_clone(manager)?,
+            None => return Ok(false),
         };
         manager.visit(rt, visitor);
         Ok(true)
