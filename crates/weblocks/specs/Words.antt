@@ -1,10 +1,13 @@
 -- What the words of a command line ask for (own).
-use Rattle.std.specs.Prelude.{List, ◌≡◌, Option, Some, None, true, codes}
-use Rattle.clap.specs.Words.{App, Row, Text, Kinds, IsAmong, new_app, with_subcommand}
+use Rattle.std.specs.Prelude.{ℕ, List, ◌≡◌, ◌≤◌, Option, Some, None, true, codes, pos}
+use Rattle.std.specs.Str.Parse.{digits_value, without_leading_plus}
+use Rattle.clap.specs.Words.{App, Row, Rule, Text, Kinds, IsAmong, new_app, new_rule, one_of, with_rule, with_subcommand}
 use Rattle.clap.specs.Simple.{on_top}
 use Rattle.clap.specs.Values.{kind_of}
+use Rattle.clap.specs.declared.builder.action.ArgAction.TheVariants.{Set}
+use Rattle.clap.specs.declared.builder.value_parser.ValueParser.TheVariants as values
 use Rattle.weblocks.specs.declared.job.Job.{Job}
-use Rattle.weblocks.specs.declared.job.Job.TheVariants.{Run, Audit}
+use Rattle.weblocks.specs.declared.job.Job.TheVariants.{Run, Audit, Serve, Client}
 use Rattle.weblocks.specs.declared.job.UsageFault.{UsageFault}
 use Rattle.weblocks.specs.declared.job.UsageFault.TheVariants.{Usage, Memory}
 
@@ -16,15 +19,42 @@ run_app = new_app (codes "run")
 abbrev pub audit_app : App
 audit_app = new_app (codes "audit")
 
--- the program, with a subcommand always
+-- a required option with a number from 1
+abbrev pub number_rule : Text → ℕ → Rule
+number_rule name most = record (new_rule name) {
+  long = Some name;
+  required = true;
+  action = Some Set;
+  parser = Some (values.Signed (pos 1) (pos most));
+}
+
+-- `serve --port P --clients N`
+abbrev pub serve_app : App
+serve_app = with_rule (with_rule (new_app (codes "serve")) (number_rule (codes "port") 65535)) (number_rule (codes "clients") 10000)
+
+-- `client --port P`
+abbrev pub client_app : App
+client_app = with_rule (new_app (codes "client")) (number_rule (codes "port") 65535)
+
+-- the program, with a subcommand always, and the jobs that do scripts
+abbrev pub scripts_app : App
+scripts_app = with_subcommand (with_subcommand (on_top (λ s. record s { subcommand_required = true }) (new_app (codes "weblocks"))) run_app.top) audit_app.top
+
 abbrev pub weblocks_app : App
-weblocks_app = with_subcommand (with_subcommand (on_top (λ s. record s { subcommand_required = true }) (new_app (codes "weblocks"))) run_app.top) audit_app.top
+weblocks_app = with_subcommand (with_subcommand scripts_app serve_app.top) client_app.top
+
+-- the option's text is this number
+abbrev pub HasNumber : Text → List Row → ℕ → Type 0
+HasNumber name rows n = (text : Text) × (one_of name rows ≡ Some text) × (digits_value 10 (without_leading_plus text) ≡ n)
 
 -- the subcommand that was used asks for this job
 abbrev pub IsJob : Option (Text × List Row) → Job → Type 0
 IsJob None job = ⊥
 IsJob (Some used) Run = used.0 ≡ codes "run"
 IsJob (Some used) Audit = used.0 ≡ codes "audit"
+IsJob (Some used) (Serve port clients) = (used.0 ≡ codes "serve") × HasNumber (codes "port") used.1 port × (1 ≤ port) × (port ≤ 65535)
+    × HasNumber (codes "clients") used.1 clients × (1 ≤ clients) × (clients ≤ 10000)
+IsJob (Some used) (Client port) = (used.0 ≡ codes "client") × HasNumber (codes "port") used.1 port × (1 ≤ port) × (port ≤ 65535)
 
 -- the error has one of these kinds, unless memory ran out
 abbrev pub IsUsageFault : Kinds → UsageFault → Type 0

@@ -5,13 +5,19 @@
 #![tactic(auto)]
 
 mod job;
+mod network;
 #[cfg(test)]
 mod tests;
 
 use job::{Job, UsageFault, job_of};
+use network::{NetFault, client, serve};
 use std::alloc::{AllocError, Global};
 use std::io::Write;
+use std::net::{Net, TcpListener, TcpStream};
 use std::process::ExitCode;
+use std::random::RandomSource;
+use std::sync::Wait;
+use std::thread::Threads;
 use std::{env, fmt, io};
 use wl_script::{Reader, ScriptFault, Writer};
 
@@ -31,15 +37,29 @@ fn main(rt: HostRuntime) -> ExitCode {
 }
 
 /// Does the job that the words ask for.
-fn work<R: io::Input + Print + Eprint + AllocGlobal>(rt: &R, words: &[String]) -> ExitCode {
+fn work<R>(rt: &R, words: &[String]) -> ExitCode
+where
+    R: Net<Listener = TcpListener, Stream = TcpStream> + Threads + Wait + Sync + RandomSource,
+    R: io::Input + Print + Eprint + AllocGlobal,
+{
     let Ok(texts) = texts_of(rt.alloc(), words) else {
         return fail(rt, "out of memory");
     };
     match job_of(rt.alloc(), &texts) {
         Ok(Job::Run) => run(rt),
         Ok(Job::Audit) => audit(rt),
+        Ok(Job::Serve { port, clients }) => done(rt, serve(rt, port, u64::from(clients))),
+        Ok(Job::Client { port }) => done(rt, client(rt, port)),
         Err(UsageFault::Usage(error)) => answer_usage(rt, &error),
         Err(UsageFault::Memory) => fail(rt, "out of memory"),
+    }
+}
+
+/// The status of a job on the network, and its fault's line.
+fn done<R: Eprint>(rt: &R, ended: Result<(), NetFault>) -> ExitCode {
+    match ended {
+        Ok(()) => ExitCode::SUCCESS,
+        Err(fault) => fail(rt, fault),
     }
 }
 

@@ -1,9 +1,9 @@
 -- What ends do to the phases of one number.
-use Rattle.std.proofs.Common.{◌≡◌, ℕ, zero, suc, ◌+◌, ◌≤◌, Bool, true, false, cond, List, [], ◌∷◌, ◌++◌, length, map, refl, arith, ap, sym, ◌∙◌, inl, inr, append-nil, length-append}
-use Rattle.std.specs.Prelude.{◌⊎◌, ◌==◌, filter, not}
+use Rattle.std.proofs.Common.{◌≡◌, ℕ, ◌≤◌, Bool, true, false, cond, List, [], ◌∷◌, ◌++◌, length, refl, arith, ap, sym, ◌∙◌, inl, inr, length-append}
+use Rattle.std.specs.Prelude.{◌==◌, filter, not}
 use Rattle.wl_types.specs.Phases.{is_end}
 use Rattle.wl_types.specs.declared.phases.Phase.{Phase}
-use Rattle.wl_types.specs.declared.phases.Phase.TheVariants.{Pending, Granted, Taken}
+use Rattle.wl_types.specs.declared.phases.Phase.TheVariants.{Pending}
 use Rattle.wl_machine.specs.declared.rows.HeldRow.{HeldRow}
 use Rattle.wl_machine.specs.declared.rows.PendingRow.{PendingRow}
 use Rattle.wl_machine.specs.Step.{lock_ends, request_ends}

@@ -1,5 +1,5 @@
 -- How each command moves one request.
-use Rattle.std.proofs.Common.{◌≡◌, ◌≢◌, ℕ, zero, suc, ◌+◌, ◌≤◌, Bool, true, false, cond, List, [], ◌∷◌, ◌++◌, length, map, refl, arith, ap, sym, ◌∙◌, inl, inr, append-nil, append_assoc, length-append, eq-eqb, ne_eqb, subst}
+use Rattle.std.proofs.Common.{◌≡◌, ℕ, ◌+◌, ◌≤◌, Bool, true, false, cond, List, [], ◌∷◌, ◌++◌, length, map, refl, arith, ap, sym, ◌∙◌, inl, inr, append-nil, append_assoc, length-append, eq-eqb, ne_eqb, subst}
 use Rattle.std.specs.Prelude.{◌⊎◌, ◌==◌, filter, not, ◌&&◌, ◌||◌, is_some, Option, Some, None}
 use Rattle.std.specs.List.{list_any}
 use Rattle.std.proofs.lemmas.List.{map-append}
@@ -25,10 +25,10 @@ use Rattle.wl_machine.specs.declared.rows.PendingRow.{PendingRow}
 use Rattle.wl_machine.specs.State.{State}
 use Rattle.wl_machine.specs.Grants.{locks}
 use Rattle.wl_machine.specs.Refusals.{refusal, reason_in}
-use Rattle.wl_machine.specs.Step.{Outcome, step, accepted, unless_refused, settled, no_changes, lock_ends, request_ends, with_name, new_request, numbered, available, plain_request, unavailable, stealing_request, request_step, is_lock_of, release_step, is_untaken, with_taken, is_waiting_on, is_abortable, with_reason, abort_step, terminate_step}
+use Rattle.wl_machine.specs.Step.{Outcome, step, accepted, unless_refused, no_changes, lock_ends, request_ends, with_name, new_request, numbered, available, plain_request, unavailable, stealing_request, request_step, is_lock_of, release_step, is_untaken, with_taken, is_waiting_on, is_abortable, with_reason, abort_step, terminate_step}
 use Rattle.wl_machine.specs.Laws.{phases_of}
-use Rattle.wl_machine.specs.OneMove.{lock_phase, held_phases, pending_phases, phases_in, live, MovesOnce, IsNumbered, is_plain_move, entering, table_of, is_take, taken_from, RequestsMoveOnce, NumbersStayApart, TakeTakesOne}
-use Rattle.wl_machine.proofs.SettlingMoves.{Ended, settled_moves, pending_phases-append, phases_of-append}
+use Rattle.wl_machine.specs.OneMove.{lock_phase, held_phases, pending_phases, phases_in, MovesOnce, IsNumbered, is_plain_move, entering, table_of, is_take, taken_from, RequestsMoveOnce, NumbersStayApart, TakeTakesOne}
+use Rattle.wl_machine.proofs.SettlingMoves.{settled_moves, pending_phases-append, phases_of-append}
 use Rattle.wl_machine.proofs.Runs.{either}
 use Rattle.wl_machine.proofs.EndMoves.{locks_end, requests_end, both_end}
 

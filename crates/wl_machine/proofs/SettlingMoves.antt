@@ -2,7 +2,7 @@
 use Rattle.std.proofs.Common.{◌≡◌, ℕ, zero, suc, ◌+◌, ◌≤◌, Bool, true, false, cond, List, [], ◌∷◌, ◌++◌, length, map, refl, arith, ap, sym, ◌∙◌, inl, inr, append-nil, length-append}
 use Rattle.std.specs.Prelude.{◌⊎◌, ◌==◌, filter}
 use Rattle.std.specs.Str.{bytes_eq}
-use Rattle.std.proofs.lemmas.List.{length-map, map-append}
+use Rattle.std.proofs.lemmas.List.{map-append}
 use Rattle.std.proofs.lemmas.List.Elements.{filter-append}
 use Rattle.wl_types.specs.Phases.{is_end}
 use Rattle.wl_types.specs.declared.phases.Phase.{Phase}
@@ -16,7 +16,7 @@ use Rattle.wl_machine.specs.Grants.{Lists, lists_of, grants, queue, locks, witho
 use Rattle.wl_machine.specs.Step.{settled}
 use Rattle.wl_machine.proofs.Fronts.{first_requests, first_granted}
 use Rattle.wl_machine.specs.Laws.{phases_of}
-use Rattle.wl_machine.specs.OneMove.{lock_phase, held_phases, pending_phases, phases_in, live, MovesOnce}
+use Rattle.wl_machine.specs.OneMove.{lock_phase, held_phases, pending_phases, phases_in, MovesOnce}
 
 abbrev pub of_number : ℕ → List PendingRow → List PendingRow
 of_number id rows = filter (λ request. request.number == id) rows

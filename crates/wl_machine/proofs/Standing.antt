@@ -1,15 +1,12 @@
 -- What holds of every state that commands lead to.
-use Rattle.std.proofs.Common.{◌≡◌, ◌≢◌, ℕ, zero, suc, ◌+◌, ◌≤◌, ◌<◌, Bool, true, false, cond, List, [], ◌∷◌, ◌++◌, length, map, refl, ap, sym, ◌∙◌, ◌==◌, arith, subst, length-append, eq-eqb, ne_eqb}
+use Rattle.std.proofs.Common.{◌≡◌, ℕ, suc, ◌≤◌, ◌<◌, Bool, true, false, cond, List, [], ◌∷◌, ◌++◌, length, map, refl, sym, ◌∙◌, ◌==◌, arith, subst, length-append}
 use Rattle.std.proofs.lemmas.Bool.{eqb-true}
 use Rattle.std.proofs.lemmas.List.{length-map}
 use Rattle.std.proofs.lemmas.List.Folds.{list_any-append}
 use Rattle.std.specs.Prelude.{not, ◌&&◌, ◌||◌, filter, is_some, nat_le, Option, Some, None}
 use Rattle.std.specs.List.{list_any}
 use Rattle.std.specs.Str.{bytes_eq}
-use Rattle.wl_types.specs.Asks.{ask_refusal}
-use Rattle.wl_types.specs.Names.{is_long}
 use Rattle.wl_types.specs.Refusals.{refuse_if, first_refusal}
-use Rattle.wl_types.specs.declared.words.Kind.{Kind}
 use Rattle.wl_types.specs.declared.words.Reason.{Reason}
 use Rattle.wl_types.specs.declared.phases.Change.{Change}
 use Rattle.wl_types.specs.declared.phases.Phase.TheVariants.{Stolen, Released}
@@ -19,116 +16,19 @@ use Rattle.wl_types.specs.declared.ask.Ask.{Ask}
 use Rattle.wl_machine.specs.declared.rows.AgentRow.{AgentRow}
 use Rattle.wl_machine.specs.declared.rows.SignalRow.{SignalRow}
 use Rattle.wl_machine.specs.declared.rows.HeldRow.{HeldRow}
-use Rattle.wl_machine.specs.declared.rows.PendingRow.{PendingRow}
 use Rattle.wl_machine.specs.declared.command.Command.{Command}
 use Rattle.wl_machine.specs.declared.command.Command.TheVariants.{Enter, SetActive, NewSignal, Request, Take, Release, Abort, Terminate, Query}
 use Rattle.wl_machine.specs.declared.command.Reply.{Reply}
 use Rattle.wl_machine.specs.declared.command.Reply.TheVariants as reply
-use Rattle.wl_machine.specs.State.{State, opening}
-use Rattle.wl_machine.specs.Grants.{grants, without_first, granted_lock, locks, queue, Lists, lists_of, settle_name, settle_names}
+use Rattle.wl_machine.specs.State.{State}
+use Rattle.wl_machine.specs.Grants.{locks, lists_of}
 use Rattle.wl_machine.specs.Refusals.{refusal, has_agent, has_signal, reason_in, live_count, request_refusals, unknown_signal, aborted_signal, aborted_refusal}
-use Rattle.wl_machine.specs.Step.{Outcome, settled, accepted, step, unless_refused, is_untaken, with_taken, is_lock_of, is_signal, is_waiting_on, is_abortable, with_reason, with_active, new_request, available, request_step, steal_locks, enqueue, stealing_request, plain_request, unavailable, without_lock, with_aborted, without_agent, lock_ends, abort_ends, terminate_ends, untaken_numbers}
-use Rattle.wl_machine.specs.OneMove.{IsNumbered}
-use Rattle.wl_machine.specs.Standing.{is_abortable_signal, Wait, Hold, IsStanding, OpeningStands, StandsAfterEach, AbortedHaveNone}
-use Rattle.wl_machine.proofs.Fronts.{first_requests, first_granted}
+use Rattle.wl_machine.specs.Step.{Outcome, settled, accepted, step, unless_refused, is_untaken, with_taken, is_lock_of, is_signal, is_waiting_on, is_abortable, with_reason, with_active, new_request, available, request_step, steal_locks, enqueue, stealing_request, plain_request, unavailable, without_lock, with_aborted, without_agent, lock_ends, abort_ends, terminate_ends}
+use Rattle.wl_machine.specs.Standing.{is_abortable_signal, IsStanding, OpeningStands, StandsAfterEach, AbortedHaveNone}
+use Rattle.wl_machine.proofs.Claims.{Hold, Keeps, wait_none, wait_all, hold_none, hold_all, wait_left, hold_left, wait_as, hold_as, wait_append, settles_keep}
 use Rattle.wl_machine.proofs.Lists.{any_map, any_same, and_first, and_second}
 use Rattle.wl_machine.proofs.OneMove.{accepted_numbered}
 use Rattle.wl_machine.proofs.Runs.{either}
-
-abbrev Test : Type 0
-Test = ℕ → Option ℕ → Bool
-
--- what is left of a list that passes passes another test, where what is left out need not
-wait_left : (one two : Test) (p : PendingRow → Bool) (xs : List PendingRow) → ((r : PendingRow) → p r ≡ true → one r.agent r.signal ≡ true → two r.agent r.signal ≡ true) → Wait one xs → Wait two (filter p xs)
-wait_left one two p [] more all = tt
-wait_left one two p (x ∷ xs) more all = at_test (p x) refl (wait_left one two p xs more all.1)
-  where
-    at_test : (b : Bool) → p x ≡ b → Wait two (filter p xs) → Wait two (cond b (x ∷ filter p xs) (filter p xs))
-    at_test true is rest = (more x is all.0, rest)
-    at_test false is rest = rest
-
-hold_left : (one two : Test) (p : HeldRow → Bool) (xs : List HeldRow) → ((l : HeldRow) → p l ≡ true → l.taken ≡ false → one l.agent l.signal ≡ true → two l.agent l.signal ≡ true) → Hold one xs → Hold two (filter p xs)
-hold_left one two p [] more all = tt
-hold_left one two p (x ∷ xs) more all = at_test (p x) refl (hold_left one two p xs more all.1)
-  where
-    passes : p x ≡ true → (t : Bool) → x.taken ≡ t → (t || one x.agent x.signal) ≡ true → (t || two x.agent x.signal) ≡ true
-    passes is true flag was = refl
-    passes is false flag was = more x is flag was
-
-    at_test : (b : Bool) → p x ≡ b → Hold two (filter p xs) → Hold two (cond b (x ∷ filter p xs) (filter p xs))
-    at_test true is rest = (passes is x.taken refl all.0, rest)
-    at_test false is rest = rest
-
-wait_as : (one two : Test) (xs : List PendingRow) → ((agent : ℕ) (signal : Option ℕ) → one agent signal ≡ true → two agent signal ≡ true) → Wait one xs → Wait two xs
-wait_as one two [] more all = tt
-wait_as one two (x ∷ xs) more all = (more x.agent x.signal all.0, wait_as one two xs more all.1)
-
-hold_as : (one two : Test) (xs : List HeldRow) → ((agent : ℕ) (signal : Option ℕ) → one agent signal ≡ true → two agent signal ≡ true) → Hold one xs → Hold two xs
-hold_as one two [] more all = tt
-hold_as one two (x ∷ xs) more all = (passes x.taken all.0, hold_as one two xs more all.1)
-  where
-    passes : (t : Bool) → (t || one x.agent x.signal) ≡ true → (t || two x.agent x.signal) ≡ true
-    passes true was = refl
-    passes false was = more x.agent x.signal was
-
-hold_append : (test : Test) (xs ys : List HeldRow) → Hold test xs → Hold test ys → Hold test (xs ++ ys)
-hold_append test [] ys one two = two
-hold_append test (x ∷ xs) ys one two = (one.0, hold_append test xs ys one.1 two)
-
-wait_append : (test : Test) (xs ys : List PendingRow) → Wait test xs → Wait test ys → Wait test (xs ++ ys)
-wait_append test [] ys one two = two
-wait_append test (x ∷ xs) ys one two = (one.0, wait_append test xs ys one.1 two)
-
-wait_first : (test : Test) (name : List ℕ) (count : ℕ) (xs : List PendingRow) → Wait test xs → Wait test (first_requests name count xs)
-wait_first test name zero xs all = tt
-wait_first test name (suc count) [] all = tt
-wait_first test name (suc count) (x ∷ xs) all =
-    elim (bytes_eq x.name name) as (λ b. Wait test (cond b (x ∷ first_requests name count xs) (first_requests name (suc count) xs)))
-    [ true ↦ (all.0, wait_first test name count xs all.1) | false ↦ wait_first test name (suc count) xs all.1 ]
-
-wait_without : (test : Test) (name : List ℕ) (count : ℕ) (xs : List PendingRow) → Wait test xs → Wait test (without_first name count xs)
-wait_without test name zero xs all = all
-wait_without test name (suc count) [] all = all
-wait_without test name (suc count) (x ∷ xs) all =
-    elim (bytes_eq x.name name) as (λ b. Wait test (cond b (without_first name count xs) (x ∷ without_first name (suc count) xs)))
-    [ true ↦ wait_without test name count xs all.1 | false ↦ (all.0, wait_without test name (suc count) xs all.1) ]
-
-hold_granted : (test : Test) (xs : List PendingRow) → Wait test xs → Hold test (map granted_lock xs)
-hold_granted test [] all = tt
-hold_granted test (x ∷ xs) all = (all.0, hold_granted test xs all.1)
-
-parts_are_all : (name : List ℕ) (count : ℕ) (xs : List PendingRow) → length (first_requests name count xs) + length (without_first name count xs) ≡ length xs
-parts_are_all name zero xs = omega arith
-parts_are_all name (suc count) [] = refl
-parts_are_all name (suc count) (x ∷ xs) =
-    elim (bytes_eq x.name name) as (λ b. length (cond b (x ∷ first_requests name count xs) (first_requests name (suc count) xs)) + length (cond b (without_first name count xs) (x ∷ without_first name (suc count) xs)) ≡ length (x ∷ xs)) [
-      | true ↦ (let rest = parts_are_all name count xs in omega (arith, rest))
-      | false ↦ (let rest = parts_are_all name (suc count) xs in omega (arith, rest))
-    ]
-
--- what lists keep while queues are processed
-record Keeps (test : Test) (most : ℕ) (lists : Lists) : Type 0 where
-  few : length lists.held + length lists.pending ≤ most
-  waiting : Wait test lists.pending
-  holding : Hold test lists.held
-
-settle_keeps : (test : Test) (most : ℕ) (lists : Lists) (name : List ℕ) → Keeps test most lists → Keeps test most (settle_name lists name)
-settle_keeps test most lists name all =
-    let granted = grants (locks name lists.held) (queue name lists.pending) in
-    let first : first_requests name (length granted) lists.pending ≡ granted = first_granted name (locks name lists.held) lists.pending in
-    let sum : length granted + length (without_first name (length granted) lists.pending) ≡ length lists.pending = rw first at (parts_are_all name (length granted) lists.pending) in
-    let grown = length-append lists.held (map granted_lock granted) in
-    let mapped : length (map granted_lock granted) ≡ length granted = length-map granted granted_lock in
-    let few = all.few in
-    record {
-      few = omega (arith, sum, grown, mapped, few);
-      waiting = wait_without test name (length granted) lists.pending all.waiting;
-      holding = hold_append test lists.held (map granted_lock granted) all.holding (hold_granted test granted (subst (Wait test) first (wait_first test name (length granted) lists.pending all.waiting)));
-    }
-
-settles_keep : (names : List (List ℕ)) (test : Test) (most : ℕ) (lists : Lists) → Keeps test most lists → Keeps test most (settle_names lists names)
-settles_keep [] test most lists all = all
-settles_keep (name ∷ names) test most lists all = settles_keep names test most (settle_name lists name) (settle_keeps test most lists name all)
 
 -- a state without its numbers
 abbrev Firm : State → Type 0
@@ -384,19 +284,20 @@ pub stands_after_each : StandsAfterEach
 stands_after_each s command standing = at_refusal (refusal s command) refl
   where
     firm : Firm s
-    firm = record { few = standing.few; waiting = standing.waiting; holding = standing.holding }
+    firm = record { few = standing.few; waiting = wait_all (is_abortable_signal s) s.pending standing.waiting; holding = hold_all (is_abortable_signal s) s.held standing.holding }
 
     at_refusal : (o : Option Refusal) → refusal s command ≡ o → IsStanding (unless_refused o s command).state
     at_refusal (Some r) is = standing
     at_refusal None is =
+        let t = (accepted s command).state in
         let after = firm_accepted s command is firm in
-        record { numbered = accepted_numbered s command standing.numbered; few = after.few; waiting = after.waiting; holding = after.holding }
+        record { numbered = accepted_numbered s command standing.numbered; few = after.few; waiting = wait_none (is_abortable_signal t) t.pending after.waiting; holding = hold_none (is_abortable_signal t) t.held after.holding }
 
 pub opening_stands : OpeningStands
-opening_stands next = record { numbered = record { one = λ id. omega arith; below = λ id low. refl }; few = omega arith; waiting = tt; holding = tt }
+opening_stands next = record { numbered = record { one = λ id. omega arith; below = λ id low. refl }; few = omega arith; waiting = refl; holding = refl }
 
 pub aborted_have_none : AbortedHaveNone
-aborted_have_none s agent signal standing closed = none_in s.held standing.holding
+aborted_have_none s agent signal standing closed = none_in s.held (hold_all (is_abortable_signal s) s.held standing.holding)
   where
     none_in : (xs : List HeldRow) → Hold (is_abortable_signal s) xs → map (λ lock. lock.number) (filter (is_abortable agent signal) xs) ≡ []
     none_in [] all = refl

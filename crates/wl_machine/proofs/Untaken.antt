@@ -1,12 +1,11 @@
 -- The locks of a signal that were not taken: which they are, what a take leaves of them, and what an abort does to them.
-use Rattle.std.proofs.Common.{◌≡◌, ◌≢◌, ℕ, ◌≤◌, Bool, true, false, cond, List, [], ◌∷◌, ◌++◌, length, map, refl, arith, ap, sym, ◌∙◌, eq-eqb, ne_eqb, append-nil, length-append, inl, subst}
-use Rattle.std.specs.Prelude.{◌==◌, ◌&&◌, ◌||◌, filter, not, is_some}
+use Rattle.std.proofs.Common.{◌≡◌, ℕ, ◌≤◌, Bool, true, false, cond, List, [], ◌∷◌, length, map, refl, arith, ap, sym, ◌∙◌, eq-eqb, ne_eqb, length-append, inl}
+use Rattle.std.specs.Prelude.{◌==◌, ◌&&◌, ◌||◌, filter, not}
 use Rattle.std.specs.List.{list_any}
 use mathlib.Core.Logic.{dite}
 use native.Mathlib.Decide.{ℕ_discrete}
-use Rattle.wl_types.specs.declared.words.Reason.{Reason}
 use Rattle.wl_types.specs.declared.phases.Phase.{Phase}
-use Rattle.wl_types.specs.declared.phases.Phase.TheVariants.{Pending, Granted, Taken, Aborted}
+use Rattle.wl_types.specs.declared.phases.Phase.TheVariants.{Granted, Taken, Aborted}
 use Rattle.wl_types.specs.declared.phases.Change.{Change}
 use Rattle.wl_types.specs.declared.answers.TakeAnswer.{TakeAnswer}
 use Rattle.wl_types.specs.declared.answers.TakeAnswer.TheVariants as take_answer
@@ -16,11 +15,10 @@ use Rattle.wl_machine.specs.declared.command.Command.TheVariants.{Take}
 use Rattle.wl_machine.specs.declared.command.Reply.{Reply}
 use Rattle.wl_machine.specs.declared.command.Reply.TheVariants as reply
 use Rattle.wl_machine.specs.State.{State}
-use Rattle.wl_machine.specs.Refusals.{reason_in}
-use Rattle.wl_machine.specs.Step.{Outcome, Gives, is_abortable, is_waiting_on, is_signal, is_untaken, with_taken, with_aborted, untaken_numbers, lock_ends, request_ends, abort_ends, abort_step, settled}
+use Rattle.wl_machine.specs.Step.{Outcome, Gives, is_abortable, is_waiting_on, is_signal, is_untaken, with_taken, with_aborted, untaken_numbers, lock_ends, request_ends, abort_ends, settled}
 use Rattle.wl_machine.specs.Laws.{phases_of}
 use Rattle.wl_machine.specs.OneMove.{lock_phase, held_phases, pending_phases, phases_in, MovesOnce, is_plain_move, IsNumbered}
-use Rattle.wl_machine.specs.Standing.{is_in, AbortsIt, AbortEndsUntaken}
+use Rattle.wl_machine.specs.Standing.{is_in, AbortEndsUntaken}
 use Rattle.wl_machine.proofs.SettlingMoves.{settled_moves, settled_none, phases_of-append}
 use Rattle.wl_machine.proofs.EndMoves.{no_lock, no_request, requests_end, both_end}
 use Rattle.wl_machine.proofs.OneMove.{take_takes_one, take_lists}

@@ -1,12 +1,10 @@
 -- What holds of every state that commands lead to (own). The statements at the end are laws: each is the contract of a public
 -- function.
-use Rattle.std.specs.Prelude.{◌≡◌, ◌≤◌, ◌==◌, ℕ, Bool, true, false, not, ◌&&◌, ◌||◌, List, [], ◌∷◌, is_some, Option, Some, None}
+use Rattle.std.specs.Prelude.{◌≡◌, ◌≤◌, ◌==◌, ℕ, Bool, true, false, not, ◌&&◌, ◌||◌, List, [], ◌∷◌, filter, is_some, Option, Some, None}
 use Rattle.std.specs.List.{list_any}
 use Rattle.wl_types.specs.declared.words.Reason.{Reason}
 use Rattle.wl_types.specs.declared.phases.Phase.TheVariants.{Granted, Aborted}
 use Rattle.wl_types.specs.declared.phases.Numbers.{Numbers}
-use Rattle.wl_machine.specs.declared.rows.HeldRow.{HeldRow}
-use Rattle.wl_machine.specs.declared.rows.PendingRow.{PendingRow}
 use Rattle.wl_machine.specs.declared.command.Command.{Command}
 use Rattle.wl_machine.specs.State.{State, opening}
 use Rattle.wl_machine.specs.Refusals.{has_agent, has_signal, reason_in, live_count}
@@ -19,22 +17,13 @@ abbrev pub is_abortable_signal : State → ℕ → Option ℕ → Bool
 is_abortable_signal s agent None = true
 is_abortable_signal s agent (Some signal) = has_agent s agent && has_signal s agent signal && not (is_some (reason_in s.signals agent signal))
 
--- each request that waits passes the test with its agent and its signal, and so does each lock that was not taken
-abbrev pub Wait : (ℕ → Option ℕ → Bool) → List PendingRow → Type 0
-Wait test [] = Unit {0}
-Wait test (request ∷ requests) = (test request.agent request.signal ≡ true) × Wait test requests
-
-abbrev pub Hold : (ℕ → Option ℕ → Bool) → List HeldRow → Type 0
-Hold test [] = Unit {0}
-Hold test (lock ∷ locks) = ((lock.taken || test lock.agent lock.signal) ≡ true) × Hold test locks
-
 -- numbers are apart; no more requests are live than are let in; and no aborted signal is left with a request that waits or with a
 -- lock that was not taken
 pub record IsStanding (s : State) : Type 0 where
   pub numbered : IsNumbered s
   pub few : live_count s ≤ 65536
-  pub waiting : Wait (is_abortable_signal s) s.pending
-  pub holding : Hold (is_abortable_signal s) s.held
+  pub waiting : filter (λ request. not (is_abortable_signal s request.agent request.signal)) s.pending ≡ []
+  pub holding : filter (λ lock. not (lock.taken || is_abortable_signal s lock.agent lock.signal)) s.held ≡ []
 
 -- whether a number is among some
 abbrev pub is_in : ℕ → List ℕ → Bool

@@ -1,16 +1,16 @@
 -- What holds once a signal is aborted.
 use Rattle.std.proofs.Common.{◌≡◌, ℕ, ◌+◌, List, [], ◌∷◌, ◌++◌, length, map, refl, arith, true, false, true≢false, sym, ap, ◌∙◌, cond, append-nil, Bool, inl, inr, subst}
-use Rattle.std.specs.Prelude.{◌==◌, ◌&&◌, not, Option, Some, None, is_some}
+use Rattle.std.specs.Prelude.{◌⊎◌, Result, Ok, Err, IfOk, IfErr, ◌==◌, ◌&&◌, not, Option, Some, is_some}
 use Rattle.std.specs.List.{list_any}
 use Rattle.std.proofs.lemmas.List.{length-map}
 use Rattle.wl_types.specs.Refusals.{refuse_if, first_refusal}
 use Rattle.wl_types.specs.declared.words.Reason.{Reason}
 use Rattle.wl_types.specs.declared.refusal.Refusal.{Refusal}
 use Rattle.wl_types.specs.declared.refusal.Refusal.TheVariants.{NoSuchAgent, NoSuchSignal}
-use Rattle.wl_types.specs.declared.phases.Phase.{Phase}
 use Rattle.wl_types.specs.declared.phases.Phase.TheVariants as phase
 use Rattle.wl_types.specs.declared.phases.Change.{Change}
 use Rattle.wl_types.specs.declared.answers.AbortAnswer.{AbortAnswer}
+use Rattle.wl_types.specs.declared.answers.AbortAnswer.TheVariants as abort_answer
 use Rattle.wl_machine.specs.declared.rows.AgentRow.{AgentRow}
 use Rattle.wl_machine.specs.declared.rows.SignalRow.{SignalRow}
 use Rattle.wl_machine.specs.declared.command.Command.TheVariants.{Take, Abort}
@@ -26,11 +26,12 @@ use Rattle.wl_machine.proofs.Standing.{aborted_have_none}
 use Rattle.wl_machine.proofs.Untaken.{abort_ends_untaken}
 use Rattle.wl_journal.specs.Books.{Book, Appends}
 use Rattle.wl_journal.specs.History.{recorded}
-use Rattle.wl_manager.specs.Keepers.{Kept, seat_at, phases_at, cells_at, MayBring, MaySettle, after}
+use Rattle.wl_manager.specs.Keepers.{Kept, phases_at, cells_at, MaySettle, after}
+use Rattle.wl_manager.specs.Agents.{entries_of_abort}
 use Rattle.wl_manager.specs.Locked.{Inner, IsKept, Stays}
 use Rattle.wl_manager.specs.Aborts.{Found, numbers_of, taken, aborted, take_entry, with_takes, Tried, Aborts}
 use Rattle.wl_manager.proofs.Aborting.{both_append}
-use Rattle.wl_manager.proofs.Keeping.{Ready, LetGoBy, Grounds, grounds, ready_abort, kept_on, kept_off, may_follow}
+use Rattle.wl_manager.proofs.Keeping.{LetGoBy, Grounds, ready_abort, kept_on, kept_off, may_follow}
 
 -- takes leave all but the locks
 record Same (s t : State) : Type 0 where
@@ -63,6 +64,15 @@ refused_closed s agent signal reason r is = at_tests (has_agent s agent) (has_si
     at_tests true false is = refl
     at_tests false b is = refl
 
+-- nor has one of a signal that has its reason
+closed_by : (s : State) (agent signal : ℕ) → is_some (reason_in s.signals agent signal) ≡ true → is_abortable_signal s agent (Some signal) ≡ false
+closed_by s agent signal is = rw is (and_false (has_agent s agent) (has_signal s agent signal))
+  where
+    and_false : (a b : Bool) → (a && b && false) ≡ false
+    and_false true true = refl
+    and_false true false = refl
+    and_false false b = refl
+
 no_locks : (found : Found) → numbers_of found ≡ [] → found ≡ []
 no_locks [] is = refl
 no_locks (lock ∷ found) is = absurd (cc)
@@ -86,14 +96,6 @@ abort_ends s agent signal reason new answer changes id standing gives = at_reaso
     done : abort_step s agent signal reason ≡ record { state = new; reply = reply.Aborted answer; changes = changes }
     done = by_step s (Abort agent signal reason) new (reply.Aborted answer) changes gives refl
 
-    closed : is_some (reason_in s.signals agent signal) ≡ true → is_abortable_signal s agent (Some signal) ≡ false
-    closed is = rw is (and_false (has_agent s agent) (has_signal s agent signal))
-      where
-        and_false : (a b : Bool) → (a && b && false) ≡ false
-        and_false true true = refl
-        and_false true false = refl
-        and_false false b = refl
-
     at_reason : (b : Bool) → is_some (reason_in s.signals agent signal) ≡ b → Ends s agent signal reason new changes id
     at_reason false is =
         let law = abort_ends_untaken s agent signal reason id standing.numbered is in
@@ -102,7 +104,7 @@ abort_ends s agent signal reason new answer changes id standing gives = at_reaso
           others = λ out. subst (λ (o : Outcome). MovesOnce is_plain_move (phases_in s id) (phases_of id o.changes) (phases_in o.state id)) done (law.others out);
         }
     at_reason true is =
-        let none : untaken_numbers s agent signal ≡ [] = aborted_have_none s agent signal standing (closed is) in
+        let none : untaken_numbers s agent signal ≡ [] = aborted_have_none s agent signal standing (closed_by s agent signal is) in
         let same : record { state = s; reply = reply.Aborted _; changes = [] } ≡ record { state = new; reply = reply.Aborted answer; changes = changes } = rw is at done in
         record {
           untaken = λ has. absurd (true≢false (sym has ∙ ap (is_in id) none));
@@ -168,6 +170,22 @@ kept_aborted counts all old new old_kept agent signal reason mid mid_kept found 
     kept_on counts all (record old { book = mid; kept = mid_kept; total = old.total + length (taken found) }) new (Abort agent signal reason) (reply.Aborted answer) (halfway counts all old old_kept agent signal reason mid mid_kept found kept tried) gives refl refl adds
     (follows old.book old_kept agent signal reason mid mid_kept found new.book answer changes new.kept tried gives told settles) (omega (arith, next)) (omega (arith, opened)) count share
 
+-- a second abort finds nothing
+again_finds : (old : Book) (old_kept : Kept) (agent signal : ℕ) (reason : Reason) (mid : Book) (mid_kept : Kept) (found : Found) (new : State) (answer : AbortAnswer) (changes : List Change) → Tried old old_kept agent signal reason mid mid_kept found [] → IsStanding old.state
+    → Gives mid.state (Abort agent signal reason) new (reply.Aborted answer) changes → answer ≡ abort_answer.AlreadyAborted → found ≡ []
+again_finds old old_kept agent signal reason mid mid_kept found new answer changes tried standing gives again =
+    let same = subst (λ (t : State). Same old.state t) (sym tried.state) (takes_leave (taken found) old.state) in
+    let was : is_some (reason_in old.state.signals agent signal) ≡ true = ap (λ (g : List SignalRow). is_some (reason_in g agent signal)) (sym same.signals) ∙ at_reason (is_some (reason_in mid.state.signals agent signal)) refl in
+    let none = aborted_have_none old.state agent signal standing (closed_by old.state agent signal was) in
+    no_locks found (sym (append-nil (numbers_of found)) ∙ (tried.locks ∙ none))
+  where
+    done : abort_step mid.state agent signal reason ≡ record { state = new; reply = reply.Aborted answer; changes = changes }
+    done = by_step mid.state (Abort agent signal reason) new (reply.Aborted answer) changes gives refl
+
+    at_reason : (b : Bool) → is_some (reason_in mid.state.signals agent signal) ≡ b → is_some (reason_in mid.state.signals agent signal) ≡ true
+    at_reason true is = is
+    at_reason false is = absurd (let said : reply.Aborted abort_answer.Done ≡ reply.Aborted abort_answer.AlreadyAborted = (rw is at (ap (λ (o : Outcome). o.reply) done)) ∙ ap (λ (a : AbortAnswer). reply.Aborted a) again in cc)
+
 pub does_aborted : (counts : Bool) (all : ℕ) (old was new : Inner) (old_kept : Kept) (agent signal : ℕ) (reason : Reason) (mid : Book) (mid_kept : Kept) (found : Found) (answer : AbortAnswer) (before : List Change) → old ≡ was → IsKept counts all old → LetGoBy old before old_kept
     → Tried old.book old_kept agent signal reason mid mid_kept found [] → Gives mid.state (Abort agent signal reason) new.book.state (reply.Aborted answer) new.book.recent → Appends mid new.book (recorded (Abort agent signal reason) (reply.Aborted answer))
     → ((id : ℕ) → cells_at id new.kept ≡ cells_at id mid_kept) → Aborts was new agent signal reason answer found
@@ -178,6 +196,7 @@ does_aborted counts all old was new old_kept agent signal reason mid mid_kept fo
       gives = subst (λ (s : State). Gives s (Abort agent signal reason) new.book.state (reply.Aborted answer) new.book.recent) tried.state gives;
       appends = both_append old.book mid new.book (map take_entry (taken found)) (recorded (Abort agent signal reason) (reply.Aborted answer)) tried.appends adds;
       cells = λ id phase live. cells id ∙ (tried.cells id ∙ ready.cells id phase live);
+      again = again_finds old.book old_kept agent signal reason mid mid_kept found new.book.state answer new.book.recent tried kept.standing gives;
     })
 
 -- an abort that is refused leaves all as it was
@@ -217,3 +236,25 @@ pub refused_before : (old was : Inner) (old_kept : Kept) (agent signal : ℕ) (r
     → refusal mid.state (Abort agent signal reason) ≡ Some r → refusal was.book.state (Abort agent signal reason) ≡ Some r
 refused_before old was old_kept agent signal reason mid mid_kept found r is standing tried refused =
     subst (λ (o : Inner). refusal o.book.state (Abort agent signal reason) ≡ Some r) is (refused_finds old.book old_kept agent signal reason mid mid_kept found r tried standing refused).1
+
+-- an abort's own entry
+pub own_entries : (agent signal : ℕ) (reason : Reason) (answer : AbortAnswer) → length (recorded (Abort agent signal reason) (reply.Aborted answer)) ≡ entries_of_abort answer
+own_entries agent signal reason abort_answer.Done = refl
+own_entries agent signal reason abort_answer.AlreadyAborted = refl
+
+-- an abort is refused for its agent or its signal, and never for memory
+pub why_refused : (s : State) (agent signal : ℕ) (reason : Reason) (r : Refusal) → refusal s (Abort agent signal reason) ≡ Some r → (r ≡ NoSuchAgent) ⊎ (r ≡ NoSuchSignal)
+why_refused s agent signal reason r is = at_tests (has_agent s agent) (has_signal s agent signal) is
+  where
+    at_tests : (a b : Bool) → first_refusal (refuse_if (not a) NoSuchAgent ∷ refuse_if (not b) NoSuchSignal ∷ []) ≡ Some r → (r ≡ NoSuchAgent) ⊎ (r ≡ NoSuchSignal)
+    at_tests true true is = absurd (cc)
+    at_tests true false is = inr (let same : NoSuchSignal ≡ r = cc in sym same)
+    at_tests false b is = inl (let same : NoSuchAgent ≡ r = cc in sym same)
+
+pub if_ok : {X Y : Type 0} (P Q : X → Type 0) (r : Result X Y) → ((x : X) → P x → Q x) → IfOk r P → IfOk r Q
+if_ok P Q (Ok x) more is = more x is
+if_ok P Q (Err y) more is = is
+
+pub if_err : {X Y : Type 0} (P Q : Y → Type 0) (r : Result X Y) → ((y : Y) → P y → Q y) → IfErr r P → IfErr r Q
+if_err P Q (Ok x) more is = is
+if_err P Q (Err y) more is = more y is

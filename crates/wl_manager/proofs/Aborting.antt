@@ -1,16 +1,13 @@
 -- An abort, lock by lock.
-use Rattle.std.proofs.Common.{◌≡◌, ◌≢◌, ℕ, zero, suc, ◌+◌, ◌<◌, ◌≤◌, List, [], ◌∷◌, ◌++◌, length, map, refl, arith, true, false, sym, ap, ◌∙◌, cond, eq-eqb, ne_eqb, append-nil, append_assoc, Bool, inl, inr, subst, length-append}
-use Rattle.std.specs.Prelude.{◌==◌, ◌||◌, ◌&&◌, filter, not, Option, Some, None, slice_get, is_some}
-use Rattle.std.specs.List.{list_any}
+use Rattle.std.proofs.Common.{◌≡◌, ℕ, suc, ◌+◌, ◌≤◌, List, [], ◌∷◌, ◌++◌, length, map, refl, arith, true, false, sym, ap, ◌∙◌, cond, eq-eqb, ne_eqb, append-nil, append_assoc, Bool, subst, length-append}
+use Rattle.std.specs.Prelude.{◌==◌, ◌||◌, filter, not, Some, None, slice_get}
 use Rattle.std.proofs.lemmas.List.{length-map, map-append}
 use Rattle.std.proofs.lemmas.List.Elements.{filter-append}
 use Rattle.std.proofs.lemmas.List.Folds.{list_any-append}
 use mathlib.Core.Logic.{dite}
 use native.Mathlib.Decide.{ℕ_discrete}
 use Rattle.wl_types.specs.declared.words.Reason.{Reason}
-use Rattle.wl_types.specs.declared.phases.Phase.{Phase}
 use Rattle.wl_types.specs.declared.phases.Phase.TheVariants.{Granted, Taken, Aborted}
-use Rattle.wl_types.specs.declared.phases.Change.{Change}
 use Rattle.wl_types.specs.declared.answers.TakeAnswer.{TakeAnswer}
 use Rattle.wl_types.specs.declared.answers.TakeAnswer.TheVariants as take_answer
 use Rattle.wl_machine.specs.declared.command.Command.{Command}
@@ -27,7 +24,7 @@ use Rattle.wl_journal.specs.declared.entry.Entry.{Entry}
 use Rattle.wl_journal.specs.Books.{Book, Appends}
 use Rattle.wl_journal.specs.History.{recorded}
 use Rattle.wl_manager.specs.Keepers.{Kept, phases_at, cells_at}
-use Rattle.wl_manager.specs.Aborts.{Found, numbers_of, taken, aborted, take_entry, with_takes, Tried}
+use Rattle.wl_manager.specs.Aborts.{Found, numbers_of, taken, aborted, take_entry, Tried}
 
 -- what stands where the first of two lists ends
 next_is : (xs rest : List ℕ) (id : ℕ) → slice_get (xs ++ rest) (length xs) ≡ Some id → (more : List ℕ) × (rest ≡ id ∷ more)
@@ -251,3 +248,13 @@ taken_same found id = ap length (taken_pushed found id false ∙ append-nil (tak
 
 pub taken_more : (found : Found) (id : ℕ) → length (taken (found ++ (id, true) ∷ [])) ≡ length (taken found) + 1
 taken_more found id = ap length (taken_pushed found id true) ∙ length-append (taken found) (id ∷ [])
+
+-- what an exchange found, by its answer
+abbrev pub Exchanged : Bool → ℕ → Reason → Kept → Kept → Type 0
+Exchanged answer id reason old new = (other : ℕ) → phases_at other new ≡ cond (other == id) (cond answer (Aborted reason) Taken ∷ []) (phases_at other old)
+
+pub aborted_one : (answer : Bool) (id : ℕ) (reason : Reason) (old new : Kept) → Exchanged answer id reason old new → answer ≡ true → (j : ℕ) → phases_at j new ≡ cond (j == id) (Aborted reason ∷ []) (phases_at j old)
+aborted_one answer id reason old new is said j = is j ∙ rw said refl
+
+pub found_taken : (answer : Bool) (id : ℕ) (reason : Reason) (old new : Kept) → Exchanged answer id reason old new → answer ≡ false → (j : ℕ) → phases_at j new ≡ cond (j == id) (Taken ∷ []) (phases_at j old)
+found_taken answer id reason old new is said j = is j ∙ rw said refl

@@ -1,7 +1,6 @@
 -- What holds under the lock, command by command.
-use Rattle.std.proofs.Common.{◌≡◌, ◌≢◌, ℕ, zero, suc, ◌+◌, ◌<◌, ◌≤◌, List, [], ◌∷◌, ◌++◌, length, map, refl, arith, true, false, sym, ap, ◌∙◌, cond, eqb, eq-eqb, ne_eqb, append-nil, Bool, inl, inr, subst, length-append}
-use Rattle.std.specs.Prelude.{◌⊎◌, ◌==◌, ◌&&◌, ◌||◌, ◌^◌, filter, not, IsTrue, Option, Some, None, Result, Ok, Err, OnErr}
-use Rattle.std.specs.List.{list_any}
+use Rattle.std.proofs.Common.{◌≡◌, ◌≢◌, ℕ, ◌+◌, ◌≤◌, List, [], ◌∷◌, ◌++◌, length, refl, arith, true, false, sym, ap, ◌∙◌, cond, eq-eqb, ne_eqb, append-nil, Bool, inl, inr, subst, length-append}
+use Rattle.std.specs.Prelude.{◌==◌, ◌&&◌, ◌^◌, filter, not, IsTrue, Option, Some, None, Result, Ok, Err, OnErr}
 use mathlib.Core.Logic.{dite}
 use native.Mathlib.Decide.{ℕ_discrete}
 use Rattle.wl_types.specs.Phases.{is_end}
@@ -10,7 +9,7 @@ use Rattle.wl_types.specs.declared.phases.Phase.TheVariants.{Pending}
 use Rattle.wl_types.specs.declared.phases.Change.{Change}
 use Rattle.wl_types.specs.declared.words.Reason.{Reason}
 use Rattle.wl_types.specs.declared.ask.Ask.{Ask}
-use Rattle.wl_cell.specs.Seats.{KeeperSeat, CellId, may_settle}
+use Rattle.wl_cell.specs.Seats.{KeeperSeat, may_settle}
 use Rattle.wl_machine.specs.declared.command.Command.{Command}
 use Rattle.wl_machine.specs.declared.command.Command.TheVariants.{Request, Abort}
 use Rattle.wl_machine.specs.declared.command.Reply.{Reply}
@@ -21,11 +20,11 @@ use Rattle.wl_machine.specs.Laws.{phases_of}
 use Rattle.wl_machine.specs.OneMove.{phases_in, MovesOnce, is_plain_move, table_of, entering, is_take}
 use Rattle.wl_machine.specs.Standing.{IsStanding}
 use Rattle.wl_machine.proofs.OneMove.{is_refused, by_step, moves_by_step, numbers_by_step, entrants, askers, no_change, nothing_entered}
-use Rattle.wl_machine.proofs.Standing.{standing_by_step, opening_stands}
+use Rattle.wl_machine.proofs.Standing.{standing_by_step}
 use Rattle.wl_journal.specs.Books.{Book, Appends}
 use Rattle.wl_journal.specs.History.{recorded}
-use Rattle.wl_manager.specs.Keepers.{Kept, seat_at, phases_of_seat, cells_of_seat, phases_at, cells_at, ends_request, MayBring, MaySettle, after}
-use Rattle.wl_manager.specs.Locked.{Inner, IsKept, ends_in, first, KeepsCells, Does, Stays}
+use Rattle.wl_manager.specs.Keepers.{Kept, seat_at, phases_of_seat, cells_of_seat, phases_at, cells_at, ends_request, MaySettle, after}
+use Rattle.wl_manager.specs.Locked.{Inner, IsKept, ends_in, first, Does, Stays}
 
 plain_settles : (from to : Phase) → is_plain_move from to ≡ true → IsTrue (may_settle from to)
 plain_settles from to move = grind arith

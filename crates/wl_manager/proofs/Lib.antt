@@ -1,4 +1,4 @@
 mod Settling
 pub mod Keeping
 mod Aborting
-mod Aborted
+pub mod Aborted

@@ -1,6 +1,6 @@
 -- Changes, one after another.
-use Rattle.std.proofs.Common.{◌≡◌, ◌≢◌, ℕ, zero, suc, ◌+◌, ◌<◌, List, [], ◌∷◌, ◌++◌, length, map, take, refl, arith, true, false, sym, ap, ◌∙◌, cond, eqb, eq-eqb, ne_eqb, add-one, append-nil, Bool}
-use Rattle.std.specs.Prelude.{◌==◌, slice_index_or, filter}
+use Rattle.std.proofs.Common.{◌≡◌, ◌≢◌, ℕ, zero, suc, ◌+◌, ◌<◌, List, [], ◌∷◌, ◌++◌, length, take, refl, arith, sym, ap, ◌∙◌, cond, eq-eqb, ne_eqb, add-one, append-nil}
+use Rattle.std.specs.Prelude.{◌==◌, slice_index_or}
 use mathlib.Core.Logic.{dite}
 use native.Mathlib.Decide.{ℕ_discrete}
 use Rattle.wl_types.specs.declared.phases.Phase.{Phase}

@@ -3,6 +3,7 @@ use Rattle.std.specs.Prelude.{◌≡◌, ℕ, Bool, List, [], ◌∷◌, ◌++�
 use Rattle.wl_types.specs.declared.words.Reason.{Reason}
 use Rattle.wl_types.specs.declared.phases.Phase.TheVariants as phase
 use Rattle.wl_types.specs.declared.answers.AbortAnswer.{AbortAnswer}
+use Rattle.wl_types.specs.declared.answers.AbortAnswer.TheVariants.{AlreadyAborted}
 use Rattle.wl_types.specs.declared.answers.TakeAnswer.TheVariants.{Taken}
 use Rattle.wl_machine.specs.declared.command.Command.TheVariants.{Take, Abort}
 use Rattle.wl_machine.specs.declared.command.Reply.TheVariants.{Took, Aborted}
@@ -49,9 +50,11 @@ pub record Tried (old : Book) (old_kept : Kept) (agent signal : ℕ) (reason : R
   pub cells : (id : ℕ) → cells_at id new_kept ≡ cells_at id old_kept
 
 -- an abort: its exchanges found this of the signal's granted locks, in held order. The machine's step and answer are those of the
--- state with the takes found; each such take is entered, in that order, and then just the abort's own entry
+-- state with the takes found; each such take is entered, in that order, and then just the abort's own entry. A second abort finds
+-- nothing, and enters nothing
 pub record Aborts (old new : Inner) (agent signal : ℕ) (reason : Reason) (answer : AbortAnswer) (found : Found) : Type 0 where
   pub locks : numbers_of found ≡ untaken_numbers old.book.state agent signal
   pub gives : Gives (with_takes old.book.state found) (Abort agent signal reason) new.book.state (Aborted answer) new.book.recent
   pub appends : Appends old.book new.book (map take_entry (taken found) ++ recorded (Abort agent signal reason) (Aborted answer))
   pub cells : KeepsCells old new
+  pub again : answer ≡ AlreadyAborted → found ≡ []

@@ -1,6 +1,8 @@
 //! An agent of a manager.
 
-ghost use Rattle.std.specs.Prelude.{◌≡◌, ◌+◌, ◌≤◌, true, IfOk, OnOk, OnErr, if◌then◌else◌};
+ghost use Rattle.std.specs.Prelude.{◌≡◌, ℕ, ◌+◌, ◌≤◌, true, ◌⊎◌, IfOk, IfErr, OnOk, OnErr, if◌then◌else◌};
+ghost use Rattle.wl_types.specs.declared.answers.AbortAnswer.TheVariants.{AlreadyAborted};
+ghost use Rattle.wl_types.specs.declared.refusal.Refusal.TheVariants.{NoSuchAgent, NoSuchSignal};
 ghost use Rattle.wl_manager.specs.Agents.{is_released, entries_of_abort};
 
 use crate::count::Count;
@@ -41,11 +43,11 @@ impl<C: LockCore, T: Count> Agent<C, T> {
         let Ok(manager) = Arc::try_clone(&self.manager) else {
             return Err(Refusal::Memory);
         };
-        let (number, owner) =
-            self.manager
-                .locked
-                .lock(rt)
-                .request(self.number, ask, &mut self.share)?;
+        let (number, owner) = self
+            .manager
+            .locked
+            .lock(rt)
+            .request(self.number, ask, &mut self.share)?;
         self.manager.settled.notify_all();
         Ok(Ticket {
             manager,
@@ -61,11 +63,12 @@ impl<C: LockCore, T: Count> Agent<C, T> {
         ensures client { self.new.number ≡ self.old.number }
         ensures ticket { ticket.new ≡ ticket.old }
     {
+        let id = ticket.number;
         let answer = self
             .manager
             .locked
             .lock(rt)
-            .release(self.number, ticket.number, &mut self.share);
+            .release(self.number, id, &mut self.share);
         self.manager.settled.notify_all();
         answer
     }
@@ -84,24 +87,25 @@ impl<C: LockCore, T: Count> Agent<C, T> {
     }
 
     /// Aborts a signal of this agent. Its requests that wait end, and so do its granted locks that weren't taken: of
-    /// an abort and a take that race, one wins. Refused: `NoSuchSignal`.
+    /// an abort and a take that race, one wins. It takes no memory. Refused: `NoSuchSignal`.
     pub fn abort<R: Wait>(
         &mut self,
         rt: &R,
         signal: u64,
         reason: Reason,
     ) -> Result<AbortAnswer, Refusal>
-        ensures counted { IfOk result (λ answer. T.COUNTS ≡ true → T.amount self.old.share + entries_of_abort answer ≤ T.amount self.new.share) }
+        ensures counted { IfOk result (λ answer. T.COUNTS ≡ true → (takes : ℕ) × (answer ≡ AlreadyAborted → takes ≡ 0) × (T.amount self.new.share ≡ T.amount self.old.share + takes + entries_of_abort answer)) }
+        ensures refused { IfErr result (λ refusal. (refusal ≡ NoSuchAgent) ⊎ (refusal ≡ NoSuchSignal)) }
         ensures err { OnErr result (T.COUNTS ≡ true → T.amount self.new.share ≡ T.amount self.old.share) }
         ensures client { self.new.number ≡ self.old.number }
     {
-        let answer =
-            self.manager
-                .locked
-                .lock(rt)
-                .abort(self.number, signal, reason, &mut self.share)?;
+        let aborted = self
+            .manager
+            .locked
+            .lock(rt)
+            .abort(self.number, signal, reason, &mut self.share);
         self.manager.settled.notify_all();
-        Ok(answer)
+        aborted
     }
 
     /// Makes this window active or inactive: an inactive one may neither request nor query. Refused: `NotAWindow`,

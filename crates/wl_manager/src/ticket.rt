@@ -59,6 +59,7 @@ impl<C: LockCore, T: Count> Ticket<C, T> {
     pub fn wait<R: Wait>(&mut self, rt: &R) -> Phase
         ensures settled { result ≢ Pending }
         ensures later { Reaches self.old.owner.seen result }
+        ensures number { self.new.number ≡ self.old.number }
     {
         let Ticket { manager, owner, .. } = self;
         let mut locked = manager.locked.lock(rt);

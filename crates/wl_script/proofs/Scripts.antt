@@ -4,6 +4,8 @@ use Rattle.std.proofs.lemmas.List.Elements.{All-nil, All-cons, All-head, All-tai
 use Rattle.std.proofs.lemmas.List.{take_more}
 use Rattle.std.proofs.lemmas.Option.{slice_get_within, get_or_from_slice_get}
 use Rattle.wl_script.specs.Lines.{HasNoLf, is_lf, lines, last_line, with_lfs}
+use Rattle.wl_world.specs.Isolation.{replies}
+use Rattle.wl_world.specs.World.{World, next}
 use Rattle.wl_script.specs.Transcript.{transcript, after, reply_line}
 use Rattle.wl_script.specs.Laws.{ScriptsAreLines, LinesAreAnsweredInTurn, ScriptsMayBeCut}
 use Rattle.wl_script.proofs.Pieces.{transcript-append}
@@ -65,3 +67,8 @@ may_be_cut world front rest =
     let p = parts front in
     let done : lines (front ++ 10 ∷ []) ≡ p.ended ++ p.last ∷ [] = cut_lines front [] p ∙ append-nil (p.ended ++ p.last ∷ []) in
     ap (transcript world) (cut_lines front rest p ∙ ap (λ ls. ls ++ lines rest) (sym done)) ∙ transcript-append world (lines (front ++ 10 ∷ [])) (lines rest)
+
+-- a transcript is the replies, each with LF
+pub are_replies : (world : World) (all : List (List ℕ)) → transcript world all ≡ with_lfs (replies world all)
+are_replies world [] = refl
+are_replies world (line ∷ all) = ap (λ rest. reply_line world line ++ rest) (are_replies (next world line) all)

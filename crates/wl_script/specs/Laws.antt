@@ -1,5 +1,6 @@
 -- Laws of scripts and of what runs write (own).
 use Rattle.std.specs.Prelude.{◌≡◌, ℕ, List, [], ◌∷◌, ◌++◌, ◌+◌, take, slice_get, Some, All}
+use Rattle.wl_world.specs.Isolation.{replies}
 use Rattle.wl_world.specs.World.{World}
 use Rattle.wl_script.specs.Lines.{HasNoLf, lines, last_line, with_lfs}
 use Rattle.wl_script.specs.Transcript.{transcript, after, reply_line}
@@ -18,3 +19,7 @@ LinesAreAnsweredInTurn = (world : World) (all : List (List ℕ)) (n : ℕ) (line
 abbrev pub ScriptsMayBeCut : Type 0
 ScriptsMayBeCut = (world : World) (front rest : List ℕ) → transcript world (lines (front ++ 10 ∷ rest))
     ≡ transcript world (lines (front ++ 10 ∷ [])) ++ transcript (after world (lines (front ++ 10 ∷ []))) (lines rest)
+
+-- a transcript is the replies to the lines, of which the laws of origins speak, each with LF
+abbrev pub TranscriptsAreReplies : Type 0
+TranscriptsAreReplies = (world : World) (all : List (List ℕ)) → transcript world all ≡ with_lfs (replies world all)

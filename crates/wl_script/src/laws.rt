@@ -1,6 +1,6 @@
 //! Laws of scripts. Each is the contract of a function without a body.
 
-ghost use Rattle.wl_script.specs.Laws.{LinesAreAnsweredInTurn, ScriptsAreLines, ScriptsMayBeCut};
+ghost use Rattle.wl_script.specs.Laws.{LinesAreAnsweredInTurn, ScriptsAreLines, ScriptsMayBeCut, TranscriptsAreReplies};
 
 /// A script is its lines, each with its LF, and then a last one without LF, if that has a byte.
 pub fn scripts_are_lines()
@@ -16,4 +16,10 @@ pub fn lines_are_answered_in_turn()
 /// the whole writes.
 pub fn scripts_may_be_cut()
     ensures { ScriptsMayBeCut }
+{}
+
+/// A transcript is the replies to the lines, each with LF: so what `wl_world::laws` says of the replies to an origin's
+/// lines is said of what a run writes.
+pub fn transcripts_are_replies()
+    ensures { TranscriptsAreReplies }
 {}

@@ -1,11 +1,12 @@
 //! Each call of an agent and of a ticket.
 
-use super::{Sum, ask, one_agent};
+use super::{Plain, Sum, ask, one_agent};
 use crate::{Manager, Visitor};
+use std::sync::Wait;
 use std::test::Fail;
 use wl_cell::Taking;
 use wl_core::{Command, ReleaseAnswer, Reply};
-use wl_journal::Entry;
+use wl_journal::{Entry, Sight};
 use wl_types::{Kind, Mode, Phase, Refusal};
 
 /// Whether a journal is that of one window that asked for `db`, and whether it gave the lock up.
@@ -44,6 +45,27 @@ fn is_released(entry: &Entry) -> bool {
         && matches!(entry.reply, Reply::Released(ReleaseAnswer::Released))
 }
 
+/// Whether the first agent alone holds `db`, after this many entries.
+fn is_sole_holder(sight: &Sight, seen: u64) -> bool {
+    let [lock] = sight.snapshot.held.as_slice() else {
+        return false;
+    };
+    sight.seen == seen
+        && sight.snapshot.pending.as_slice().is_empty()
+        && lock.name.as_str() == "db"
+        && lock.mode == Mode::Exclusive
+        && lock.client == 1
+}
+
+fn course_of<R: Wait>(rt: &R, manager: &Plain) -> Course {
+    let mut course = Course {
+        asked: false,
+        released: false,
+    };
+    manager.visit(rt, &mut course);
+    course
+}
+
 #[test]
 fn an_agent_asks_for_just_what_it_was_given(rt: HostRuntime) -> Result<(), Fail> {
     let alloc = rt.alloc();
@@ -51,23 +73,11 @@ fn an_agent_asks_for_just_what_it_was_given(rt: HostRuntime) -> Result<(), Fail>
     assert_eq!(rt; agent.client(), 1);
     let mut ticket = agent.request(&rt, &ask(alloc, "db", Mode::Exclusive)?)?;
     assert_eq!(rt; ticket.number(), 1);
-    let sight = agent.query(&rt)?;
-    assert_eq!(rt; sight.seen, 2);
-    assert_eq!(rt; sight.snapshot.pending.as_slice().len(), 0);
-    let [lock] = sight.snapshot.held.as_slice() else {
-        return Err("one lock")?;
-    };
-    assert_eq!(rt; lock.name.as_str(), "db");
-    assert_eq!(rt; lock.mode, Mode::Exclusive);
-    assert_eq!(rt; lock.client, 1);
-    let mut course = Course {
-        asked: false,
-        released: false,
-    };
-    manager.visit(&rt, &mut course);
+    assert!(rt; is_sole_holder(&agent.query(&rt)?, 2));
+    let course = course_of(&rt, &manager);
     assert!(rt; course.asked && !course.released);
     assert_eq!(rt; agent.release(&rt, &mut ticket), ReleaseAnswer::Released);
-    manager.visit(&rt, &mut course);
+    let course = course_of(&rt, &manager);
     assert!(rt; course.asked && course.released);
     Ok(())
 }
@@ -100,11 +110,11 @@ fn a_lock_that_was_stolen_is_never_taken(rt: HostRuntime) -> Result<(), Fail> {
 fn an_inactive_window_asks_for_nothing(rt: HostRuntime) -> Result<(), Fail> {
     let alloc = rt.alloc();
     let (manager, mut window) = one_agent(&rt, alloc)?;
-    let mut worker = Manager::open(&manager, &rt, Kind::Worker)?;
     let sight = window.query(&rt)?;
-    assert_eq!(rt; sight.seen, 2);
+    assert_eq!(rt; sight.seen, 1);
     assert_eq!(rt; sight.snapshot.held.as_slice().len(), 0);
     assert_eq!(rt; sight.snapshot.pending.as_slice().len(), 0);
+    let mut worker = Manager::open(&manager, &rt, Kind::Worker)?;
     assert!(rt; window.set_active(&rt, false) == Ok(()));
     let refused = window.request(&rt, &ask(alloc, "db", Mode::Exclusive)?);
     assert!(rt; refused.is_err_and(|refusal| refusal == Refusal::InvalidState));

@@ -45,8 +45,13 @@ fn two_agents<L: Ledger + Send + Sync, R: Threads + Wait + Abort + Sync>(
     requires parts { (blank.parts ≡ L.parts) × (2 ^ 53 ≤ blank.parts) }
 {
     let (total, whole) = blank.open::<L>();
-    let manager: Arc<Manager<PlainCore, Ledgered<L>>, Global> =
-        Manager::new(rt, alloc, (), total, whole)?;
+    let manager: Arc<Manager<PlainCore, Ledgered<L>>, Global> = Manager::new(
+        rt,
+        alloc,
+        (),
+        total,
+        whole,
+    )?;
     let one = Manager::open(&manager, rt, Kind::Window)?;
     let two = Manager::open(&manager, rt, Kind::Window)?;
     let asked = ask(alloc, "db", Mode::Exclusive)?;
@@ -92,6 +97,7 @@ impl Visitor for Audit {
 }
 
 type PlainAgent = Agent<PlainCore, Loose>;
+
 type PlainTicket = Ticket<PlainCore, Loose>;
 
 /// A take and an abort on two threads. Exactly one of them wins, and a lock that was taken is given up.

@@ -1,4 +1,4 @@
-use Rattle.std.proofs.Common.{arith, refl, ◌∙◌, ◌∷◌, [], ap, sym}
+use Rattle.std.proofs.Common.{refl, ◌∙◌, ◌∷◌, [], ap, sym}
 use Rattle.wl_cell.specs.Seats.{CellId}
 use Rattle.wl_manager.proofs.Keeping.{kept_refused, stays_refused, undone, settles_asked, kept_asked, does_asked}
 use Rattle.wl_manager.proofs.locked.Locked.request.Goals as goal

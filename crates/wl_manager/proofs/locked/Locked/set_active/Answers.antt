@@ -1,7 +1,7 @@
 use Rattle.std.proofs.Common.{arith, refl}
 use Rattle.wl_machine.specs.declared.command.Command.TheVariants as command
 use Rattle.wl_machine.specs.declared.command.Reply.TheVariants as reply
-use Rattle.wl_manager.proofs.Keeping.{kept_refused, stays_refused, settles_done, kept_done, does_done, on_err}
+use Rattle.wl_manager.proofs.Keeping.{kept_refused, stays_refused, kept_done, does_done, on_err}
 use Rattle.wl_manager.proofs.locked.Locked.set_active.Goals as goal
 
 pub invariant_of-self : goal.invariant_of-self

@@ -1,10 +1,6 @@
-use Rattle.std.proofs.Common.{arith, ◌≡◌, ◌∙◌, ◌++◌, ◌∷◌, [], List, ℕ, ap, sym, true, false, cond, length, subst}
-use Rattle.std.specs.Prelude.{◌==◌}
-use Rattle.wl_types.specs.declared.phases.Phase.{Phase}
-use Rattle.wl_types.specs.declared.phases.Phase.TheVariants.{Taken, Aborted}
-use Rattle.wl_manager.specs.Keepers.{phases_at}
-use Rattle.wl_manager.specs.Aborts.{Found, Tried}
-use Rattle.wl_manager.proofs.Aborting.{untried, tried_few, next_lock, last_lock, next_granted, tried_aborts, tried_takes, left_count, aborted_same, aborted_more, taken_same, taken_more}
+use Rattle.std.proofs.Common.{arith, ◌∙◌, ◌++◌, ◌∷◌, [], List, ℕ, ap, sym, true, false, length, subst}
+use Rattle.wl_manager.specs.Aborts.{Tried}
+use Rattle.wl_manager.proofs.Aborting.{aborted_one, found_taken, tried_few, next_lock, last_lock, next_granted, tried_aborts, tried_takes, left_count, aborted_same, aborted_more, taken_same, taken_more}
 use Rattle.wl_manager.proofs.locked.abort.abort_granted.Goals as goal
 
 pub try_abort-requires : goal.try_abort-requires
@@ -35,7 +31,7 @@ loop-id-preserved-then-try_abort g c =
       found ++ (c.in-Some.id, false) ∷ [],
       next.more,
       tried_aborts c.args.book.now c.args.keepers.now c.args.agent c.args.signal c.args.reason c.loop-id.book c.loop-id.keepers c.try_abort.new.self found c.loop-id.invariant.1 next.more c.in-Some.id c.loop-id.invariant.2 next.is
-          (λ j. c.try_abort.ensures.phases j ∙ ap (λ b. cond (j == c.in-Some.id) (cond b (Aborted c.args.reason) Taken ∷ []) (phases_at j c.loop-id.keepers)) c.if-try_abort.true) c.try_abort.ensures.cells,
+          (aborted_one c.try_abort.result c.in-Some.id c.args.reason c.loop-id.keepers c.try_abort.new.self c.try_abort.ensures.phases c.if-try_abort.true) c.try_abort.ensures.cells,
       omega (arith, place, more),
       omega (arith, count, same),
     )
@@ -45,7 +41,7 @@ loop-id-smaller g c =
     let next = (next_lock c.args.book.now c.args.keepers.now c.args.agent c.args.signal c.args.reason c.loop-id.book c.loop-id.keepers c.loop-id.invariant.0 c.loop-id.invariant.1 c.loop-id.aborted c.in-Some.id c.loop-id.invariant.2 c.loop-id.invariant.3 c.in-Some.ensures) in
     let found = c.loop-id.invariant.0 in
     let tried = tried_takes c.args.book.now c.args.keepers.now c.args.agent c.args.signal c.args.reason c.loop-id.book c.take.new.self c.loop-id.keepers c.try_abort.new.self found c.loop-id.invariant.1 next.more c.in-Some.id c.take.result c.loop-id.invariant.2 next.is c.take.ensures.taken c.take.ensures.added
-    (λ j. c.try_abort.ensures.phases j ∙ ap (λ b. cond (j == c.in-Some.id) (cond b (Aborted c.args.reason) Taken ∷ []) (phases_at j c.loop-id.keepers)) c.if-try_abort.false) c.try_abort.ensures.cells in
+    (found_taken c.try_abort.result c.in-Some.id c.args.reason c.loop-id.keepers c.try_abort.new.self c.try_abort.ensures.phases c.if-try_abort.false) c.try_abort.ensures.cells in
     let now = left_count c.args.book.now c.args.keepers.now c.args.agent c.args.signal c.args.reason c.take.new.self c.try_abort.new.self (found ++ (c.in-Some.id, true) ∷ []) next.more tried in
     let left = left_count c.args.book.now c.args.keepers.now c.args.agent c.args.signal c.args.reason c.loop-id.book c.loop-id.keepers c.loop-id.invariant.0 c.loop-id.invariant.1 c.loop-id.invariant.2 in
     let rest = ap length next.is in
@@ -64,7 +60,7 @@ loop-id-preserved g c =
       found ++ (c.in-Some.id, true) ∷ [],
       next.more,
       tried_takes c.args.book.now c.args.keepers.now c.args.agent c.args.signal c.args.reason c.loop-id.book c.take.new.self c.loop-id.keepers c.try_abort.new.self found c.loop-id.invariant.1 next.more c.in-Some.id c.take.result c.loop-id.invariant.2 next.is c.take.ensures.taken c.take.ensures.added
-          (λ j. c.try_abort.ensures.phases j ∙ ap (λ b. cond (j == c.in-Some.id) (cond b (Aborted c.args.reason) Taken ∷ []) (phases_at j c.loop-id.keepers)) c.if-try_abort.false) c.try_abort.ensures.cells,
+          (found_taken c.try_abort.result c.in-Some.id c.args.reason c.loop-id.keepers c.try_abort.new.self c.try_abort.ensures.phases c.if-try_abort.false) c.try_abort.ensures.cells,
       omega (arith, place, same),
       omega (arith, count, more),
     )

@@ -1,0 +1,64 @@
+-- Looks at the requests of a map, one after another.
+use Rattle.std.proofs.Common.{◌≡◌, ap, refl, arith, ℕ, ◌+◌, ◌<◌, ◌≤◌, List, [], ◌∷◌, ◌++◌, sym, Less}
+use Rattle.std.specs.Cmp.{ranked}
+use Rattle.std.specs.List.{AllByRecursion}
+use Rattle.std.specs.List.Sorted.{IsStrictlySortedBy}
+use Rattle.std.specs.Map.{keys_of}
+use Rattle.std.specs.Ordering.{nat_cmp}
+use Rattle.wl_types.specs.declared.phases.Phase.{Phase}
+use Rattle.wl_session.specs.Told.{Look, IsFrom, IsByNumber}
+
+-- the numbers of the entries rise from the low one on
+abbrev pub Rises : {X : Type 0} → ℕ → List (ℕ × X) → Type 0
+Rises low [] = Unit {0}
+Rises low (e ∷ es) = (low ≤ e.0) × Rises (e.0 + 1) es
+
+abbrev pub AreBelow : ℕ → List Look → Type 0
+AreBelow top [] = Unit {0}
+AreBelow top (l ∷ ls) = (l.0 < top) × AreBelow top ls
+
+-- the entries that are left have numbers that rise, all of them above those of the looks
+abbrev pub AreToCome : {X : Type 0} → List Look → List (ℕ × X) → Type 0
+AreToCome looks rest = (low : ℕ) × AreBelow low looks × Rises low rest
+
+below_higher : (ls : List Look) (low high : ℕ) → low ≤ high → AreBelow low ls → AreBelow high ls
+below_higher [] low high le h = tt
+below_higher (l ∷ ls) low high le h = (omega (arith, h.0, le), below_higher ls low high le h.1)
+
+below_more : (ls : List Look) (x : Look) (top : ℕ) → AreBelow top ls → x.0 < top → AreBelow top (ls ++ x ∷ [])
+below_more [] x top h lt = (lt, tt)
+below_more (l ∷ ls) x top h lt = (h.0, below_more ls x top h.1 lt)
+
+from_more : (ls : List Look) (x : Look) (low : ℕ) → IsFrom low ls → AreBelow x.0 ls → low ≤ x.0 → IsFrom low (ls ++ x ∷ [])
+from_more [] x low h below le = (le, tt)
+from_more (l ∷ ls) x low h below le = (h.0, from_more ls x (l.0 + 1) h.1 below.1 (omega (arith, below.0)))
+
+-- an entry is passed over
+pub passed : {X : Type 0} (looks : List Look) (e : ℕ × X) (rest : List (ℕ × X)) → AreToCome looks (e ∷ rest) → AreToCome looks rest
+passed looks e rest (low, below, rises) = (e.0 + 1, below_higher looks low (e.0 + 1) (omega (arith, rises.0)) below, rises.1)
+
+-- an entry is looked at
+pub looked : {X : Type 0} (looks : List Look) (p : Phase) (e : ℕ × X) (rest : List (ℕ × X)) → IsByNumber looks → AreToCome looks (e ∷ rest)
+    → IsByNumber (looks ++ (e.0, p) ∷ []) × AreToCome (looks ++ (e.0, p) ∷ []) rest
+looked looks p e rest by_number (low, below, rises) =
+    let under : AreBelow e.0 looks = below_higher looks low e.0 rises.0 below in (
+      from_more looks (e.0, p) 0 by_number under (omega arith),
+      (e.0 + 1, below_more looks (e.0, p) (e.0 + 1) (below_higher looks e.0 (e.0 + 1) (omega arith) under) (omega arith), rises.1),
+    )
+
+above : (k : ℕ) (ks : List ℕ) → AllByRecursion (λ y. nat_cmp k y ≡ Less) ks → AllByRecursion (λ y. k + 1 ≤ y) ks
+above k [] h = tt
+above k (y ∷ ks) h = (let lt : k < y = ranked k y Less (sym h.0) in omega arith, above k ks h.1)
+
+any : (ks : List ℕ) → AllByRecursion (λ y. 0 ≤ y) ks
+any [] = tt
+any (y ∷ ks) = (omega arith, any ks)
+
+rises_from : {X : Type 0} (es : List (ℕ × X)) (low : ℕ) → AllByRecursion (λ y. low ≤ y) (keys_of es) → IsStrictlySortedBy nat_cmp (keys_of es) → Rises low es
+unfolding IsStrictlySortedBy
+rises_from [] low h sorted = tt
+rises_from (e ∷ es) low h sorted = (h.0, rises_from es (e.0 + 1) (above e.0 (keys_of es) sorted.0) sorted.1)
+
+-- at first all entries of a map are left
+pub at_first : {X : Type 0} (es : List (ℕ × X)) → IsStrictlySortedBy nat_cmp (keys_of es) → AreToCome [] es
+at_first es sorted = (0, tt, rises_from es 0 (any (keys_of es)) sorted)

@@ -1,0 +1,3 @@
+pub mod Talks
+pub mod Listening
+pub mod Peers

@@ -1,0 +1,156 @@
+//! Does what a message asks for.
+
+ghost use Rattle.std.specs.Prelude.{◌≡◌, ℕ, List, IfOk};
+ghost use Rattle.wl_codec.specs.declared.message.Body.{Body};
+ghost use Rattle.wl_codec.specs.declared.message.Body.TheVariants.{Enter, Request};
+ghost use Rattle.wl_server.specs.Peers.{IsOutcome, IsOutcomeOf};
+
+use crate::requests::Requests;
+use std::alloc::Global;
+use std::sync::Wait;
+use wl_codec::{Body, Outcome};
+use wl_service::{Client, OpenFault, Service};
+use wl_session::Action;
+use wl_types::{Ask, Kind, Memory, Refusal, ReleaseAnswer};
+
+/// The outcome of a refused operation. No reply tells of want of memory.
+fn refused(refusal: Refusal) -> Result<Outcome, Memory>
+    ensures { IfOk result (λ outcome. (body : Body) → IsOutcomeOf body outcome) }
+{
+    match refusal {
+        Refusal::Memory => Err(Memory),
+        other => Ok(Outcome::Refused(other)),
+    }
+}
+
+fn enter<R: Wait>(
+    rt: &R,
+    service: &Service,
+    client: &mut Option<Client>,
+    url: &str,
+    kind: Kind,
+) -> Result<Outcome, Memory>
+    ensures { IfOk result (λ outcome. (text : List ℕ) → IsOutcomeOf (Enter text kind) outcome) }
+{
+    match service.open(rt, url, kind) {
+        Ok(opened) => {
+            let number = opened.client();
+            *client = Some(opened);
+            Ok(Outcome::Client(number))
+        }
+        Err(OpenFault::BadUrl) => Ok(Outcome::BadUrl),
+        Err(OpenFault::TooManyAgents) => Ok(Outcome::Refused(Refusal::TooManyAgents)),
+        Err(OpenFault::NumbersSpent) => Ok(Outcome::Refused(Refusal::NumbersSpent)),
+        Err(OpenFault::Memory) => Err(Memory),
+    }
+}
+
+fn request<R: Wait>(
+    rt: &R,
+    client: &mut Client,
+    requests: &mut Requests,
+    ask: &Ask,
+) -> Result<Outcome, Memory>
+    ensures { IfOk result (λ outcome. IsOutcomeOf (Request ask.now) outcome) }
+{
+    match client.request(rt, ask) {
+        Ok(ticket) => {
+            let number = ticket.number();
+            requests.add(ticket)?;
+            Ok(Outcome::Request(number))
+        }
+        Err(refusal) => refused(refusal),
+    }
+}
+
+/// Releases a request. One whose end was told, or of another agent, isn't there, and so isn't held.
+fn release<R: Wait>(
+    rt: &R,
+    client: &mut Client,
+    requests: &mut Requests,
+    number: u64,
+) -> ReleaseAnswer {
+    match requests.get_mut(number) {
+        Some(request) => client.release(rt, &mut request.ticket),
+        None => ReleaseAnswer::NotHeld,
+    }
+}
+
+/// Does what an agent that opened asks for, but for its end.
+fn operate<R: Wait>(
+    rt: &R,
+    client: &mut Client,
+    requests: &mut Requests,
+    body: Body,
+) -> Result<Outcome, Memory>
+    ensures { IfOk result (λ outcome. IsOutcomeOf body outcome) }
+{
+    match body {
+        Body::Signal => match client.new_signal(rt) {
+            Ok(number) => Ok(Outcome::Signal(number)),
+            Err(refusal) => refused(refusal),
+        },
+        Body::Request(ask) => request(rt, client, requests, &ask),
+        Body::Release(number) => Ok(Outcome::Release(release(rt, client, requests, number))),
+        Body::Abort(signal, reason) => match client.abort(rt, signal, reason) {
+            Ok(answer) => Ok(Outcome::Abort(answer)),
+            Err(refusal) => refused(refusal),
+        },
+        Body::Active(active) => match client.set_active(rt, active) {
+            Ok(()) => Ok(Outcome::Active(active)),
+            Err(refusal) => refused(refusal),
+        },
+        Body::Query => match client.query(rt) {
+            Ok(sight) => Ok(Outcome::Seen(sight.snapshot)),
+            Err(refusal) => refused(refusal),
+        },
+        Body::Poll => Ok(Outcome::Polled),
+        // These are no operations of an open agent: `act` does them.
+        Body::Enter { .. } | Body::Close => refused(Refusal::NoSuchAgent),
+    }
+}
+
+/// Does what a message asks for. An agent opens or leaves by it.
+fn act<R: Wait>(
+    rt: &R,
+    alloc: Global,
+    service: &Service,
+    client: &mut Option<Client>,
+    requests: &mut Requests,
+    body: Body,
+) -> Result<Outcome, Memory>
+    ensures { IfOk result (λ outcome. IsOutcomeOf body outcome) }
+{
+    match body {
+        Body::Enter { url, kind } => enter(rt, service, client, url.as_str(), kind),
+        Body::Close => {
+            if let Some(leaving) = client.take() {
+                let _ = leaving.terminate(rt);
+            }
+            *requests = Requests::new(alloc);
+            Ok(Outcome::Closed)
+        }
+        other => match client {
+            Some(client) => operate(rt, client, requests, other),
+            // An open session has a client.
+            None => refused(Refusal::NoSuchAgent),
+        },
+    }
+}
+
+/// The outcome of what was planned for a message.
+pub fn outcome_of<R: Wait>(
+    rt: &R,
+    alloc: Global,
+    service: &Service,
+    client: &mut Option<Client>,
+    requests: &mut Requests,
+    action: Action,
+) -> Result<Outcome, Memory>
+    ensures { IfOk result (λ outcome. IsOutcome action outcome) }
+{
+    match action {
+        Action::Answer(outcome) => Ok(outcome),
+        Action::Act(body) => act(rt, alloc, service, client, requests, body),
+    }
+}

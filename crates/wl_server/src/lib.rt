@@ -1,0 +1,29 @@
+//! A lock service over WebSockets: each connection is an agent of its own, whose messages are answered one by one.
+//!
+//! `talk` is one conversation, over a small trait for the connection and one for what answers; `serving` runs it over a
+//! WebSocket, and `listening` on a thread for each connection. `relay` is the other end: it sends the lines of a reader
+//! and writes their replies.
+#![tactic(auto)]
+
+mod acting;
+mod crowd;
+mod fault;
+mod lines;
+mod link;
+mod listening;
+mod peer;
+mod relaying;
+mod requests;
+mod serving;
+mod socket;
+mod talk;
+#[cfg(test)]
+mod tests;
+mod visit;
+
+pub use crate::fault::{ListenFault, RelayFault, ServeEnd, ServeFault, Served};
+pub use crate::listening::serve;
+pub use crate::peer::Peer;
+pub use crate::relaying::relay;
+pub use crate::serving::serve_one;
+pub use crate::talk::Gate;

@@ -1,0 +1,105 @@
+//! A thread for each connection.
+
+ghost use Rattle.std.specs.Prelude.{◌≡◌, ◌≤◌, ◌<◌, IfOk, IfErr};
+ghost use Rattle.wl_server.specs.Listening.{ended};
+
+use crate::crowd::Crowd;
+use crate::serving::serve_gated;
+use crate::talk::Gate;
+use crate::{ListenFault, Served};
+use std::alloc::Global;
+use std::io::ErrorKind;
+use std::net::{Net, TcpListener, TcpStream};
+use std::sync::{Condvar, Mutex, Wait};
+use std::thread;
+use std::thread::Threads;
+use wl_service::Service;
+
+/// What the threads of the connections share.
+#[derive(Drop)]
+struct Hall {
+    crowd: Mutex<Crowd>,
+    // Notified after each connection that ended.
+    left: Condvar,
+}
+
+/// Waits until another connection may run, and counts it.
+fn come_in<R: Wait>(rt: &R, hall: &Hall) {
+    let mut crowd = hall
+        .left
+        .wait_while(rt, hall.crowd.lock(rt), |crowd| crowd.is_full());
+    crowd.begin();
+}
+
+/// Serves a connection, and counts its end.
+fn run_one<R: Wait, G: Gate>(
+    rt: &R,
+    alloc: Global,
+    stream: TcpStream,
+    gate: &G,
+    connection: u64,
+    service: &Service,
+    hall: &Hall,
+) {
+    let end = serve_gated(rt, alloc, stream, gate, connection, service);
+    hall.crowd.lock(rt).end(end.fault.is_some());
+    hall.left.notify_one();
+}
+
+/// Serves n connections, each on a thread of its own, at most 64 at once, and returns when all of them have ended.
+/// A connection that is accepted and can't be served is counted as one that failed.
+pub fn serve<R, G>(
+    rt: &R,
+    alloc: Global,
+    listener: &TcpListener,
+    n: u64,
+    gate: &G,
+    service: &Service,
+) -> Result<Served, ListenFault>
+where
+    R: Net<Listener = TcpListener, Stream = TcpStream> + Threads + Wait + Sync,
+    G: Gate + Sync,
+    ensures all { IfOk result (λ served. served.connections ≡ n) }
+    ensures few { IfErr result (λ fault. ended fault < n) }
+{
+    let hall = Hall {
+        crowd: Mutex::new(Crowd::new()),
+        left: Condvar::new(),
+    };
+    let shared = &hall;
+    let come = thread::scope(
+        thread::scope_env(),
+        rt,
+        |scope| -> Result<(), ListenFault>
+            ensures { IfErr result (λ fault. ended fault < n) }
+        {
+            for before in 0..n {
+                come_in(rt, shared);
+                let stream = match listener.accept() {
+                    Ok((stream, _)) => stream,
+                    Err(error) => {
+                        return Err(if error.kind() == ErrorKind::OutOfMemory {
+                            ListenFault::Memory(before)
+                        } else {
+                            ListenFault::Accept(before)
+                        });
+                    }
+                };
+                // Without it a reply may wait for the peer's word of the one before.
+                let _ = stream.set_nodelay(true);
+                let spawned = scope.spawn(move || {
+                    run_one(rt, alloc, stream, gate, before + 1, service, shared)
+                });
+                if spawned.is_err() {
+                    return Err(ListenFault::Thread(before));
+                }
+            }
+            Ok(())
+        },
+    );
+    come?;
+    Ok(Served {
+        connections: n,
+        failed: hall.crowd.into_inner().failed(),
+    })
+}

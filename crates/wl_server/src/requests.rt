@@ -1,0 +1,104 @@
+//! The requests of an agent whose end it wasn't told.
+
+ghost use Rattle.std.specs.Prelude.{◌≡◌, ◌≢◌, All, IfOk};
+ghost use Rattle.wl_types.specs.declared.phases.Phase.TheVariants.{Granted};
+ghost use Rattle.wl_session.specs.Told.{IsByNumber};
+
+use std::alloc::Global;
+use std::collections::BTreeMap;
+use wl_cell::Taking;
+use wl_codec::Outcome;
+use wl_service::Ticket;
+use wl_session::tells;
+use wl_types::{Memory, Phase};
+
+/// A request, and the phase that was told last. Of a new one nothing was told.
+#[derive(Drop)]
+pub struct Request {
+    pub ticket: Ticket,
+    told: Option<Phase>,
+}
+
+/// The requests by number.
+#[derive(Drop)]
+pub struct Requests {
+    alloc: Global,
+    by_number: BTreeMap<u64, Request>,
+}
+
+/// The phase of a request. A grant is taken, and where that finds an end, the end is the phase.
+fn found(ticket: &mut Ticket) -> Phase
+    ensures { result ≢ Granted }
+{
+    match ticket.look() {
+        Phase::Granted => match ticket.take() {
+            Taking::Taken => Phase::Taken,
+            Taking::Pending => Phase::Pending,
+            Taking::Before(phase) => phase,
+        },
+        phase => phase,
+    }
+}
+
+impl Requests {
+    pub fn new(alloc: Global) -> Requests {
+        Requests {
+            alloc,
+            by_number: BTreeMap::new(alloc),
+        }
+    }
+
+    /// Adds a new request.
+    pub fn add(&mut self, ticket: Ticket) -> Result<(), Memory> {
+        let number = ticket.number();
+        let request = Request { ticket, told: None };
+        match self.by_number.insert(number, request) {
+            Ok(_) => Ok(()),
+            Err(_) => Err(Memory),
+        }
+    }
+
+    /// The request of this number.
+    pub fn get_mut(&mut self, number: u64) -> Option<&mut Request> {
+        self.by_number.get_mut(&number)
+    }
+
+    /// What a reply of this outcome looks at: nothing where it has no notices, else what changed.
+    pub fn looks(&mut self, outcome: &Outcome) -> Result<Vec<(u64, Phase)>, Memory>
+        ensures by_number { IfOk result (λ looks. IsByNumber looks.items) }
+        ensures taken { IfOk result (λ looks. All (λ look. look.1 ≢ Granted) looks.items) }
+    {
+        if tells(outcome) {
+            self.changed()
+        } else {
+            Ok(Vec::new(self.alloc))
+        }
+    }
+
+    /// The requests whose phase is another than the one told, by number, after each grant was taken. It is one load a
+    /// request, and one exchange for each grant.
+    fn changed(&mut self) -> Result<Vec<(u64, Phase)>, Memory>
+        ensures by_number { IfOk result (λ looks. IsByNumber looks.items) }
+        ensures taken { IfOk result (λ looks. All (λ look. look.1 ≢ Granted) looks.items) }
+    {
+        let mut looks = Vec::new(self.alloc);
+        for (number, request) in self.by_number.iter_mut() {
+            let phase = found(&mut request.ticket);
+            if request.told != Some(phase) {
+                looks.push((*number, phase))?;
+            }
+        }
+        Ok(looks)
+    }
+
+    /// What was found is told. An end leaves the requests.
+    pub fn tell(&mut self, looks: &[(u64, Phase)]) {
+        for look in looks {
+            if look.1.is_end() {
+                let _ = self.by_number.remove(&look.0);
+            } else if let Some(request) = self.by_number.get_mut(&look.0) {
+                request.told = Some(look.1);
+            }
+        }
+    }
+}

@@ -1,0 +1,57 @@
+//! One connection over a stream.
+
+use crate::peer::Peer;
+use crate::socket::accept;
+use crate::talk::{Gate, talk};
+use crate::visit::Visit;
+use crate::{ServeEnd, ServeFault};
+use std::alloc::Global;
+use std::io::{Read, Write};
+use std::sync::Wait;
+use wl_service::Service;
+
+/// A gate that nobody stands at.
+pub struct Open;
+
+impl Gate for Open {
+    fn enter(&self, _connection: u64) {}
+
+    fn answered(&self, _connection: u64, _count: u64) {}
+}
+
+/// Serves one connection: shakes hands as a server, and answers each text or binary message by one text message, until
+/// the connection ends. Its agent was terminated when the call returns.
+pub fn serve_one<R: Wait, S: Read + Write + Drop>(
+    rt: &R,
+    alloc: Global,
+    stream: S,
+    service: &Service,
+) -> ServeEnd {
+    serve_gated(rt, alloc, stream, &Open, 1, service)
+}
+
+/// `serve_one`, with what is told of the connection of that number.
+pub fn serve_gated<R: Wait, S: Read + Write + Drop, G: Gate>(
+    rt: &R,
+    alloc: Global,
+    stream: S,
+    gate: &G,
+    connection: u64,
+    service: &Service,
+) -> ServeEnd {
+    gate.enter(connection);
+    match accept(alloc, stream) {
+        Ok(socket) => {
+            let mut socket = socket;
+            let visit = Visit {
+                peer: Peer::new(alloc),
+                service,
+            };
+            talk(rt, &mut socket, visit, gate, connection)
+        }
+        Err(fault) => ServeEnd {
+            answered: 0,
+            fault: Some(fault),
+        },
+    }
+}

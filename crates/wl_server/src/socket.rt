@@ -1,0 +1,94 @@
+//! A WebSocket as a link.
+
+use crate::ServeFault;
+use crate::link::{Data, Link};
+use std::alloc::Global;
+use std::io::{Read, Write};
+use std::sync::Wait;
+use tungstenite::handshake::HandshakeError;
+use tungstenite::{Error, MaskKeys, Message, NoMask, WebSocket, WebSocketConfig};
+
+/// The bytes of a message at most.
+const LIMIT: usize = 65_536;
+
+/// The bytes of one read of the stream.
+const READ: usize = 8_192;
+
+/// A WebSocket of a peer that asked for one.
+#[derive(Drop)]
+pub struct Socket<S> {
+    alloc: Global,
+    inner: WebSocket<S, NoMask>,
+    // The peer sent a close frame. Whatever fails from then on is no fault.
+    closing: bool,
+}
+
+/// Shakes hands with the peer of a stream.
+pub fn accept<S: Read + Write + Drop>(alloc: Global, stream: S) -> Result<Socket<S>, ServeFault> {
+    match tungstenite::accept(alloc, stream) {
+        Ok(accepted) => {
+            let mut inner = accepted;
+            inner.set_config(
+                WebSocketConfig::default()
+                    .max_message_size(Some(LIMIT))
+                    .max_frame_size(Some(LIMIT))
+                    .read_buffer_size(READ),
+            );
+            Ok(Socket {
+                alloc,
+                inner,
+                closing: false,
+            })
+        }
+        Err(HandshakeError::Failure(Error::OutOfMemory)) => Err(ServeFault::Memory),
+        Err(_) => Err(ServeFault::Handshake),
+    }
+}
+
+fn fault_of(error: &Error) -> ServeFault {
+    match error {
+        Error::Capacity(_) => ServeFault::TooLong,
+        Error::OutOfMemory => ServeFault::Memory,
+        _ => ServeFault::Stream,
+    }
+}
+
+impl<S: Read + Write + Drop> Link for Socket<S> {
+    ghost hears = { λ old message new. Unit {0} };
+
+    ghost closes = { λ old new. Unit {0} };
+
+    ghost says = { λ old text new. Unit {0} };
+
+    ghost fails = { λ old fault new. Unit {0} };
+
+    fn receive<R: Wait>(&mut self, rt: &R) -> Result<Option<Data>, ServeFault> {
+        for _ in rt.forever() {
+            match self.inner.read() {
+                Ok(Message::Text(text)) => return Ok(Some(Data::Text(text))),
+                Ok(Message::Binary(bytes)) => return Ok(Some(Data::Binary(bytes))),
+                Ok(Message::Close(_)) => self.closing = true,
+                // The crate answers a ping before its next read.
+                Ok(Message::Ping(_) | Message::Pong(_)) => {}
+                Err(error) => {
+                    return if self.closing {
+                        Ok(None)
+                    } else {
+                        Err(fault_of(&error))
+                    };
+                }
+            }
+        }
+        unreachable!()
+    }
+
+    fn send(&mut self, text: &str) -> Result<(), ServeFault> {
+        let Ok(message) = Message::text(self.alloc, text) else {
+            return Err(ServeFault::Memory);
+        };
+        match self.inner.send(message) {
+            Ok(()) => Ok(()),
+            Err(error) => Err(fault_of(&error)),
+        }
+    }
+}

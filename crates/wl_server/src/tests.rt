@@ -1,0 +1,46 @@
+//! What the contracts can't show: that connections over streams in memory and over loopback go as they should.
+
+mod endings;
+mod loopback;
+mod pipe;
+
+use crate::{Gate, ServeEnd, ServeFault};
+use std::alloc::Global;
+use std::sync::Wait;
+use std::test::Fail;
+use wl_service::Service;
+use wl_types::{Ask, Kind, Mode, Phase, Text};
+
+const OPEN: &[u8] = b"{\"id\":1,\"op\":\"open\",\"url\":\"https://a.test/\"}";
+
+const REQUEST: &[u8] = b"{\"id\":2,\"name\":\"db\",\"op\":\"request\"}";
+
+/// A gate that nobody stands at.
+struct NoGate;
+
+impl Gate for NoGate {
+    fn enter(&self, _connection: u64) {}
+
+    fn answered(&self, _connection: u64, _count: u64) {}
+}
+
+/// Whether a new client of the origin has this number, and is granted the lock `db` at once. It ends then.
+fn is_free<R: Wait>(
+    rt: &R,
+    alloc: Global,
+    service: &Service,
+    number: u64,
+) -> Result<bool, Fail> {
+    let ask = Ask {
+        name: Text::of(alloc, "db")?,
+        mode: Mode::Exclusive,
+        if_available: false,
+        steal: false,
+        signal: None,
+    };
+    let mut client = service.open(rt, "https://a.test/", Kind::Window)?;
+    let mut ticket = client.request(rt, &ask)?;
+    let is_free = client.client() == Some(number) && ticket.look() == Phase::Granted;
+    let _ = client.terminate(rt);
+    Ok(is_free)
+}

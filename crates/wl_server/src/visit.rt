@@ -1,0 +1,32 @@
+//! A peer that speaks to a service.
+
+use crate::link::Speaker;
+use crate::peer::Peer;
+use std::sync::Wait;
+use wl_service::Service;
+use wl_types::Memory;
+
+/// A peer, and the service that it asks.
+pub struct Visit<'a> {
+    pub peer: Peer,
+    pub service: &'a Service,
+}
+
+impl Speaker for Visit<'_> {
+    ghost use Rattle.wl_server.specs.Peers.{Answers};
+
+    ghost answers = { λ old message text new. Answers old.peer message text new.peer };
+
+    fn answer<R: Wait>(self, rt: &R, message: &[u8]) -> Result<(Self, String), Memory> {
+        let Visit { peer, service } = self;
+        match peer.answer(rt, service, message) {
+            Ok((peer, text)) => Ok((Visit { peer, service }, text)),
+            Err(Memory) => Err(Memory),
+        }
+    }
+
+    fn end<R: Wait>(self, rt: &R) {
+        let Visit { peer, service: _ } = self;
+        peer.end(rt)
+    }
+}
