@@ -1,7 +1,7 @@
 //! A client of the service.
 
-ghost use Rattle.std.specs.Prelude.{◌≡◌, true, Err, is_some};
-ghost use Rattle.wl_types.specs.declared.refusal.Refusal.TheVariants.{NoSuchSignal, Security};
+ghost use Rattle.std.specs.Prelude.{◌≡◌, ◌⊎◌, true, Err, IfErr, is_some};
+ghost use Rattle.wl_types.specs.declared.refusal.Refusal.TheVariants.{NoSuchAgent, NoSuchSignal, Security};
 ghost use Rattle.wl_types.specs.declared.answers.ReleaseAnswer.TheVariants.{NotHeld};
 ghost use Rattle.wl_service.specs.Clients.{Managed, Opaque, IfOpaque, activity, made_active, no_storage, number_of};
 
@@ -108,7 +108,7 @@ impl Client {
     }
 
     /// Aborts a signal of this client. Its requests that wait end, and so do its granted locks that weren't taken.
-    /// Refused: `NoSuchSignal`, for an opaque client always.
+    /// It takes no memory. Refused: `NoSuchSignal`, for an opaque client always.
     pub fn abort<R: Wait>(
         &mut self,
         rt: &R,
@@ -116,6 +116,7 @@ impl Client {
         reason: Reason,
     ) -> Result<AbortAnswer, Refusal>
         ensures opaque { IfOpaque self.old (λ kind active. result ≡ Err NoSuchSignal) }
+        ensures refused { IfErr result (λ refusal. (refusal ≡ NoSuchAgent) ⊎ (refusal ≡ NoSuchSignal)) }
         ensures same { self.new ≡ self.old }
     {
         match &mut self.side {
