@@ -1,5 +1,6 @@
--- What a client is, and what the client of an opaque origin is answered. Storage, "obtain a local storage bottle map", fails for
--- such an origin, and then `request()` and `query()` throw a SecurityError (Web Locks); the other answers are (own).
+-- What a client is, and what the client of an opaque origin is answered. `request()` and `query()` of a document that isn't fully
+-- active throw an InvalidStateError, and those of an opaque origin, where Storage's "obtain a local storage bottle map" fails, a
+-- SecurityError (Web Locks); the other answers are (own).
 use Rattle.std.specs.Prelude.{ℕ, Bool, not, ◌&&◌, Option, Some, None, Result, Ok, Err, if◌then◌else◌}
 use Rattle.wl_types.specs.declared.words.Kind.{Kind}
 use Rattle.wl_types.specs.declared.refusal.Refusal.{Refusal}

@@ -1,7 +1,7 @@
 //! A client of the service.
 
-ghost use Rattle.std.specs.Prelude.{◌≡◌, true, Err, is_some};
-ghost use Rattle.wl_types.specs.declared.refusal.Refusal.TheVariants.{NoSuchSignal, Security};
+ghost use Rattle.std.specs.Prelude.{◌≡◌, ◌⊎◌, true, Err, IfErr, is_some};
+ghost use Rattle.wl_types.specs.declared.refusal.Refusal.TheVariants.{NoSuchAgent, NoSuchSignal, Security};
 ghost use Rattle.wl_types.specs.declared.answers.ReleaseAnswer.TheVariants.{NotHeld};
 ghost use Rattle.wl_service.specs.Clients.{Managed, Opaque, IfOpaque, activity, made_active, no_storage, number_of};
 
@@ -13,10 +13,10 @@ use wl_journal::Sight;
 use wl_manager::{Agent, Loose};
 use wl_types::{AbortAnswer, Ask, Kind, Reason, Refusal, ReleaseAnswer};
 
-/// What a client has of its request.
+/// What a client has of its request. It may move to another thread, and may outlive the client.
 pub type Ticket = wl_manager::Ticket<Core, Loose>;
 
-/// What a client leaves that ended.
+/// What an ended client leaves. A service counts no shares, so it has no bytes.
 pub type Leaving = wl_manager::Leaving<Loose>;
 
 #[derive(Drop)]
@@ -27,8 +27,8 @@ enum Side {
 
 /// A window or worker that opened: an agent of its origin's manager, or one of an opaque origin, which is refused.
 ///
-/// Each call of a managed client but `client` is that of its agent, and takes its manager's lock. A client should end
-/// by `terminate`: one that is dropped stays in its manager, with its locks.
+/// Each call of a managed client but `client` is its agent's, and takes its manager's lock; an opaque one takes none.
+/// A client should end by `terminate`: one that is dropped stays in its manager, with its locks.
 #[derive(Drop)]
 pub struct Client {
     side: Side,
@@ -70,7 +70,8 @@ impl Client {
         }
     }
 
-    /// Asks for a lock, as an agent does.
+    /// Asks for a lock. The ticket tells what becomes of it. Refused: as `LockCore::request`; each request of an opaque
+    /// client, by `InvalidState` where it is an inactive window, else by `Security`.
     pub fn request<R: Wait>(&mut self, rt: &R, ask: &Ask) -> Result<Ticket, Refusal>
         ensures opaque { IfOpaque self.old (λ kind active. result ≡ Err (no_storage kind active)) }
         ensures same { self.new ≡ self.old }
@@ -94,7 +95,8 @@ impl Client {
         }
     }
 
-    /// A new signal, by its number.
+    /// A new signal, by its number. Refused: `TooManySignals` where this client has made 1,024, `NumbersSpent`,
+    /// `Memory`; an opaque client by `Security`.
     pub fn new_signal<R: Wait>(&mut self, rt: &R) -> Result<u64, Refusal>
         ensures opaque { IfOpaque self.old (λ kind active. result ≡ Err Security) }
         ensures same { self.new ≡ self.old }
@@ -105,7 +107,8 @@ impl Client {
         }
     }
 
-    /// Aborts a signal of this client.
+    /// Aborts a signal of this client. Its requests that wait end, and so do its granted locks that weren't taken.
+    /// It takes no memory. Refused: `NoSuchSignal`, for an opaque client always.
     pub fn abort<R: Wait>(
         &mut self,
         rt: &R,
@@ -113,6 +116,7 @@ impl Client {
         reason: Reason,
     ) -> Result<AbortAnswer, Refusal>
         ensures opaque { IfOpaque self.old (λ kind active. result ≡ Err NoSuchSignal) }
+        ensures refused { IfErr result (λ refusal. (refusal ≡ NoSuchAgent) ⊎ (refusal ≡ NoSuchSignal)) }
         ensures same { self.new ≡ self.old }
     {
         match &mut self.side {
@@ -121,7 +125,8 @@ impl Client {
         }
     }
 
-    /// Makes this window active or inactive. A worker is refused.
+    /// Makes this window active or inactive: an inactive one may neither request nor query. Refused: `NotAWindow`,
+    /// and `Memory` unless the client is opaque.
     pub fn set_active<R: Wait>(&mut self, rt: &R, active: bool) -> Result<(), Refusal>
         ensures opaque { IfOpaque self.old (λ kind was. result ≡ activity kind) }
         ensures new { self.new ≡ made_active self.old active }
@@ -132,7 +137,8 @@ impl Client {
         }
     }
 
-    /// What is held and what waits in its manager, after how many entries.
+    /// What is held and what waits in its manager, after how many entries. Refused: `InvalidState`, `Memory`; an opaque
+    /// client as by `request`.
     pub fn query<R: Wait>(&mut self, rt: &R) -> Result<Sight, Refusal>
         ensures opaque { IfOpaque self.old (λ kind active. result ≡ Err (no_storage kind active)) }
         ensures same { self.new ≡ self.old }
@@ -143,7 +149,7 @@ impl Client {
         }
     }
 
-    /// Ends this client: its requests end, its locks are given up. An opaque one leaves nothing.
+    /// Ends this client: its requests end, its locks are given up, its signals are gone. An opaque one leaves nothing.
     pub fn terminate<R: Wait>(self, rt: &R) -> Option<Leaving>
         ensures { is_some result ≡ is_some (number_of self) }
     {

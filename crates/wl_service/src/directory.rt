@@ -1,6 +1,7 @@
 //! The managers by origin.
 
-ghost use Rattle.std.specs.Prelude.{◌≡◌, ◌≢◌, [], None, IsSome, IfOk, IfErr, OnErr, OnOk};
+ghost use Rattle.std.specs.Prelude.{◌≡◌, ◌≢◌, [], None, IfErr, OnErr, OnOk};
+ghost use Rattle.std.specs.Option.{option_copied};
 ghost use Rattle.wl_service.specs.declared.fault.OpenFault.TheVariants.{BadUrl};
 ghost use Rattle.wl_service.specs.Directory.{Adds, kept_for};
 ghost use Rattle.wl_service.specs.Opening.{fault_of};
@@ -19,15 +20,6 @@ pub type Core = PlainCore;
 
 /// A manager as the directory and its agents hold it.
 pub(crate) type Shared = Arc<Manager<Core, Loose>, Global>;
-
-/// What an origin has.
-#[derive(Drop)]
-pub(crate) enum Found {
-    /// A manager, which was there.
-    Manager(Shared),
-    /// A new manager, by the first agent of it.
-    First(Agent<Core, Loose>),
-}
 
 /// A manager for each origin at which somebody opened, in the order of their keys. It stays for the life of the
 /// service.
@@ -56,32 +48,30 @@ impl Directory {
         }
     }
 
-    /// The manager of the key, or the first agent of a new one. A new manager enters last, so a refused one leaves
-    /// nothing.
-    pub(crate) fn find<R: Wait>(
+    /// The manager of the key, if it has one.
+    pub(crate) fn kept(&self, key: &OriginKey) -> Option<&Shared>
+        ensures { option_copied result ≡ kept_for self.now.managers.entries key.now }
+    {
+        self.managers.get(key)
+    }
+
+    /// The first agent of a key that has no manager. Its manager enters last, so where something is refused none does.
+    pub(crate) fn add<R: Wait>(
         &mut self,
         rt: &R,
         alloc: Global,
         key: OriginKey,
         kind: Kind,
-    ) -> Result<Found, OpenFault>
-        ensures there { IsSome (kept_for self.old.managers.entries key) → self.new.managers.entries ≡ self.old.managers.entries }
-        ensures new { kept_for self.old.managers.entries key ≡ None → OnOk result (Adds self.old.managers.entries self.new.managers.entries key) }
+    ) -> Result<Agent<Core, Loose>, OpenFault>
+        requires { kept_for self.old.managers.entries key ≡ None }
+        ensures ok { OnOk result (Adds self.old.managers.entries self.new.managers.entries key) }
         ensures err { OnErr result (self.new.managers.entries ≡ self.old.managers.entries) }
         ensures fault { IfErr result (λ fault. fault ≢ BadUrl) }
     {
-        if let Some(manager) = self.managers.get(&key) {
-            let Ok(manager) = Arc::try_clone(manager) else {
-                return Err(OpenFault::Memory);
-            };
-            return Ok(Found::Manager(manager));
-        }
-        let Ok(manager) = Manager::new(rt, alloc, (), (), ()) else {
-            return Err(OpenFault::Memory);
-        };
+        let manager = Manager::new(rt, alloc, (), (), ()).map_err(|_| OpenFault::Memory)?;
         let agent = Manager::open(&manager, rt, kind).map_err(fault_of)?;
         match self.managers.insert(key, manager) {
-            Ok(_) => Ok(Found::First(agent)),
+            Ok(_) => Ok(agent),
             Err(_) => Err(OpenFault::Memory),
         }
     }
