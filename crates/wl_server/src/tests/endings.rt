@@ -1,6 +1,6 @@
 //! How connections end, and that their agents then have ended.
 
-use super::pipe::{BINARY, CLOSE, HELLO, PING, Pipe, TEXT, pipe};
+use super::pipe::{BINARY, CLOSE, HELLO, PING, Pipe, TEXT, pipe_of};
 use super::{OPEN, REQUEST, is_free};
 use crate::{ServeEnd, ServeFault, serve_one};
 use std::alloc::{AllocError, Global};
@@ -9,7 +9,7 @@ use wl_service::Service;
 
 /// A stream of an agent that opens and asks for `db`.
 fn holder(alloc: Global) -> Result<Pipe, AllocError> {
-    let mut stream = pipe(alloc, HELLO)?;
+    let mut stream = pipe_of(alloc, HELLO)?;
     stream.add(TEXT, OPEN)?;
     stream.add(BINARY, REQUEST)?;
     Ok(stream)
@@ -19,7 +19,7 @@ fn holder(alloc: Global) -> Result<Pipe, AllocError> {
 fn a_broken_handshake(rt: HostRuntime) -> Result<(), Fail> {
     let alloc = rt.alloc();
     let service = Service::new(&rt, alloc)?;
-    let stream = pipe(alloc, b"GET / HTTP/1.0\r\n\r\n")?;
+    let stream = pipe_of(alloc, b"GET / HTTP/1.0\r\n\r\n")?;
     let end = ServeEnd {
         answered: 0,
         fault: Some(ServeFault::Handshake),

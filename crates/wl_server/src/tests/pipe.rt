@@ -5,7 +5,8 @@ use std::io;
 use std::io::{Read, Write};
 
 /// A client's half of the opening handshake.
-pub const HELLO: &[u8] = b"GET / HTTP/1.1\r\nHost: a\r\nConnection: Upgrade\r\nUpgrade: websocket\r\nSec-WebSocket-Version: 13\r\nSec-WebSocket-Key: dGhlIHNhbXBsZSBub25jZQ==\r\n\r\n";
+pub const HELLO: &[u8] =
+    b"GET / HTTP/1.1\r\nHost: a\r\nConnection: Upgrade\r\nUpgrade: websocket\r\nSec-WebSocket-Version: 13\r\nSec-WebSocket-Key: dGhlIHNhbXBsZSBub25jZQ==\r\n\r\n";
 
 pub const TEXT: u8 = 1;
 
@@ -52,7 +53,7 @@ impl Write for Pipe {
 }
 
 /// A stream that begins with these bytes.
-pub fn pipe(alloc: Global, first: &[u8]) -> Result<Pipe, AllocError> {
+pub fn pipe_of(alloc: Global, first: &[u8]) -> Result<Pipe, AllocError> {
     Ok(Pipe {
         first: Vec::from_slice(alloc, first)?,
         rest: Vec::new(alloc),
@@ -64,9 +65,15 @@ pub fn pipe(alloc: Global, first: &[u8]) -> Result<Pipe, AllocError> {
 impl Pipe {
     /// Adds a frame, masked with zeros.
     pub fn add(&mut self, kind: u8, payload: &[u8]) -> Result<(), AllocError> {
-        let len = (payload.len() as u64).to_be_bytes();
-        self.rest.extend_from_slice(&[128 | kind, 255])?;
-        self.rest.extend_from_slice(&len)?;
+        self.rest.push(128 | kind)?;
+        if payload.len() < 126 {
+            self.rest.push(128 | payload.len() as u8)?;
+        } else {
+            // 127 stands for a length of eight bytes.
+            self.rest.push(128 | 127)?;
+            self.rest
+                .extend_from_slice(&(payload.len() as u64).to_be_bytes())?;
+        }
         self.rest.extend_from_slice(&[0, 0, 0, 0])?;
         self.rest.extend_from_slice(payload)
     }
