@@ -1,10 +1,10 @@
 //! What the contracts can't show: that connections over streams in memory and over loopback go as they should.
 
 mod endings;
+mod frames;
 mod loopback;
-mod pipe;
 
-use crate::{Gate, ServeEnd, ServeFault};
+use crate::Gate;
 use std::alloc::Global;
 use std::sync::Wait;
 use std::test::Fail;
