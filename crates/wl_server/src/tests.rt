@@ -1,10 +1,10 @@
 //! What the contracts can't show: that connections over streams in memory and over loopback go as they should.
 
 mod endings;
+mod frames;
 mod loopback;
-mod pipe;
 
-use crate::{Gate, ServeEnd, ServeFault};
+use crate::Gate;
 use std::alloc::Global;
 use std::sync::Wait;
 use std::test::Fail;
@@ -25,12 +25,7 @@ impl Gate for NoGate {
 }
 
 /// Whether a new client of the origin has this number, and is granted the lock `db` at once. It ends then.
-fn is_free<R: Wait>(
-    rt: &R,
-    alloc: Global,
-    service: &Service,
-    number: u64,
-) -> Result<bool, Fail> {
+fn is_free<R: Wait>(rt: &R, alloc: Global, service: &Service, number: u64) -> Result<bool, Fail> {
     let ask = Ask {
         name: Text::of(alloc, "db")?,
         mode: Mode::Exclusive,

@@ -1,7 +1,8 @@
 //! Connections over loopback.
 
-use super::NoGate;
+use super::{NoGate, OPEN};
 use crate::{Served, relay, serve};
+use std::io::Write;
 use std::net::{TcpListener, TcpStream};
 use std::test::Fail;
 use std::thread;
@@ -43,5 +44,29 @@ fn lines_are_relayed_to_a_server(rt: HostRuntime) -> Result<(), Fail> {
     assert_eq!(rt; relayed, Ok(6));
     assert_eq!(rt; served, Ok(one));
     assert_eq!(rt; replies.as_slice(), REPLIES.as_bytes());
+    Ok(())
+}
+
+#[test]
+fn a_broken_connection_ends_alone(rt: HostRuntime) -> Result<(), Fail> {
+    let alloc = rt.alloc();
+    let service = Service::new(&rt, alloc)?;
+    let listener = TcpListener::bind(&rt, "127.0.0.1:0")?;
+    let mut broken = TcpStream::connect(&rt, listener.local_addr()?)?;
+    let stream = TcpStream::connect(&rt, listener.local_addr()?)?;
+    broken.write_all(b"GET / HTTP/1.0\r\n\r\n")?;
+    drop(broken);
+    let mut replies = Vec::new(alloc);
+    let (served, relayed) = thread::join(
+        &rt,
+        || serve(&rt, alloc, &listener, 2, &NoGate, &service),
+        || relay(&rt, alloc, stream, OPEN, &mut replies),
+    );
+    let both = Served {
+        connections: 2,
+        failed: 1,
+    };
+    assert_eq!(rt; relayed, Ok(1));
+    assert_eq!(rt; served, Ok(both));
     Ok(())
 }

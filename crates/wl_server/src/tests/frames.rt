@@ -1,0 +1,50 @@
+//! What a client sends, as bytes.
+
+use crate::{ServeEnd, serve_one};
+use std::alloc::{AllocError, Global};
+use std::io::Read;
+use std::sync::Wait;
+use tungstenite::Duplex;
+use wl_service::Service;
+
+/// A client's half of the opening handshake.
+pub const HELLO: &[u8] =
+    b"GET / HTTP/1.1\r\nHost: a\r\nConnection: Upgrade\r\nUpgrade: websocket\r\nSec-WebSocket-Version: 13\r\nSec-WebSocket-Key: dGhlIHNhbXBsZSBub25jZQ==\r\n\r\n";
+
+pub const TEXT: u8 = 1;
+
+pub const BINARY: u8 = 2;
+
+pub const CLOSE: u8 = 8;
+
+pub const PING: u8 = 9;
+
+/// Adds a frame, masked with zeros.
+pub fn add(frames: &mut Vec<u8>, kind: u8, payload: &[u8]) -> Result<(), AllocError> {
+    frames.push(128 | kind)?;
+    if payload.len() < 126 {
+        frames.push(128 | payload.len() as u8)?;
+    } else {
+        // 127 stands for a length of eight bytes.
+        frames.push(128 | 127)?;
+        frames.extend_from_slice(&(payload.len() as u64).to_be_bytes())?;
+    }
+    frames.extend_from_slice(&[0, 0, 0, 0])?;
+    frames.extend_from_slice(payload)?;
+    Ok(())
+}
+
+/// Serves a stream that gives the hello at its first read, then the frames, and then ends.
+pub fn served<R: Wait>(
+    rt: &R,
+    alloc: Global,
+    service: &Service,
+    hello: &[u8],
+    frames: &[u8],
+) -> ServeEnd {
+    let stream = Duplex {
+        reader: hello.chain(frames),
+        writer: Vec::new(alloc),
+    };
+    serve_one(rt, alloc, stream, service)
+}
