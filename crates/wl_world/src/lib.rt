@@ -11,6 +11,7 @@ mod open_label;
 mod origin;
 mod realm;
 mod requests;
+mod rolls;
 mod serve;
 mod serve_label;
 mod steps;

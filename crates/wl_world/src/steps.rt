@@ -3,7 +3,8 @@
 ghost use Rattle.std.specs.Prelude.{◌≡◌, IfOk, OnOk};
 ghost use Rattle.wl_machine.specs.declared.command.Command.TheVariants as command;
 ghost use Rattle.wl_world.specs.Origins.{act, stepped};
-ghost use Rattle.wl_world.specs.Requests.{noted, listed};
+ghost use Rattle.wl_world.specs.Requests.{noted, listed, IsRising};
+ghost use Rattle.wl_world.specs.Rolls.{IsNewest};
 ghost use Rattle.wl_world.specs.Views.{core as seen, made, origin, Told};
 
 use crate::requests::Requests;
@@ -21,13 +22,14 @@ fn refused(refusal: Refusal) -> Result<Outcome, Memory>
     }
 }
 
-/// The changes of the core's last call find their requests.
+/// The changes of the core's last call find their requests. A request that was accepted is newer than all.
 fn accept<C: LockCore>(
     core: &C,
     requests: &mut Requests,
     agent: u64,
     outcome: Outcome,
 ) -> Result<Outcome, Memory>
+    requires newest { IsNewest outcome requests.old }
     ensures { IfOk result (λ same. made (seen (C.state core.now) (C.entries core.now)) requests.new same ≡ made (seen (C.state core.now) (C.entries core.now))
         (noted (C.recent core.now) (listed agent outcome requests.old)) outcome) }
 {
@@ -36,7 +38,7 @@ fn accept<C: LockCore>(
         Outcome::Closed => requests.leave(agent),
         _ => {}
     }
-    requests.note(core.changes());
+    requests.note(core.changes())?;
     Ok(outcome)
 }
 
@@ -56,6 +58,7 @@ fn request<C: LockCore>(
     agent: u64,
     ask: &Ask,
 ) -> Result<Outcome, Memory>
+    requires in_order { IsRising 0 (C.state core.old).next.request requests.old }
     ensures { IfOk result (λ outcome. made (seen (C.state core.new) (C.entries core.new)) requests.new outcome
         ≡ stepped (origin (seen (C.state core.old) (C.entries core.old)) requests.old) agent (Body.Request ask.now) (command.Request agent ask.now)) }
 {
@@ -152,6 +155,7 @@ pub(crate) fn act<C: LockCore>(
     agent: u64,
     body: &Body,
 ) -> Result<Outcome, Memory>
+    requires in_order { IsRising 0 (C.state core.old).next.request requests.old }
     ensures { IfOk result (λ outcome. made (seen (C.state core.new) (C.entries core.new)) requests.new outcome
         ≡ act (origin (seen (C.state core.old) (C.entries core.old)) requests.old) agent body.now) }
 {
