@@ -1,0 +1,180 @@
+//! The live requests by number. A lock keeps its place in the order of grants as a stamp, so a grant writes in place.
+ghost use Rattle.std.specs.Prelude.{◌≡◌, ℕ, ◌+◌, ◌≤◌, ◌<◌, ◌^◌, ◌==◌, true, List, [], ◌∷◌, ◌++◌, map, filter, not, IfOk, OnOk, OnErr, IfSome, IfNone, false, ◌&&◌};
+ghost use Rattle.std.specs.List.{list_any};
+ghost use Rattle.wl_machine.specs.declared.rows.PendingRow.{PendingRow};
+ghost use Rattle.wl_machine.specs.Grants.{granted_lock};
+ghost use Rattle.wl_machine.specs.Step.{is_lock_of, is_untaken, with_taken};
+ghost use Rattle.wl_index.specs.Rows.{Apart, holds, lock_row, is_fresh, taken_stage};
+
+use std::alloc::{AllocError, Global};
+use std::collections::BTreeMap;
+use std::marker::Model;
+use wl_types::{Mode, Name};
+
+/// Where a live request stands: in its queue, or among the locks, by its stamp and whether it was taken.
+#[derive(Clone, Copy, Debug, PartialEq, Eq, Drop)]
+pub enum Stage {
+    Pending,
+    Held(u64, bool),
+}
+
+/// A live request without its number.
+#[derive(Drop)]
+pub struct Request {
+    pub agent: u64,
+    pub name: Name,
+    pub mode: Mode,
+    pub signal: Option<u64>,
+    pub stage: Stage,
+}
+
+/// The live requests by number, the next stamp and the next number.
+#[derive(Drop)]
+pub struct Table {
+    requests: BTreeMap<u64, Request>,
+    stamp: u64,
+    next: u64,
+}
+
+impl Model for Table {
+    ghost use Rattle.wl_index.specs.Rows.{Rows, IsTable, held_of, pending_of};
+
+    ghost Value = { Rows };
+
+    ghost view = { λ t. record { held = held_of t.requests.entries; pending = pending_of t.requests.entries; next = t.next } };
+
+    ghost invariant = { λ t. IsTable t.requests.entries t.stamp t.next };
+}
+
+impl Table {
+    pub fn new(alloc: Global, next: u64) -> Table
+        requires low { 1 ≤ next }
+        requires high { next ≤ 9007199254740992 }
+        ensures { result ≡ record { held = []; pending = []; next = next } }
+    {
+        Table {
+            requests: BTreeMap::new(alloc),
+            stamp: 1,
+            next,
+        }
+    }
+
+    pub fn next(&self) -> u64
+        ensures { result ≡ self.now.next }
+    {
+        self.next
+    }
+
+    /// A request that waits, after all others.
+    pub fn push(
+        &mut self,
+        agent: u64,
+        name: Name,
+        mode: Mode,
+        signal: Option<u64>,
+    ) -> Result<u64, AllocError>
+        requires { self.old.next < 9007199254740992 }
+        ensures number { IfOk result (λ n. n ≡ self.old.next) }
+        ensures held { self.new.held ≡ self.old.held }
+        ensures pending { OnOk result (self.new.pending ≡ self.old.pending ++ record { number = self.old.next; agent = agent; name = name; mode = mode; signal = signal } ∷ []) }
+        ensures next { OnOk result (self.new.next ≡ self.old.next + 1) }
+        ensures err { OnErr result (self.new ≡ self.old) }
+    {
+        let number = self.next;
+        let request = Request {
+            agent,
+            name,
+            mode,
+            signal,
+            stage: Stage::Pending,
+        };
+        self.requests.insert(number, request)?;
+        self.next = number + 1;
+        Ok(number)
+    }
+
+    /// Ends a request or a lock.
+    pub fn end(&mut self, number: u64)
+        ensures held { self.new.held ≡ filter (λ lock. not (lock.number == number)) self.old.held }
+        ensures pending { self.new.pending ≡ filter (λ (request : PendingRow). not (request.number == number)) self.old.pending }
+        ensures next { self.new.next ≡ self.old.next }
+    {
+        self.requests.remove(&number);
+    }
+
+    /// Whether an agent has the lock of this number.
+    pub fn has_lock(&self, agent: u64, number: u64) -> bool
+        ensures { result ≡ list_any (is_lock_of agent number) self.now.held }
+    {
+        match self.requests.get(&number) {
+            Some(request) => is_held_by(request, agent),
+            None => false,
+        }
+    }
+
+    /// Ends an agent's lock, and hands it out.
+    pub fn release(&mut self, agent: u64, number: u64) -> Option<Request>
+        ensures none { IfNone result (list_any (is_lock_of agent number) self.old.held ≡ false) }
+        ensures unchanged { IfNone result (self.new ≡ self.old) }
+        ensures only { IfSome result (λ r. filter (is_lock_of agent number) self.old.held ≡ lock_row (number, r) ∷ []) }
+        ensures held { self.new.held ≡ filter (λ lock. not (is_lock_of agent number lock)) self.old.held }
+        ensures pending { self.new.pending ≡ self.old.pending }
+        ensures next { self.new.next ≡ self.old.next }
+    {
+        if !self.has_lock(agent, number) {
+            return None;
+        }
+        let request = self.requests.remove(&number).unwrap();
+        Some(request)
+    }
+
+    /// Makes a request that waits the last lock.
+    pub fn grant(&mut self, number: u64)
+        requires { list_any (λ (request : PendingRow). request.number == number) self.old.pending ≡ true }
+        ensures apart { Apart self.old.pending }
+        ensures held { self.new.held ≡ self.old.held ++ map granted_lock (filter (λ (request : PendingRow). request.number == number) self.old.pending) }
+        ensures pending { self.new.pending ≡ filter (λ (request : PendingRow). not (request.number == number)) self.old.pending }
+        ensures next { self.new.next ≡ self.old.next }
+    {
+        let request = self.requests.get_mut(&number).unwrap();
+        request.stage = Stage::Held(self.stamp, false);
+        self.stamp += 1;
+    }
+
+    /// Marks an untaken lock as taken. False: there is none.
+    pub fn take(&mut self, number: u64) -> bool
+        ensures found { result ≡ list_any (is_untaken number) self.old.held }
+        ensures held { self.new.held ≡ map (with_taken number) self.old.held }
+        ensures pending { self.new.pending ≡ self.old.pending }
+        ensures next { self.new.next ≡ self.old.next }
+    {
+        if let Some(request) = self.requests.get_mut(&number) {
+            return mark_taken(request);
+        }
+        false
+    }
+}
+
+/// Whether a request is an agent's lock.
+fn is_held_by(request: &Request, agent: u64) -> bool
+    ensures { result ≡ (holds request.now.stage && request.now.agent == agent) }
+{
+    match request.stage {
+        Stage::Held(_, _) => request.agent == agent,
+        Stage::Pending => false,
+    }
+}
+
+/// Marks a lock as taken. False: it was taken before, or is no lock.
+fn mark_taken(request: &mut Request) -> bool
+    ensures found { result ≡ is_fresh request.old.stage }
+    ensures marked { request.new ≡ record request.old { stage = taken_stage request.old.stage } }
+{
+    match request.stage {
+        Stage::Held(stamp, false) => {
+            request.stage = Stage::Held(stamp, true);
+            true
+        }
+        _ => false,
+    }
+}
