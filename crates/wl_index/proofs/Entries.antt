@@ -14,7 +14,9 @@ use Rattle.std.proofs.lemmas.Bool.Decides.{nat_tests}
 use Rattle.std.proofs.lemmas.Map.Keys.{sorted_head, sorted_tail}
 use Rattle.std.proofs.lemmas.Map.{keys-set_value}
 use Rattle.std.proofs.lemmas.Option.{none-some}
-use Rattle.std.proofs.lemmas.List.{map-append, length-append}
+use Rattle.std.proofs.lemmas.List.{map-append, length-append, length-map}
+use Rattle.std.proofs.lemmas.List.Filters.{length-filter_both}
+use Rattle.std.proofs.Common.{nat_lt}
 use Rattle.std.proofs.lemmas.List.Elements.{filter-append}
 use Rattle.wl_machine.specs.declared.rows.HeldRow.{HeldRow}
 use Rattle.wl_machine.specs.declared.rows.PendingRow.{PendingRow}
@@ -23,16 +25,15 @@ use Rattle.wl_machine.specs.Step.{is_untaken, with_taken, is_lock_of}
 use Rattle.wl_index.specs.declared.table.Request.{Request}
 use Rattle.wl_index.specs.declared.table.Stage.{Stage}
 use Rattle.wl_index.specs.declared.table.Stage.TheVariants.{Pending, Held}
-use Rattle.wl_index.specs.Stamps.{by_stamp, by_stamp_last, by_stamp_all, filter_by_stamp}
-use Rattle.wl_index.specs.Rows.{Entry, Apart, is_fresh, taken_stage, waits, holds, stamp, waiting, holding, stamp_of, request_row, lock_row, pending_of, held_of, IsTable}
+use Rattle.wl_index.specs.Stamps.{place, by_stamp, by_stamp_last, by_stamp_all, filter_by_stamp}
+use Rattle.wl_index.specs.Rows.{Entry, Apart, Tag, tag, tags_of, other, is_fresh, taken_stage, waits, holds, stamp, waiting, holding, stamp_of, request_row, lock_row, pending_of, held_of, IsTable}
 use Rattle.wl_index.proofs.Lists.{filter_map, filter_like, filter_swap, filter_whole, filter_none, filter_passed, all_filter, all_weaker, all_append, all_front, all_back, any_map, any_by_stamp, map_by_stamp}
-
--- an entry of another number
-abbrev pub other : ℕ → Entry → Bool
-other id e = not (e.0 == id)
 
 pub same_number : (id k : ℕ) → is_at (nat_cmp id) k ≡ (k == id)
 same_number id k = grind (arith, nat_tests)
+
+pub number_same : (id : ℕ) → (id == id) ≡ true
+number_same id = grind (arith, nat_tests)
 
 -- ---- in order of number
 
@@ -41,6 +42,18 @@ above_apart id k [] same above = tt
 above_apart id k (e ∷ es) same above = (grind (arith, nat_tests, same, above.0), above_apart id k es same above.1)
 
 -- one entry at most has a number, so a removal is a filter
+pub removed_at : {X : Type 0} (id : ℕ) (es : List (ℕ × X)) → IsStrictlySortedBy nat_cmp (keys_of es) → remove_entry (is_at (nat_cmp id)) es ≡ filter (λ (e : ℕ × X). not (e.0 == id)) es
+removed_at id [] sorted = refl
+removed_at {X} id (e ∷ es) sorted = by (e.0 == id) refl (removed_at id es (sorted_tail nat_cmp e.0 (keys_of es) sorted))
+  where
+    others : ℕ × X → Bool
+    others x = not (x.0 == id)
+
+    by : (b : Bool) → (e.0 == id) ≡ b → remove_entry (is_at (nat_cmp id)) es ≡ filter others es
+        → cond (is_at (nat_cmp id) e.0) es (e ∷ remove_entry (is_at (nat_cmp id)) es) ≡ cond (not (e.0 == id)) (e ∷ filter others es) (filter others es)
+    by true h rest = rw (same_number id e.0, h) (sym (filter_whole others es (all_weaker (λ (x : ℕ × X). (x.0 == id) ≡ false) (λ x. others x ≡ true) es (λ x no. rw no refl) (above_apart id e.0 es h (sorted_head nat_cmp e.0 (keys_of es) sorted)))))
+    by false h rest = rw (same_number id e.0, h) (ap (λ l. e ∷ l) rest)
+
 pub removed : (id : ℕ) (es : List Entry) → IsStrictlySortedBy nat_cmp (keys_of es) → remove_entry (is_at (nat_cmp id)) es ≡ filter (other id) es
 removed id [] sorted = refl
 removed id (e ∷ es) sorted = by (e.0 == id) refl (removed id es (sorted_tail nat_cmp e.0 (keys_of es) sorted))
@@ -97,6 +110,14 @@ entry_last [] k r below = refl
 entry_last (e ∷ es) k r below =
     let above : Greater ≡ nat_cmp k e.0 = nat_cmp_is k e.0 Greater below.0 in
     rw (← above) (ap (λ l. e ∷ l) (entry_last es k r below.1))
+
+-- an insertion of a number above all is undone by a removal
+pub undone : {X : Type 0} (es : List (ℕ × X)) (k : ℕ) (r : X) → AllByRecursion (λ (e : ℕ × X). e.0 < k) es → remove_entry (is_at (nat_cmp k)) (insert_entry nat_cmp es k r) ≡ es
+undone {X} es k r below = ap (remove_entry (is_at (nat_cmp k))) (entry_last es k r below) ∙ last es below
+  where
+    last : (l : List (ℕ × X)) → AllByRecursion (λ (e : ℕ × X). e.0 < k) l → remove_entry (is_at (nat_cmp k)) (l ++ (k, r) ∷ []) ≡ l
+    last [] all = rw (same_number k k, number_same k) refl
+    last (e ∷ l) all = let apart : (e.0 == k) ≡ false = (let less = all.0 in grind (arith, nat_tests, less)) in rw (same_number k e.0, apart) (ap (λ t. e ∷ t) (last l all.1))
 
 pub pending_more : (es : List Entry) (k : ℕ) (r : Request) → waits r.stage ≡ true → pending_of (es ++ (k, r) ∷ []) ≡ pending_of es ++ request_row (k, r) ∷ []
 pending_more es k r waiting_now =
@@ -181,8 +202,6 @@ apart_kept id es apart =
 pending_append : (front back : List Entry) → pending_of (front ++ back) ≡ pending_of front ++ pending_of back
 pending_append front back = ap (map request_row) (filter-append waiting front back) ∙ map-append request_row (filter waiting front) (filter waiting back)
 
-pub number_same : (id : ℕ) → (id == id) ≡ true
-number_same id = grind (arith, nat_tests)
 
 -- a request that waited and holds with the greatest stamp is the last lock
 pub held_granted : (front back : List Entry) (id at : ℕ) (r : Request) → r.stage ≡ Pending
@@ -583,3 +602,44 @@ below_last {X} es k x below = rw (entry_last es k x below) (all_append (λ (e : 
 
 pub length_last : {X : Type 0} (es : List (ℕ × X)) (k : ℕ) (x : X) → AllByRecursion (λ (e : ℕ × X). e.0 < k) es → length (insert_entry nat_cmp es k x) ≡ length es + 1
 length_last es k x below = ap length (entry_last es k x below) ∙ length-append es ((k, x) ∷ [])
+
+-- ---- whose they are
+
+tags_marked_one : (id : ℕ) (e : Entry) (b : Bool) → tag (e.0, cond b (marked e.1) e.1) ≡ tag e
+tags_marked_one id e true = refl
+tags_marked_one id e false = refl
+
+pub tags_marked : (id : ℕ) (es : List Entry) → tags_of (map (mark id) es) ≡ tags_of es
+tags_marked id [] = refl
+tags_marked id (e ∷ es) = rw (tags_marked_one id e (e.0 == id), tags_marked id es) refl
+
+pub tags_set : (id : ℕ) (es : List Entry) (r s : Request) → IsStrictlySortedBy nat_cmp (keys_of es) → lookup (is_at (nat_cmp id)) es ≡ Some r → tag (id, s) ≡ tag (id, r) → tags_of (set_value (is_at (nat_cmp id)) es s) ≡ tags_of es
+tags_set id es r s sorted there same =
+    let f = found id es r sorted there in
+    ap tags_of (f.set s) ∙ map-append tag f.front ((id, s) ∷ f.back) ∙ ap (λ t. tags_of f.front ++ t ∷ tags_of f.back) same ∙ sym (ap tags_of f.whole ∙ map-append tag f.front ((id, r) ∷ f.back))
+
+-- ---- how many are live
+
+place_length : (e : Entry) (l : List Entry) → length (place stamp_of e l) ≡ suc (length l)
+place_length e [] = refl
+place_length e (y ∷ l) = by (nat_lt (stamp_of e) (stamp_of y)) (place_length e l)
+  where
+    by : (b : Bool) → length (place stamp_of e l) ≡ suc (length l) → length (cond b (e ∷ y ∷ l) (y ∷ place stamp_of e l)) ≡ suc (suc (length l))
+    by true rest = refl
+    by false rest = ap suc rest
+
+stamp_length : (l : List Entry) → length (by_stamp stamp_of l) ≡ length l
+stamp_length [] = refl
+stamp_length (e ∷ l) = place_length e (by_stamp stamp_of l) ∙ ap suc (stamp_length l)
+
+-- each live request waits or holds
+pub live_count : (es : List Entry) → length (held_of es) + length (pending_of es) ≡ length es
+live_count es =
+    let h : length (held_of es) ≡ length (filter holding es) = length-map (by_stamp stamp_of (filter holding es)) lock_row ∙ stamp_length (filter holding es) in
+    let p : length (pending_of es) ≡ length (filter waiting es) = length-map (filter waiting es) request_row in
+    let b = length-filter_both waiting holding (λ e. apart e.1.stage) es in
+    omega (arith, h, p, b)
+  where
+    apart : (s : Stage) → holds s ≡ not (waits s)
+    apart Pending = refl
+    apart (Held at taken) = refl

@@ -1,6 +1,6 @@
 -- Lines by the number that brought their name into use: one line written, or removed.
 use Rattle.std.proofs.Common.{◌≡◌, ℕ, ◌≤◌, ◌==◌, Bool, true, false, cond, List, [], ◌∷◌, ◌++◌, suc, length, map, refl, ap, subst, sym, ◌∙◌, arith}
-use Rattle.std.specs.Prelude.{not, ◌||◌, filter, Option, Some, None}
+use Rattle.std.specs.Prelude.{not, ◌||◌, ◌&&◌, filter, Option, Some, None}
 use Rattle.std.specs.Option.{unwrap_or, IsSome, IfSome, option_copied}
 use Rattle.std.proofs.Common.{Bor}
 use Rattle.std.specs.Str.{bytes_eq}
@@ -19,12 +19,13 @@ use Rattle.std.proofs.lemmas.Map.{keys-set_value}
 use Rattle.std.proofs.lemmas.Map.Keys.{sorted_head, sorted_tail}
 use Rattle.wl_machine.specs.declared.rows.HeldRow.{HeldRow}
 use Rattle.wl_machine.specs.declared.rows.PendingRow.{PendingRow}
-use Rattle.wl_machine.specs.Grants.{any_exclusive, in_use, locks, queue, Lists, settle_name}
-use Rattle.wl_index.specs.Lines.{Waiting, Matches, number_and_mode}
-use Rattle.wl_index.specs.Names.{names_of, among, IsNames, is_busy, has_none, names_after, MatchesButOne, WrittenAt, with_one_less}
+use Rattle.wl_machine.specs.Grants.{is_empty, in_use, locks, queue, Lists, settle_name}
+use Rattle.wl_index.specs.Lines.{Waiting, Matches, is_busy, number_and_mode, lock_and_mode}
+use Rattle.wl_index.specs.Names.{names_of, among, IsNames}
 use Rattle.wl_index.proofs.Lists.{all_append, all_front, all_back}
 use Rattle.wl_index.proofs.Entries.{Found, found, same_number, number_same, above_apart}
-use Rattle.wl_index.proofs.Events.{own_name, settle_locks_other, settle_queue_other}
+use Rattle.wl_machine.proofs.Lists.{same_bytes, other_bytes}
+use Rattle.wl_index.proofs.Used.{settle_locks_other, settle_queue_other}
 
 abbrev pub NameAt : Type 0
 NameAt = ℕ × Waiting
@@ -77,7 +78,7 @@ line_there name place (e ∷ es) uses sorted listed there at = by (bytes_eq e.1.
     by false h rest = later (e.0 == place) refl (rest (sym (ap (λ b. b || among name (names_of es)) h) ∙ there) at)
 
 -- lines at other places have other names
-others_named : (name : List ℕ) (place : ℕ) (l : List NameAt) (uses : (List ℕ → Option ℕ)) → uses name ≡ Some place → AllByRecursion (λ (e : NameAt). uses e.1.name ≡ Some e.0) l
+pub others_named : (name : List ℕ) (place : ℕ) (l : List NameAt) (uses : (List ℕ → Option ℕ)) → uses name ≡ Some place → AllByRecursion (λ (e : NameAt). uses e.1.name ≡ Some e.0) l
     → AllByRecursion (λ (e : NameAt). (e.0 == place) ≡ false) l → AllByRecursion (λ (e : NameAt). bytes_eq e.1.name name ≡ false) l
 others_named name place [] uses at listed apart = tt
 others_named name place (e ∷ l) uses at listed apart = (by (bytes_eq e.1.name name) refl, others_named name place l uses at listed.1 apart.1)
@@ -105,6 +106,42 @@ at_place name place es uses names there at =
       back_differs = others_named name place f.back uses at (all_back (λ (e : NameAt). uses e.1.name ≡ Some e.0) f.front ((place, l.0) ∷ f.back) listed).1 f.high;
     }
 
+-- the line at a place, among the lines of other names
+abbrev pub at_line : (place : ℕ) (w : Waiting) (lines : List NameAt) (uses : List ℕ → Option ℕ) → IsNames lines uses → lookup (is_at (nat_cmp place)) lines ≡ Some w → At w.name place lines
+at_line place w lines uses names there =
+    let L : NameAt → Type 0 = λ e. uses e.1.name ≡ Some e.0 in
+    let f = found place lines w names.ordered there in
+    let listed = subst (AllByRecursion L) f.whole names.listed in
+    let front = all_front L f.front ((place, w) ∷ f.back) listed in
+    let back = all_back L f.front ((place, w) ∷ f.back) listed in
+    record {
+      line = w;
+      there = there;
+      named = refl;
+      split = f;
+      front_differs = others_named w.name place f.front uses back.0 front f.low;
+      back_differs = others_named w.name place f.back uses back.0 back.1 f.high;
+    }
+
+pub none_at : (place : ℕ) (lines : List NameAt) → lookup (is_at (nat_cmp place)) lines ≡ None → AllByRecursion (λ (e : NameAt). (e.0 == place) ≡ false) lines
+none_at place [] none = tt
+none_at place (e ∷ lines) none = by (e.0 == place) refl (none_at place lines)
+  where
+    seen : (b : Bool) → (e.0 == place) ≡ b → cond b (Some e.1) (lookup (is_at (nat_cmp place)) lines) ≡ None
+    seen b h = sym (ap (λ c. cond c (Some e.1) (lookup (is_at (nat_cmp place)) lines)) (same_number place e.0 ∙ h)) ∙ none
+
+    by : (b : Bool) → (e.0 == place) ≡ b → (lookup (is_at (nat_cmp place)) lines ≡ None → AllByRecursion (λ (e : NameAt). (e.0 == place) ≡ false) lines) → AllByRecursion (λ (e : NameAt). (e.0 == place) ≡ false) (e ∷ lines)
+    by true h rest = absurd (none-some e.1 (sym (seen true h)))
+    by false h rest = (h, rest (seen false h))
+
+-- what is looked up where it was written
+pub written_there : (name : List ℕ) (place : ℕ) (lines : List NameAt) (line : Waiting) → At name place lines → lookup (is_at (nat_cmp place)) (set_value (is_at (nat_cmp place)) lines line) ≡ Some line
+written_there name place lines line a = ap (lookup (is_at (nat_cmp place))) (a.split.set line) ∙ behind a.split.front a.split.low
+  where
+    behind : (l : List NameAt) → AllByRecursion (λ (e : NameAt). (e.0 == place) ≡ false) l → lookup (is_at (nat_cmp place)) (l ++ (place, line) ∷ a.split.back) ≡ Some line
+    behind [] apart = rw (same_number place place, number_same place) refl
+    behind (e ∷ l) apart = rw (same_number place e.0, apart.0) (behind l apart.1)
+
 -- ---- what a written line leaves of the names
 
 pub written_names : (name : List ℕ) (place : ℕ) (es : List NameAt) (line : Waiting) → (a : At name place es) → line.name ≡ a.line.name → names_of (set_value (is_at (nat_cmp place)) es line) ≡ names_of es
@@ -127,33 +164,25 @@ written_is name place es uses line a same names =
 -- ---- the lines and the lists
 
 -- a line of another name matches after a name was settled
-matches_other : (w : Waiting) (before : Lists) (name : List ℕ) → bytes_eq w.name name ≡ false → Matches w before.held before.pending → Matches w (settle_name before name).held (settle_name before name).pending
+pub matches_other : (w : Waiting) (before : Lists) (name : List ℕ) → bytes_eq w.name name ≡ false → Matches w before.held before.pending → Matches w (settle_name before name).held (settle_name before name).pending
 matches_other w before name differs matches =
-    let other : bytes_eq name w.name ≡ false = by (bytes_eq name w.name) refl in
+    let other : bytes_eq name w.name ≡ false = other_bytes name w.name differs in
     record {
       waits = matches.waits ∙ ap (map number_and_mode) (sym (settle_queue_other before name w.name other));
-      holders = matches.holders ∙ ap length (sym (settle_locks_other before name w.name other));
-      exclusive = matches.exclusive ∙ ap any_exclusive (sym (settle_locks_other before name w.name other));
+      holders = matches.holders ∙ ap (map lock_and_mode) (sym (settle_locks_other before name w.name other));
     }
-  where
-    by : (b : Bool) → bytes_eq name w.name ≡ b → bytes_eq name w.name ≡ false
-    by true h = absurd (let same : name ≡ w.name = same_text name w.name (sym h) in let no : bytes_eq name name ≡ false = subst (λ n. bytes_eq n name ≡ false) (sym same) differs in let yes = own_name name in cc (no, yes))
-    by false h = h
 
-pub others_match : (name : List ℕ) (before : Lists) (l : List NameAt) → AllByRecursion (λ (e : NameAt). bytes_eq e.1.name name ≡ false) l → AllByRecursion (λ (e : NameAt). MatchesButOne name before.held before.pending e.1) l
+pub others_match : (name : List ℕ) (before : Lists) (l : List NameAt) → AllByRecursion (λ (e : NameAt). bytes_eq e.1.name name ≡ false) l → AllByRecursion (λ (e : NameAt). Matches e.1 before.held before.pending) l
     → AllByRecursion (λ (e : NameAt). Matches e.1 (settle_name before name).held (settle_name before name).pending) l
 others_match name before [] differ all = tt
-others_match name before (e ∷ l) differ all = (matches_other e.1 before name differ.0 (all.0.others differ.0), others_match name before l differ.1 all.1)
+others_match name before (e ∷ l) differ all = (matches_other e.1 before name differ.0 all.0, others_match name before l differ.1 all.1)
 
 -- ---- in use, by the line
 
-busy_held : (h : List HeldRow) (q : List PendingRow) → (not (length h == 0) || not (has_none (map number_and_mode q))) ≡ (list_any (λ lock. true) h || list_any (λ request. true) q)
+busy_held : (h : List HeldRow) (q : List PendingRow) → not (is_empty (map lock_and_mode h) && is_empty (map number_and_mode q)) ≡ (list_any (λ lock. true) h || list_any (λ request. true) q)
 busy_held [] [] = refl
 busy_held [] (r ∷ q) = refl
-busy_held (l ∷ h) q = rw (positive (length h)) refl
-  where
-    positive : (n : ℕ) → (suc n == 0) ≡ false
-    positive n = grind (arith, nat_tests)
+busy_held (l ∷ h) q = refl
 
 any_passed : {X : Type 0} (p : X → Bool) (l : List X) → list_any (λ x. true) (filter p l) ≡ list_any p l
 any_passed p [] = refl
@@ -167,59 +196,17 @@ pub busy_in_use : (w : Waiting) (held : List HeldRow) (pending : List PendingRow
 busy_in_use w held pending matches =
     rw (matches.waits, matches.holders, busy_held (locks w.name held) (queue w.name pending), any_passed (λ (lock : HeldRow). bytes_eq lock.name w.name) held, any_passed (λ (request : PendingRow). bytes_eq request.name w.name) pending) refl
 
--- ---- the names after a line was written
+-- ---- a line removed
 
-or_true : (b : Bool) → (b || true) ≡ true
-or_true true = refl
-or_true false = refl
-
-or_false : (b : Bool) → (b || false) ≡ b
-or_false true = refl
-or_false false = refl
-
-all_stay : (name : List ℕ) (used : Bool) (names : List (List ℕ)) → used ≡ true → filter (λ m. not (bytes_eq m name) || used) names ≡ names
-all_stay name true [] is = refl
-all_stay name true (n ∷ names) is = rw (or_true (not (bytes_eq n name))) (ap (λ l. n ∷ l) (all_stay name true names is))
-all_stay name false names is = absurd (cc)
-
--- a name that stays in use leaves all names
-pub names_used : (name : List ℕ) (lists : Lists) (names : List (List ℕ)) → in_use lists.held lists.pending name ≡ true → names_after name lists names ≡ names
-names_used name lists names used = all_stay name (in_use lists.held lists.pending name) names used
-
-remove_apart : (place : ℕ) (front back : List NameAt) (line : Waiting) → AllByRecursion (λ (e : NameAt). (e.0 == place) ≡ false) front → remove_entry (is_at (nat_cmp place)) (front ++ (place, line) ∷ back) ≡ front ++ back
+pub remove_apart : (place : ℕ) (front back : List NameAt) (line : Waiting) → AllByRecursion (λ (e : NameAt). (e.0 == place) ≡ false) front → remove_entry (is_at (nat_cmp place)) (front ++ (place, line) ∷ back) ≡ front ++ back
 remove_apart place [] back line apart = rw (same_number place place, number_same place) refl
 remove_apart place (e ∷ front) back line apart = rw (same_number place e.0, apart.0) (ap (λ l. e ∷ l) (remove_apart place front back line apart.1))
-
-other_names : (name : List ℕ) (l : List NameAt) (used : Bool) → used ≡ false → AllByRecursion (λ (e : NameAt). bytes_eq e.1.name name ≡ false) l → filter (λ m. not (bytes_eq m name) || used) (names_of l) ≡ names_of l
-other_names name [] used unused differ = refl
-other_names name (e ∷ l) used unused differ = rw differ.0 (ap (λ r. e.1.name ∷ r) (other_names name l used unused differ.1))
-
--- a name out of use leaves with its line
-pub names_unused : (name : List ℕ) (place : ℕ) (es : List NameAt) (line : Waiting) (lists : Lists) → (a : At name place es) → line.name ≡ a.line.name → in_use lists.held lists.pending name ≡ false
-    → names_of (remove_entry (is_at (nat_cmp place)) (set_value (is_at (nat_cmp place)) es line)) ≡ names_after name lists (names_of es)
-names_unused name place es line lists a same unused =
-    let p : List ℕ → Bool = λ m. not (bytes_eq m name) || in_use lists.held lists.pending name in
-    let own : p a.line.name ≡ false = rw (unused, ap (λ n. bytes_eq n name) a.named ∙ own_name name) refl in
-    let left : names_of (remove_entry (is_at (nat_cmp place)) (set_value (is_at (nat_cmp place)) es line)) ≡ names_of a.split.front ++ names_of a.split.back =
-    ap (λ l. names_of (remove_entry (is_at (nat_cmp place)) l)) (a.split.set line) ∙ ap names_of (remove_apart place a.split.front a.split.back line a.split.low) ∙ map-append (λ (e : NameAt). e.1.name) a.split.front a.split.back in
-    let whole : filter p (names_of es) ≡ names_of a.split.front ++ names_of a.split.back =
-    ap (λ l. filter p (names_of l)) a.split.whole ∙ ap (filter p) (map-append (λ (e : NameAt). e.1.name) a.split.front ((place, a.line) ∷ a.split.back))
-    ∙ filter-append p (names_of a.split.front) (a.line.name ∷ names_of a.split.back)
-    ∙ rw (own, other_names name a.split.front (in_use lists.held lists.pending name) unused a.front_differs, other_names name a.split.back (in_use lists.held lists.pending name) unused a.back_differs) refl in
-    left ∙ sym whole
-
-turned : (n m : List ℕ) → bytes_eq n m ≡ false → bytes_eq m n ≡ false
-turned n m differs = by (bytes_eq m n) refl
-  where
-    by : (b : Bool) → bytes_eq m n ≡ b → bytes_eq m n ≡ false
-    by true h = absurd (let same : m ≡ n = same_text m n (sym h) in let no : bytes_eq n n ≡ false = subst (λ x. bytes_eq n x ≡ false) same differs in let yes = own_name n in cc (no, yes))
-    by false h = h
 
 still_listed : (name : List ℕ) (uses after : (List ℕ → Option ℕ)) (l : List NameAt) → ((q : List ℕ) → after q ≡ cond (bytes_eq name q) None (uses q))
     → AllByRecursion (λ (e : NameAt). bytes_eq e.1.name name ≡ false) l → AllByRecursion (λ (e : NameAt). uses e.1.name ≡ Some e.0) l → AllByRecursion (λ (e : NameAt). after e.1.name ≡ Some e.0) l
 still_listed name uses after [] updates differ listed = tt
 still_listed name uses after (e ∷ l) updates differ listed =
-    (updates e.1.name ∙ ap (λ b. cond b None (uses e.1.name)) (turned e.1.name name differ.0) ∙ listed.0, still_listed name uses after l updates differ.1 listed.1)
+    (updates e.1.name ∙ ap (λ b. cond b None (uses e.1.name)) (other_bytes name e.1.name differ.0) ∙ listed.0, still_listed name uses after l updates differ.1 listed.1)
 
 pub removed_is : (name : List ℕ) (place : ℕ) (es : List NameAt) (uses after : (List ℕ → Option ℕ)) (line : Waiting) → (a : At name place es) → line.name ≡ a.line.name → IsNames es uses
     → ((q : List ℕ) → after q ≡ cond (bytes_eq name q) None (uses q))
@@ -245,56 +232,6 @@ removed_is name place es uses after line a same names updates sorted =
         ∙ list_any-append (λ n. bytes_eq n m) (names_of a.split.front) (a.line.name ∷ names_of a.split.back)
         ∙ ap (λ b. list_any (λ n. bytes_eq n m) (names_of a.split.front) || (b || list_any (λ n. bytes_eq n m) (names_of a.split.back))) (ap (λ n. bytes_eq n m) a.named ∙ h)
         ∙ sym (list_any-append (λ n. bytes_eq n m) (names_of a.split.front) (names_of a.split.back)) ∙ ap (among m) (sym (map-append (λ (e : NameAt). e.1.name) a.split.front a.split.back)) ∙ out)
-
--- ---- before and after one line is released
-
-pub record Ready (name : List ℕ) (place : ℕ) (es : List NameAt) (before : Lists) : Type 0 where
-  pub there : IsSome (lookup (is_at (nat_cmp place)) es)
-  pub holders : IfSome (lookup (is_at (nat_cmp place)) es) (λ w. 1 ≤ w.holders)
-  pub matches : IfSome (lookup (is_at (nat_cmp place)) es) (λ w. Matches (with_one_less w) before.held before.pending)
-
-pub one_ready : (name : List ℕ) (place : ℕ) (es : List NameAt) (before : Lists) → At name place es → AllByRecursion (λ (e : NameAt). MatchesButOne name before.held before.pending e.1) es → Ready name place es before
-one_ready name place es before a all =
-    let P : NameAt → Type 0 = λ e. MatchesButOne name before.held before.pending e.1 in
-    let here = (all_back P a.split.front ((place, a.line) ∷ a.split.back) (subst (AllByRecursion P) a.split.whole all)).0 in
-    let own = here.own (ap (λ n. bytes_eq n name) a.named ∙ own_name name) in
-    record {
-      there = subst (λ o. IsSome o) (sym a.there) refl;
-      holders = subst (λ o. IfSome o (λ w. 1 ≤ w.holders)) (sym a.there) own.1;
-      matches = subst (λ o. IfSome o (λ w. Matches (with_one_less w) before.held before.pending)) (sym a.there) own.0;
-    }
-
-pub record Done (name : List ℕ) (place : ℕ) (es new : List NameAt) (before after : Lists) (used : Bool) : Type 0 where
-  pub settled : after ≡ settle_name before name
-  pub line : Waiting
-  pub written : new ≡ set_value (is_at (nat_cmp place)) es line
-  pub name_stays : (a : At name place es) → line.name ≡ a.line.name
-  pub told : used ≡ in_use after.held after.pending name
-  pub all_match : AllByRecursion (λ (e : NameAt). Matches e.1 after.held after.pending) new
-  pub rest_match : AllByRecursion (λ (e : NameAt). Matches e.1 after.held after.pending) (remove_entry (is_at (nat_cmp place)) new)
-
-pub one_done : (name : List ℕ) (place : ℕ) (es new : List NameAt) (before after : Lists) (used : Bool) → At name place es → AllByRecursion (λ (e : NameAt). MatchesButOne name before.held before.pending e.1) es
-    → IfSome (lookup (is_at (nat_cmp place)) es) (λ w. after ≡ settle_name before w.name)
-    → IfSome (lookup (is_at (nat_cmp place)) es) (λ w. WrittenAt es new place w after.held after.pending used)
-    → Done name place es new before after used
-one_done name place es new before after used a all settled written =
-    let P : NameAt → Type 0 = λ e. MatchesButOne name before.held before.pending e.1 in
-    let M : NameAt → Type 0 = λ e. Matches e.1 after.held after.pending in
-    let parts = subst (AllByRecursion P) a.split.whole all in
-    let is : after ≡ settle_name before name = subst (λ o. IfSome o (λ w. after ≡ settle_name before w.name)) a.there settled ∙ ap (settle_name before) a.named in
-    let w : WrittenAt es new place a.line after.held after.pending used = subst (λ o. IfSome o (λ w. WrittenAt es new place w after.held after.pending used)) a.there written in
-    let front : AllByRecursion M a.split.front = subst (λ (x : Lists). AllByRecursion (λ (e : NameAt). Matches e.1 x.held x.pending) a.split.front) (sym is) (others_match name before a.split.front a.front_differs (all_front P a.split.front ((place, a.line) ∷ a.split.back) parts)) in
-    let back : AllByRecursion M a.split.back = subst (λ (x : Lists). AllByRecursion (λ (e : NameAt). Matches e.1 x.held x.pending) a.split.back) (sym is) (others_match name before a.split.back a.back_differs (all_back P a.split.front ((place, a.line) ∷ a.split.back) parts).1) in
-    let whole : new ≡ a.split.front ++ (place, w.line) ∷ a.split.back = w.written ∙ a.split.set w.line in
-    record {
-      settled = is;
-      line = w.line;
-      written = w.written;
-      name_stays = λ b. w.name ∙ a.named ∙ sym b.named;
-      told = w.told ∙ busy_in_use w.line after.held after.pending w.matches ∙ ap (in_use after.held after.pending) (w.name ∙ a.named);
-      all_match = rw whole (all_append M a.split.front ((place, w.line) ∷ a.split.back) front (w.matches, back));
-      rest_match = rw (whole, remove_apart place a.split.front a.split.back w.line a.split.low) (all_append M a.split.front a.split.back front back);
-    }
 
 pub copied_some : {T : Type 0} (o : Option (Bor T)) → IsSome (option_copied o) → IsSome o
 copied_some None h = h

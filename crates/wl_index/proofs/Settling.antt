@@ -4,7 +4,7 @@ use Rattle.std.specs.Prelude.{not, ◌||◌, filter, Option, Some, None}
 use Rattle.std.specs.Str.{bytes_eq}
 use Rattle.std.specs.List.{list_any, AllByRecursion}
 use Rattle.std.proofs.lemmas.Bool.Decides.{nat_tests}
-use Rattle.std.proofs.lemmas.List.{length-append}
+use Rattle.std.proofs.lemmas.List.{length-append, map-append}
 use Rattle.std.proofs.lemmas.List.Elements.{filter-append}
 use Rattle.wl_machine.specs.declared.rows.HeldRow.{HeldRow}
 use Rattle.wl_machine.specs.declared.rows.PendingRow.{PendingRow}
@@ -15,7 +15,7 @@ use Rattle.wl_machine.proofs.Quiet.{queue_without}
 use Rattle.wl_core.proofs.Moves.{length-filter-not}
 use Rattle.wl_types.specs.declared.phases.Phase.TheVariants.{Granted}
 use Rattle.wl_index.specs.Rows.{Apart}
-use Rattle.wl_index.specs.Lines.{Waiting, admits, next_grant, if_admitted, without_admitted, after_grant, number_and_mode, Matches}
+use Rattle.wl_index.specs.Lines.{Waiting, admits, next_grant, if_admitted, without_admitted, after_grant, excludes, number_and_mode, lock_and_mode, Matches}
 use Rattle.wl_index.proofs.Lists.{filter_whole, filter_none, filter_passed, all_weaker}
 use Rattle.wl_index.proofs.Entries.{is_request}
 use Rattle.wl_index.proofs.Local.{settle_quiet}
@@ -138,48 +138,28 @@ first_alone name (x ∷ xs) rest r apart is = by (bytes_eq x.name name) refl (λ
 
 -- ---- a line and the lists
 
-empty_count : (l : List HeldRow) → (length l == 0) ≡ is_empty l
-empty_count [] = refl
-empty_count (x ∷ l) = some_left (length l)
-  where
-    some_left : (n : ℕ) → (suc n == 0) ≡ false
-    some_left n = grind (arith, nat_tests)
+pub empty_map : {X Y : Type 0} (f : X → Y) (l : List X) → is_empty (map f l) ≡ is_empty l
+empty_map f [] = refl
+empty_map f (x ∷ l) = refl
+
+excludes_map : (l : List HeldRow) → excludes (map lock_and_mode l) ≡ any_exclusive l
+excludes_map [] = refl
+excludes_map (x ∷ l) = ap (λ b. is_exclusive x.mode || b) (excludes_map l)
 
 -- a line tells what may be granted
 pub admits_grantable : (w : Waiting) (held : List HeldRow) (pending : List PendingRow) (r : PendingRow) → Matches w held pending → admits w r.mode ≡ is_grantable (locks w.name held) r
-admits_grantable w held pending r matches = rw (matches.holders, matches.exclusive, empty_count (locks w.name held)) refl
-
-any_exclusive_push : (h : List HeldRow) (l : HeldRow) → any_exclusive (h ++ l ∷ []) ≡ (any_exclusive h || is_exclusive l.mode)
-any_exclusive_push [] l = elim (is_exclusive l.mode) as (λ b. (b || false) ≡ b) [ true ↦ refl | false ↦ refl ]
-any_exclusive_push (x ∷ h) l =
-    elim (is_exclusive x.mode) as (λ b. (b || any_exclusive (h ++ l ∷ [])) ≡ ((b || any_exclusive h) || is_exclusive l.mode)) [ true ↦ refl | false ↦ any_exclusive_push h l ]
+admits_grantable w held pending r matches = rw (matches.holders, empty_map lock_and_mode (locks w.name held), excludes_map (locks w.name held)) refl
 
 -- after a grant that it admits, the line still matches
 pub grant_matches : (w : Waiting) (lists : Lists) (r : PendingRow) (rest : List PendingRow) → Matches w lists.held lists.pending → queue w.name lists.pending ≡ r ∷ rest → admits w r.mode ≡ true
-    → Matches (record w { waits = map number_and_mode rest; holders = w.holders + 1; exclusive = is_exclusive r.mode }) (with_grant lists w.name r).held (with_grant lists w.name r).pending
+    → Matches (record w { waits = map number_and_mode rest; holders = w.holders ++ number_and_mode r ∷ [] }) (with_grant lists w.name r).held (with_grant lists w.name r).pending
 grant_matches w lists r rest matches is free =
     let named = first_named w.name lists.pending rest r is in
     let more = locks_more w.name lists.held r named in
     record {
       waits = sym (ap (map number_and_mode) (queue_without w.name 1 lists.pending ∙ ap (drop 1) is));
-      holders = ap (λ n. n + 1) matches.holders ∙ sym (ap length more ∙ length-append (locks w.name lists.held) (granted_lock r ∷ []));
-      exclusive = by (is_exclusive r.mode) refl ∙ sym (ap any_exclusive more ∙ any_exclusive_push (locks w.name lists.held) (granted_lock r));
+      holders = ap (λ l. l ++ number_and_mode r ∷ []) matches.holders ∙ sym (ap (map lock_and_mode) more ∙ map-append lock_and_mode (locks w.name lists.held) (granted_lock r ∷ []));
     }
-  where
-    or_true : (b : Bool) → (b || true) ≡ true
-    or_true true = refl
-    or_true false = refl
-
-    by : (b : Bool) → is_exclusive r.mode ≡ b → is_exclusive r.mode ≡ (any_exclusive (locks w.name lists.held) || is_exclusive r.mode)
-    by true h = rw h (sym (or_true (any_exclusive (locks w.name lists.held))))
-    by false h =
-        let unshut : not w.exclusive ≡ true = sym (ap (λ b. cond b (w.holders == 0) (not w.exclusive)) h) ∙ free in
-        let none : any_exclusive (locks w.name lists.held) ≡ false = sym matches.exclusive ∙ shut w.exclusive unshut in
-        rw (h, none) refl
-      where
-        shut : (b : Bool) → not b ≡ true → b ≡ false
-        shut true shuts = absurd (cc)
-        shut false shuts = refl
 
 -- ---- what the line's next grant says of the lists
 
@@ -190,7 +170,7 @@ pub record Next (w : Waiting) (lists : Lists) (granted : ℕ) : Type 0 where
   pub is : queue w.name lists.pending ≡ request ∷ rest
   pub number : request.number ≡ granted
   pub free : admits w request.mode ≡ true
-  pub after : after_grant w ≡ record w { waits = map number_and_mode rest; holders = w.holders + 1; exclusive = is_exclusive request.mode }
+  pub after : after_grant w ≡ record w { waits = map number_and_mode rest; holders = w.holders ++ number_and_mode request ∷ [] }
 
 some_same : {X : Type 0} (x y : X) → Some x ≡ Some y → x ≡ y
 some_same x y e = ap (λ o. or_else o x) e
@@ -219,7 +199,7 @@ next_granted w lists number matches next = at_queue (queue w.name lists.pending)
           is = is;
           number = some_same r.number number (sym (ap (λ b. cond b (Some r.number) None) h) ∙ found);
           free = h;
-          after = ap (without_admitted w) waits ∙ ap (λ b. cond b (record w { waits = map number_and_mode rest; holders = w.holders + 1; exclusive = is_exclusive r.mode }) w) h;
+          after = ap (without_admitted w) waits ∙ ap (λ b. cond b (record w { waits = map number_and_mode rest; holders = w.holders ++ number_and_mode r ∷ [] }) w) h;
         }
         at_mode false h = absurd (let none : None ≡ Some number = sym (ap (λ b. cond b (Some r.number) None) h) ∙ found in cc)
 
@@ -265,7 +245,7 @@ step_meets w after before now number matches next after_is apart held pending ch
     let free : is_grantable (locks w.name before.held) n.request ≡ true = sym (admits_grantable w before.held before.pending n.request matches) ∙ n.free in
     let lists : now ≡ with_grant before w.name n.request =
     lists_same now (with_grant before w.name n.request) (held ∙ ap (λ l. before.held ++ map granted_lock l) only) (pending ∙ others) (changes ∙ ap (λ k. before.changes ++ record { id = k; phase = Granted } ∷ []) (sym n.number)) in
-    let is : after ≡ record w { waits = map number_and_mode n.rest; holders = w.holders + 1; exclusive = is_exclusive n.request.mode } = after_is ∙ n.after in
+    let is : after ≡ record w { waits = map number_and_mode n.rest; holders = w.holders ++ number_and_mode n.request ∷ [] } = after_is ∙ n.after in
     let name : after.name ≡ w.name = ap (λ (x : Waiting). x.name) is in
     let both = length-filter-not (is_request number) before.pending in
     let one : length (filter (is_request number) before.pending) ≡ 1 = ap length only in

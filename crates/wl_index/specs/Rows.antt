@@ -1,5 +1,5 @@
 -- What a table of requests by number means: the machine's locks and requests.
-use Rattle.std.specs.Prelude.{◌≡◌, ◌==◌, ℕ, ◌+◌, ◌≤◌, ◌<◌, Bool, true, false, not, List, [], ◌∷◌, map, filter, length}
+use Rattle.std.specs.Prelude.{◌≡◌, ◌==◌, ℕ, ◌+◌, ◌≤◌, ◌<◌, Bool, true, false, not, Option, List, [], ◌∷◌, map, filter, length}
 use Rattle.std.specs.List.{AllByRecursion}
 use Rattle.std.specs.List.Sorted.{IsStrictlySortedBy}
 use Rattle.std.specs.Map.{keys_of}
@@ -10,12 +10,6 @@ use Rattle.wl_index.specs.declared.table.Request.{Request}
 use Rattle.wl_index.specs.declared.table.Stage.{Stage}
 use Rattle.wl_index.specs.declared.table.Stage.TheVariants.{Pending, Held}
 use Rattle.wl_index.specs.Stamps.{by_stamp}
-
--- the locks and the requests that wait, each in order, and the next number
-pub record Rows : Type 0 where
-  pub held : List HeldRow
-  pub pending : List PendingRow
-  pub next : ℕ
 
 -- a live request with its number
 abbrev pub Entry : Type 0
@@ -69,6 +63,26 @@ pending_of es = map request_row (filter waiting es)
 -- those that hold, by stamp
 abbrev pub held_of : List Entry → List HeldRow
 held_of es = map lock_row (by_stamp stamp_of (filter holding es))
+
+-- the live requests by number, and the next number
+pub record Rows : Type 0 where
+  pub entries : List Entry
+  pub next : ℕ
+
+-- whose a request is, and by which signal it may be aborted
+pub record Tag : Type 0 where
+  pub number : ℕ
+  pub agent : ℕ
+  pub signal : Option ℕ
+
+abbrev pub tag : Entry → Tag
+tag e = record { number = e.0; agent = e.1.agent; signal = e.1.signal }
+
+abbrev pub tags_of : List Entry → List Tag
+tags_of es = map tag es
+
+abbrev pub other : ℕ → Entry → Bool
+other number e = not (e.0 == number)
 
 -- no two requests have one number
 abbrev pub Apart : List PendingRow → Type 0

@@ -1,44 +1,61 @@
 //! One name in use.
-ghost use Rattle.std.specs.Prelude.{◌≡◌, ℕ, ◌+◌, ◌≤◌, ◌<◌, ◌==◌, List, [], ◌∷◌, ◌++◌, length, IfOk, OnOk, OnErr, slice_get, option_copied, false};
-ghost use Rattle.wl_machine.specs.Grants.{is_exclusive};
-ghost use Rattle.wl_index.specs.Lines.{admits, next_grant, after_grant};
-ghost use Rattle.wl_index.specs.Names.{is_busy, with_one_less, with_one_more};
+ghost use Rattle.std.specs.Prelude.{◌≡◌, ℕ, ◌<◌, List, [], ◌∷◌, OnOk, OnErr, slice_get, Some, None, false, true};
 ghost use Rattle.std.specs.List.{AllByRecursion};
+ghost use Rattle.wl_types.specs.declared.words.Mode.TheVariants.{Exclusive};
+ghost use Rattle.wl_machine.specs.Grants.{is_empty};
+ghost use Rattle.wl_index.specs.Lines.{admits, excludes, next_grant, after_grant, is_busy, with_one_more, without, holder_without};
 
-use std::alloc::{AllocError, Global};
+use std::alloc::Global;
 use std::collections::BTreeMap;
 use std::marker::Model;
-use wl_types::{Mode, Name};
+use wl_machine::exclusive;
+use wl_types::{Memory, Mode, Name};
 
-/// Who waits for a name, how many hold it, and whether an exclusive lock is among those.
+/// Who waits for a name and who holds it. What may come to share it has its place among the live from the start, so
+/// that a grant takes no memory: it leaves the queue. An exclusive holder is kept apart.
 #[derive(Drop)]
 pub struct Line {
     name: Name,
+    live: BTreeMap<u64, Mode>,
     queue: BTreeMap<u64, Mode>,
-    holders: u64,
-    exclusive: bool,
+    holder: Option<u64>,
 }
 
 impl Model for Line {
-    ghost use Rattle.std.specs.Prelude.{◌+◌, ◌≤◌, length};
-    ghost use Rattle.wl_index.specs.Lines.{Waiting};
+    ghost use Rattle.wl_index.specs.Lines.{Waiting, holders_of, IsLine};
 
     ghost Value = { Waiting };
 
-    ghost view = { λ l. record { name = l.name; waits = l.queue.entries; holders = l.holders; exclusive = l.exclusive } };
+    ghost view = { λ l. record { name = l.name; waits = l.queue.entries; holders = holders_of l.holder l.live.entries l.queue.entries } };
 
-    ghost invariant = { λ l. l.holders + length l.queue.entries ≤ 65536 };
+    ghost invariant = { λ l. IsLine l.live.entries l.queue.entries l.holder };
+}
+
+/// The exclusive holder, unless it has this number.
+fn unless(holder: Option<u64>, number: u64) -> Option<u64>
+    ensures { result ≡ holder_without number holder }
+{
+    match holder {
+        Some(other) => {
+            if other == number {
+                None
+            } else {
+                Some(other)
+            }
+        }
+        None => None,
+    }
 }
 
 impl Line {
     pub fn new(alloc: Global, name: Name) -> Line
-        ensures { result ≡ record { name = name; waits = []; holders = 0; exclusive = false } }
+        ensures { result ≡ record { name = name; waits = []; holders = [] } }
     {
         Line {
             name,
+            live: BTreeMap::new(alloc),
             queue: BTreeMap::new(alloc),
-            holders: 0,
-            exclusive: false,
+            holder: None,
         }
     }
 
@@ -56,42 +73,60 @@ impl Line {
         Some((*number, *mode))
     }
 
+    /// Whether nobody holds the name.
+    fn is_free(&self) -> bool
+        ensures { result ≡ is_empty self.now.holders }
+    {
+        self.holder.is_none() && self.live.len() == self.queue.len()
+    }
+
+    /// Whether one of the holders is exclusive.
+    fn excludes(&self) -> bool
+        ensures { result ≡ excludes self.now.holders }
+    {
+        self.holder.is_some()
+    }
+
     /// Whether a request of this mode may be granted beside the holders.
     fn admits(&self, mode: Mode) -> bool
         ensures { result ≡ admits self.now mode }
     {
-        if mode == Mode::Exclusive {
-            self.holders == 0
+        if exclusive(mode) {
+            self.is_free()
         } else {
-            !self.exclusive
+            !self.excludes()
         }
     }
 
     /// A request that waits, after the others.
-    pub fn push(&mut self, number: u64, mode: Mode) -> Result<(), AllocError>
-        requires room { self.old.holders + length self.old.waits < 65536 }
-        requires last { AllByRecursion (λ e. e.0 < number) self.old.waits }
+    pub fn push(&mut self, number: u64, mode: Mode) -> Result<(), Memory>
+        requires waits { AllByRecursion (λ e. e.0 < number) self.old.waits }
+        requires holders { AllByRecursion (λ e. e.0 < number) self.old.holders }
         ensures ok { OnOk result (self.new ≡ with_one_more self.old number mode) }
         ensures err { OnErr result (self.new ≡ self.old) }
     {
         self.queue.insert(number, mode)?;
+        let Ok(_) = self.live.insert(number, mode) else {
+            self.queue.remove(&number);
+            return Err(Memory);
+        };
         Ok(())
     }
 
-    /// One of the holders leaves, after which none that is left is exclusive.
-    pub fn let_go(&mut self)
-        requires { 1 ≤ self.old.holders }
-        ensures { self.new ≡ with_one_less self.old }
+    /// The request or the lock of this number ends.
+    pub fn remove(&mut self, number: u64)
+        ensures { self.new ≡ without number self.old }
     {
-        self.holders -= 1;
-        self.exclusive = false;
+        self.holder = unless(self.holder, number);
+        self.queue.remove(&number);
+        self.live.remove(&number);
     }
 
     /// Whether a lock or a request has the name.
     pub fn is_busy(&self) -> bool
         ensures { result ≡ is_busy self.now }
     {
-        self.holders != 0 || self.first().is_some()
+        !(self.is_free() && self.queue.is_empty())
     }
 
     /// The first that waits holds, if it may.
@@ -106,8 +141,32 @@ impl Line {
             return None;
         }
         self.queue.pop_first();
-        self.holders += 1;
-        self.exclusive = mode == Mode::Exclusive;
+        if exclusive(mode) {
+            self.live.pop_first();
+            self.holder = Some(number);
+        }
         Some(number)
+    }
+
+    /// The first of the holders.
+    pub fn first_holder(&self) -> Option<(u64, Mode)>
+        ensures { result ≡ slice_get self.now.holders 0 }
+    {
+        if let Some(number) = self.holder {
+            return Some((number, Mode::Exclusive));
+        }
+        if self.is_free() {
+            return None;
+        }
+        let (number, mode) = self.live.first_key_value()?;
+        Some((*number, *mode))
+    }
+
+    /// A request that steals holds the name, which nobody holds.
+    pub fn seize(&mut self, number: u64)
+        requires { self.old.holders ≡ [] }
+        ensures { self.new ≡ record self.old { holders = (number, Exclusive) ∷ [] } }
+    {
+        self.holder = Some(number);
     }
 }

@@ -1,20 +1,22 @@
 //! The names in use.
-ghost use Rattle.std.specs.Prelude.{◌≡◌, ℕ, ◌+◌, ◌≤◌, true, List, [], length, vec_len, vec_capacity, IsSome, IfSome, Some};
+ghost use Rattle.std.specs.Prelude.{◌≡◌, ℕ, ◌+◌, ◌≤◌, true, false, List, [], ◌∷◌, ◌++◌, filter, length, vec_len, vec_capacity, IsSome, IfSome, OnOk, OnErr, IfOk, IfNone, Some, None};
 ghost use Rattle.std.specs.List.{AllByRecursion};
-ghost use Rattle.std.specs.Map.{lookup};
+ghost use Rattle.std.specs.Map.{lookup, set_value};
 ghost use Rattle.std.specs.BTreeMap.{is_at};
 ghost use Rattle.std.specs.Ordering.{nat_cmp};
-ghost use Rattle.wl_machine.specs.Grants.{lists_of, settle_name};
-ghost use Rattle.wl_index.specs.Lines.{Matches};
-ghost use Rattle.wl_index.specs.Names.{WrittenAt, with_one_less, among, names_of, names_after, MatchesButOne};
+ghost use Rattle.wl_machine.specs.Grants.{Lists, lists_of, settle_name, settle_names, in_use};
+ghost use Rattle.wl_index.specs.Rows.{other, held_of, pending_of, tags_of};
+ghost use Rattle.wl_index.specs.Lines.{Waiting, Matches, without, is_busy};
+ghost use Rattle.wl_index.specs.Names.{names_of, among, IsNames, Ready, Underway};
 
 use crate::line::Line;
+use crate::room::push_in_room;
 use crate::settle::settle;
-use crate::table::Table;
+use crate::table::{Request, Table};
 use std::alloc::Global;
 use std::collections::BTreeMap;
 use std::marker::Model;
-use wl_types::{Change, Name};
+use wl_types::{Change, Name, Phase};
 
 /// The names in use: their lines by the number that brought each into use, and where each name's line is.
 #[derive(Drop)]
@@ -25,11 +27,10 @@ pub struct Names {
 
 impl Model for Names {
     ghost use Rattle.std.specs.Prelude.{List, ℕ};
-    ghost use Rattle.wl_index.specs.Lines.{Waiting};
     ghost use Rattle.std.specs.BTreeMap.{get_by_text};
-    ghost use Rattle.wl_index.specs.Names.{IsNames};
+    ghost use Rattle.wl_index.specs.Names.{Placed, IsNames};
 
-    ghost Value = { List (ℕ × Waiting) };
+    ghost Value = { List Placed };
 
     ghost view = { λ n. n.lines.entries };
 
@@ -46,48 +47,93 @@ impl Names {
         }
     }
 
-    /// One lock of a name has left: grants what its queue then grants. A name out of use leaves.
-    pub fn release_one(&mut self, name: &Name, table: &mut Table, changes: &mut Vec<Change>)
-        requires there { among name.now (names_of self.old) ≡ true }
-        requires matches { AllByRecursion (λ e. MatchesButOne name.now table.old.held table.old.pending e.1) self.old }
-        requires room { vec_len changes.old + length table.old.pending ≤ vec_capacity changes.old }
-        ensures settled { lists_of table.new.held table.new.pending changes.new.items ≡ settle_name (lists_of table.old.held table.old.pending changes.old.items) name.now }
-        ensures names { names_of self.new ≡ names_after name.now (lists_of table.new.held table.new.pending changes.new.items) (names_of self.old) }
-        ensures matches { AllByRecursion (λ e. Matches e.1 table.new.held table.new.pending) self.new }
+    /// The request or the lock of this number ends. Its name's place is touched, and the change is told.
+    pub(crate) fn end(
+        &mut self,
+        number: u64,
+        phase: Phase,
+        table: &mut Table,
+        changes: &mut Vec<Change>,
+        touched: &mut Vec<u64>,
+    ) -> Request
+        requires there { IsSome (lookup (is_at (nat_cmp number)) table.old.entries) }
+        requires ready { Ready self.old (held_of table.old.entries) (pending_of table.old.entries) touched.old.items }
+        requires changes_room { vec_len changes.old + length table.old.entries ≤ vec_capacity changes.old }
+        requires touched_room { vec_len touched.old + length table.old.entries ≤ vec_capacity touched.old }
+        ensures value { lookup (is_at (nat_cmp number)) table.old.entries ≡ Some result }
+        ensures entries { table.new.entries ≡ filter (other number) table.old.entries }
+        ensures ready { Ready self.new (held_of table.new.entries) (pending_of table.new.entries) touched.new.items }
+        ensures names { names_of self.new ≡ names_of self.old }
+        ensures changes { changes.new.items ≡ changes.old.items ++ record { id = number; phase = phase } ∷ [] }
         ensures next { table.new.next ≡ table.old.next }
-        ensures sum { length table.new.held + length table.new.pending ≡ length table.old.held + length table.old.pending }
-        ensures capacity { vec_capacity changes.old ≤ vec_capacity changes.new }
-        ensures room { vec_len changes.new + length table.new.pending ≤ vec_capacity changes.new }
+        ensures fewer { length table.new.entries + 1 ≡ length table.old.entries }
+        ensures changes_len { vec_len changes.new ≡ vec_len changes.old + 1 }
+        ensures touched_len { vec_len touched.new ≡ vec_len touched.old + 1 }
+        ensures changes_capacity { vec_capacity changes.old ≤ vec_capacity changes.new }
+        ensures touched_capacity { vec_capacity touched.old ≤ vec_capacity touched.new }
     {
-        let place = *self.uses.get(name.as_str()).unwrap();
-        let is_used = release_at(&mut self.lines, place, table, changes);
-        if !is_used {
-            self.lines.remove(&place);
-            self.uses.remove(name.as_str());
+        let request = table.remove(number).unwrap();
+        let place = *self.uses.get(request.name.as_str()).unwrap();
+        remove_at(&mut self.lines, place, number);
+        push_in_room(touched, place);
+        push_in_room(changes, Change { id: number, phase });
+        request
+    }
+
+    /// Grants what the queue at this place grants. A name out of use leaves.
+    fn settle_at(&mut self, place: u64, table: &mut Table, changes: &mut Vec<Change>)
+        requires matched { AllByRecursion (λ e. Matches e.1 (held_of table.old.entries) (pending_of table.old.entries)) self.old }
+        requires room { vec_len changes.old + length (pending_of table.old.entries) ≤ vec_capacity changes.old }
+        ensures underway { (target : Lists) (stay : List (List ℕ)) (rest : List ℕ) → AllByRecursion (λ q. place ≤ q) rest
+            → Underway target stay self.old (lists_of (held_of table.old.entries) (pending_of table.old.entries) changes.old.items) (place ∷ rest)
+            → Underway target stay self.new (lists_of (held_of table.new.entries) (pending_of table.new.entries) changes.new.items) rest }
+        ensures next { table.new.next ≡ table.old.next }
+        ensures tags { tags_of table.new.entries ≡ tags_of table.old.entries }
+        ensures capacity { vec_capacity changes.old ≤ vec_capacity changes.new }
+        ensures room { vec_len changes.new + length (pending_of table.new.entries) ≤ vec_capacity changes.new }
+    {
+        let Some(line) = self.lines.get_mut(&place) else {
+            return;
+        };
+        settle(table, line, changes);
+        if line.is_busy() {
+            return;
         }
+        let line = self.lines.remove(&place).unwrap();
+        self.uses.remove(line.name().as_str());
+    }
+
+    /// Processes the queues of the touched names, in the order in which the names came into use.
+    pub(crate) fn settle(
+        &mut self,
+        table: &mut Table,
+        changes: &mut Vec<Change>,
+        touched: &mut Vec<u64>,
+    )
+        requires ready { Ready self.old (held_of table.old.entries) (pending_of table.old.entries) touched.old.items }
+        requires room { vec_len changes.old + length (pending_of table.old.entries) ≤ vec_capacity changes.old }
+        ensures settled { lists_of (held_of table.new.entries) (pending_of table.new.entries) changes.new.items ≡ settle_names (lists_of (held_of table.old.entries) (pending_of table.old.entries) changes.old.items) (names_of self.old) }
+        ensures names { names_of self.new ≡ filter (in_use (held_of table.new.entries) (pending_of table.new.entries)) (names_of self.old) }
+        ensures ready { Ready self.new (held_of table.new.entries) (pending_of table.new.entries) [] }
+        ensures next { table.new.next ≡ table.old.next }
+        ensures tags { tags_of table.new.entries ≡ tags_of table.old.entries }
+        ensures none { touched.new.items ≡ [] }
+        ensures touched_capacity { vec_capacity touched.new ≡ vec_capacity touched.old }
+        ensures capacity { vec_capacity changes.old ≤ vec_capacity changes.new }
+    {
+        touched.sort_unstable();
+        for place in touched.iter() {
+            self.settle_at(*place, table, changes);
+        }
+        touched.clear();
     }
 }
 
-/// One lock of a line's name has left: grants what its queue then grants. Answers whether the name is still in use.
-fn release_at(
-    lines: &mut BTreeMap<u64, Line>,
-    place: u64,
-    table: &mut Table,
-    changes: &mut Vec<Change>,
-) -> bool
-    requires there { IsSome (lookup (is_at (nat_cmp place)) lines.old.entries) }
-    requires holders { IfSome (lookup (is_at (nat_cmp place)) lines.old.entries) (λ w. 1 ≤ w.holders) }
-    requires matches { IfSome (lookup (is_at (nat_cmp place)) lines.old.entries) (λ w. Matches (with_one_less w) table.old.held table.old.pending) }
-    requires room { vec_len changes.old + length table.old.pending ≤ vec_capacity changes.old }
-    ensures settled { IfSome (lookup (is_at (nat_cmp place)) lines.old.entries) (λ w. lists_of table.new.held table.new.pending changes.new.items ≡ settle_name (lists_of table.old.held table.old.pending changes.old.items) w.name) }
-    ensures written { IfSome (lookup (is_at (nat_cmp place)) lines.old.entries) (λ w. WrittenAt lines.old.entries lines.new.entries place w table.new.held table.new.pending result) }
-    ensures next { table.new.next ≡ table.old.next }
-    ensures sum { length table.new.held + length table.new.pending ≡ length table.old.held + length table.old.pending }
-    ensures capacity { vec_capacity changes.old ≤ vec_capacity changes.new }
-    ensures room { vec_len changes.new + length table.new.pending ≤ vec_capacity changes.new }
+/// A line's request or lock of this number ends.
+fn remove_at(lines: &mut BTreeMap<u64, Line>, place: u64, number: u64)
+    requires { IsSome (lookup (is_at (nat_cmp place)) lines.old.entries) }
+    ensures { IfSome (lookup (is_at (nat_cmp place)) lines.old.entries) (λ w. lines.new.entries ≡ set_value (is_at (nat_cmp place)) lines.old.entries (without number w)) }
 {
     let line = lines.get_mut(&place).unwrap();
-    line.let_go();
-    settle(table, line, changes);
-    line.is_busy()
+    line.remove(number);
 }

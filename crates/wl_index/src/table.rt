@@ -1,15 +1,20 @@
 //! The live requests by number. A lock keeps its place in the order of grants as a stamp, so a grant writes in place.
-ghost use Rattle.std.specs.Prelude.{◌≡◌, ℕ, ◌+◌, ◌≤◌, ◌<◌, ◌^◌, ◌==◌, true, List, [], ◌∷◌, ◌++◌, map, filter, not, IfOk, OnOk, OnErr, IfSome, IfNone, false, ◌&&◌};
+ghost use Rattle.std.specs.Prelude.{◌≡◌, ◌+◌, ◌≤◌, ◌<◌, ◌==◌, true, List, [], ◌∷◌, ◌++◌, map, filter, not, length, IfOk, OnOk, OnErr, false, ◌&&◌};
 ghost use Rattle.std.specs.List.{list_any};
+ghost use Rattle.std.specs.List.Sorted.{IsStrictlySortedBy};
+ghost use Rattle.std.specs.Map.{keys_of, lookup};
+ghost use Rattle.std.specs.BTreeMap.{is_at};
+ghost use Rattle.std.specs.Option.{option_copied};
+ghost use Rattle.std.specs.Ordering.{nat_cmp};
 ghost use Rattle.wl_machine.specs.declared.rows.PendingRow.{PendingRow};
 ghost use Rattle.wl_machine.specs.Grants.{granted_lock};
 ghost use Rattle.wl_machine.specs.Step.{is_lock_of, is_untaken, with_taken};
-ghost use Rattle.wl_index.specs.Rows.{Apart, holds, lock_row, is_fresh, taken_stage};
+ghost use Rattle.wl_index.specs.Rows.{Apart, holds, is_fresh, taken_stage, held_of, pending_of, tags_of, other, stamp};
 
-use std::alloc::{AllocError, Global};
+use std::alloc::Global;
 use std::collections::BTreeMap;
 use std::marker::Model;
-use wl_types::{Mode, Name};
+use wl_types::{Memory, Mode, Name};
 
 /// Where a live request stands: in its queue, or among the locks, by its stamp and whether it was taken.
 #[derive(Clone, Copy, Debug, PartialEq, Eq, Drop)]
@@ -37,11 +42,11 @@ pub struct Table {
 }
 
 impl Model for Table {
-    ghost use Rattle.wl_index.specs.Rows.{Rows, IsTable, held_of, pending_of};
+    ghost use Rattle.wl_index.specs.Rows.{Rows, IsTable};
 
     ghost Value = { Rows };
 
-    ghost view = { λ t. record { held = held_of t.requests.entries; pending = pending_of t.requests.entries; next = t.next } };
+    ghost view = { λ t. record { entries = t.requests.entries; next = t.next } };
 
     ghost invariant = { λ t. IsTable t.requests.entries t.stamp t.next };
 }
@@ -50,7 +55,7 @@ impl Table {
     pub fn new(alloc: Global, next: u64) -> Table
         requires low { 1 ≤ next }
         requires high { next ≤ 9007199254740992 }
-        ensures { result ≡ record { held = []; pending = []; next = next } }
+        ensures { result ≡ record { entries = []; next = next } }
     {
         Table {
             requests: BTreeMap::new(alloc),
@@ -65,6 +70,20 @@ impl Table {
         self.next
     }
 
+    /// How many requests are live.
+    pub fn len(&self) -> usize
+        ensures { result ≡ length self.now.entries }
+    {
+        self.requests.len()
+    }
+
+    /// The request of this number.
+    pub fn get(&self, number: u64) -> Option<&Request>
+        ensures { option_copied result ≡ lookup (is_at (nat_cmp number)) self.now.entries }
+    {
+        self.requests.get(&number)
+    }
+
     /// A request that waits, after all others.
     pub fn push(
         &mut self,
@@ -72,11 +91,10 @@ impl Table {
         name: Name,
         mode: Mode,
         signal: Option<u64>,
-    ) -> Result<u64, AllocError>
+    ) -> Result<u64, Memory>
         requires { self.old.next < 9007199254740992 }
         ensures number { IfOk result (λ n. n ≡ self.old.next) }
-        ensures held { self.new.held ≡ self.old.held }
-        ensures pending { OnOk result (self.new.pending ≡ self.old.pending ++ record { number = self.old.next; agent = agent; name = name; mode = mode; signal = signal } ∷ []) }
+        ensures entries { OnOk result (self.new.entries ≡ self.old.entries ++ (self.old.next, record { agent = agent; name = name; mode = mode; signal = signal; stage = Stage.Pending }) ∷ []) }
         ensures next { OnOk result (self.new.next ≡ self.old.next + 1) }
         ensures err { OnErr result (self.new ≡ self.old) }
     {
@@ -93,18 +111,19 @@ impl Table {
         Ok(number)
     }
 
-    /// Ends a request or a lock.
-    pub fn end(&mut self, number: u64)
-        ensures held { self.new.held ≡ filter (λ lock. not (lock.number == number)) self.old.held }
-        ensures pending { self.new.pending ≡ filter (λ (request : PendingRow). not (request.number == number)) self.old.pending }
+    /// The request or the lock of this number ends, and is handed out.
+    pub fn remove(&mut self, number: u64) -> Option<Request>
+        ensures value { result ≡ lookup (is_at (nat_cmp number)) self.old.entries }
+        ensures entries { self.new.entries ≡ filter (other number) self.old.entries }
+        ensures ordered { IsStrictlySortedBy nat_cmp (keys_of self.old.entries) }
         ensures next { self.new.next ≡ self.old.next }
     {
-        self.requests.remove(&number);
+        self.requests.remove(&number)
     }
 
     /// Whether an agent has the lock of this number.
     pub fn has_lock(&self, agent: u64, number: u64) -> bool
-        ensures { result ≡ list_any (is_lock_of agent number) self.now.held }
+        ensures { result ≡ list_any (is_lock_of agent number) (held_of self.now.entries) }
     {
         match self.requests.get(&number) {
             Some(request) => is_held_by(request, agent),
@@ -112,28 +131,13 @@ impl Table {
         }
     }
 
-    /// Ends an agent's lock, and hands it out.
-    pub fn release(&mut self, agent: u64, number: u64) -> Option<Request>
-        ensures none { IfNone result (list_any (is_lock_of agent number) self.old.held ≡ false) }
-        ensures unchanged { IfNone result (self.new ≡ self.old) }
-        ensures only { IfSome result (λ r. filter (is_lock_of agent number) self.old.held ≡ lock_row (number, r) ∷ []) }
-        ensures held { self.new.held ≡ filter (λ lock. not (is_lock_of agent number lock)) self.old.held }
-        ensures pending { self.new.pending ≡ self.old.pending }
-        ensures next { self.new.next ≡ self.old.next }
-    {
-        if !self.has_lock(agent, number) {
-            return None;
-        }
-        let request = self.requests.remove(&number).unwrap();
-        Some(request)
-    }
-
     /// Makes a request that waits the last lock.
     pub fn grant(&mut self, number: u64)
-        requires { list_any (λ (request : PendingRow). request.number == number) self.old.pending ≡ true }
-        ensures apart { Apart self.old.pending }
-        ensures held { self.new.held ≡ self.old.held ++ map granted_lock (filter (λ (request : PendingRow). request.number == number) self.old.pending) }
-        ensures pending { self.new.pending ≡ filter (λ (request : PendingRow). not (request.number == number)) self.old.pending }
+        requires { list_any (λ (request : PendingRow). request.number == number) (pending_of self.old.entries) ≡ true }
+        ensures apart { Apart (pending_of self.old.entries) }
+        ensures held { held_of self.new.entries ≡ held_of self.old.entries ++ map granted_lock (filter (λ (request : PendingRow). request.number == number) (pending_of self.old.entries)) }
+        ensures pending { pending_of self.new.entries ≡ filter (λ (request : PendingRow). not (request.number == number)) (pending_of self.old.entries) }
+        ensures tags { tags_of self.new.entries ≡ tags_of self.old.entries }
         ensures next { self.new.next ≡ self.old.next }
     {
         let request = self.requests.get_mut(&number).unwrap();
@@ -143,9 +147,10 @@ impl Table {
 
     /// Marks an untaken lock as taken. False: there is none.
     pub fn take(&mut self, number: u64) -> bool
-        ensures found { result ≡ list_any (is_untaken number) self.old.held }
-        ensures held { self.new.held ≡ map (with_taken number) self.old.held }
-        ensures pending { self.new.pending ≡ self.old.pending }
+        ensures found { result ≡ list_any (is_untaken number) (held_of self.old.entries) }
+        ensures held { held_of self.new.entries ≡ map (with_taken number) (held_of self.old.entries) }
+        ensures pending { pending_of self.new.entries ≡ pending_of self.old.entries }
+        ensures tags { tags_of self.new.entries ≡ tags_of self.old.entries }
         ensures next { self.new.next ≡ self.old.next }
     {
         if let Some(request) = self.requests.get_mut(&number) {
