@@ -26,7 +26,7 @@ use Rattle.wl_index.specs.declared.table.Request.{Request}
 use Rattle.wl_index.specs.declared.table.Stage.{Stage}
 use Rattle.wl_index.specs.declared.table.Stage.TheVariants.{Pending, Held}
 use Rattle.wl_index.specs.Stamps.{place, by_stamp, by_stamp_last, by_stamp_all, filter_by_stamp}
-use Rattle.wl_index.specs.Rows.{Entry, Apart, Tag, tag, tags_of, other, is_fresh, taken_stage, waits, holds, stamp, waiting, holding, stamp_of, request_row, lock_row, pending_of, held_of, IsTable}
+use Rattle.wl_index.specs.Rows.{Entry, Apart, Tag, tag, tags_of, other, is_fresh, taken_stage, waits, holds, stamp, waiting, holding, stamp_of, request_row, lock_row, pending_of, held_of, IsTable, IsLock}
 use Rattle.wl_index.proofs.Lists.{filter_map, filter_like, filter_swap, filter_whole, filter_none, filter_passed, all_filter, all_weaker, all_append, all_front, all_back, any_map, any_by_stamp, map_by_stamp}
 
 pub same_number : (id k : ℕ) → is_at (nat_cmp id) k ≡ (k == id)
@@ -201,7 +201,6 @@ apart_kept id es apart =
 
 pending_append : (front back : List Entry) → pending_of (front ++ back) ≡ pending_of front ++ pending_of back
 pending_append front back = ap (map request_row) (filter-append waiting front back) ∙ map-append request_row (filter waiting front) (filter waiting back)
-
 
 -- a request that waited and holds with the greatest stamp is the last lock
 pub held_granted : (front back : List Entry) (id at : ℕ) (r : Request) → r.stage ≡ Pending
@@ -643,3 +642,14 @@ live_count es =
     apart : (s : Stage) → holds s ≡ not (waits s)
     apart Pending = refl
     apart (Held at taken) = refl
+
+pub lock_is : (agent id : ℕ) (es : List Entry) (r : Request) → IsStrictlySortedBy nat_cmp (keys_of es) → lookup (is_at (nat_cmp id)) es ≡ Some r → list_any (is_lock_of agent id) (held_of es) ≡ true → IsLock agent id es r
+lock_is agent id es r sorted there held =
+    let m = released_meets agent id es r sorted there held in
+    let gone = removed id es sorted in
+    record {
+      there = there;
+      only = m.only;
+      held = ap held_of (sym gone) ∙ m.held;
+      pending = ap pending_of (sym gone) ∙ m.pending;
+    }

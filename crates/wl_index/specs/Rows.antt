@@ -1,8 +1,10 @@
 -- What a table of requests by number means: the machine's locks and requests.
-use Rattle.std.specs.Prelude.{◌≡◌, ◌==◌, ℕ, ◌+◌, ◌≤◌, ◌<◌, Bool, true, false, not, Option, List, [], ◌∷◌, map, filter, length}
+use Rattle.std.specs.Prelude.{◌≡◌, ◌==◌, ℕ, ◌+◌, ◌≤◌, ◌<◌, Bool, true, false, not, Option, Some, List, [], ◌∷◌, map, filter, length}
 use Rattle.std.specs.List.{AllByRecursion}
 use Rattle.std.specs.List.Sorted.{IsStrictlySortedBy}
-use Rattle.std.specs.Map.{keys_of}
+use Rattle.std.specs.Map.{keys_of, lookup}
+use Rattle.std.specs.BTreeMap.{is_at}
+use Rattle.wl_machine.specs.Step.{is_lock_of}
 use Rattle.std.specs.Ordering.{nat_cmp}
 use Rattle.wl_machine.specs.declared.rows.HeldRow.{HeldRow}
 use Rattle.wl_machine.specs.declared.rows.PendingRow.{PendingRow}
@@ -97,3 +99,10 @@ pub record IsTable (es : List Entry) (next_stamp next : ℕ) : Type 0 where
   pub first : 1 ≤ next_stamp
   pub room : next_stamp + length (filter waiting es) ≤ next
   pub high : next ≤ 9007199254740992
+
+-- the entry of an agent's lock, and the lists without it
+pub record IsLock (agent number : ℕ) (es : List Entry) (r : Request) : Type 0 where
+  pub there : lookup (is_at (nat_cmp number)) es ≡ Some r
+  pub only : filter (is_lock_of agent number) (held_of es) ≡ lock_row (number, r) ∷ []
+  pub held : held_of (filter (other number) es) ≡ filter (λ lock. not (is_lock_of agent number lock)) (held_of es)
+  pub pending : pending_of (filter (other number) es) ≡ pending_of es

@@ -36,13 +36,7 @@ fn unless(holder: Option<u64>, number: u64) -> Option<u64>
     ensures { result ≡ holder_without number holder }
 {
     match holder {
-        Some(other) => {
-            if other == number {
-                None
-            } else {
-                Some(other)
-            }
-        }
+        Some(other) => { if other == number { None } else { Some(other) } }
         None => None,
     }
 }

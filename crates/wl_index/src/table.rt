@@ -8,8 +8,9 @@ ghost use Rattle.std.specs.Option.{option_copied};
 ghost use Rattle.std.specs.Ordering.{nat_cmp};
 ghost use Rattle.wl_machine.specs.declared.rows.PendingRow.{PendingRow};
 ghost use Rattle.wl_machine.specs.Grants.{granted_lock};
+ghost use Rattle.wl_index.specs.declared.table.Request.{Request};
 ghost use Rattle.wl_machine.specs.Step.{is_lock_of, is_untaken, with_taken};
-ghost use Rattle.wl_index.specs.Rows.{Apart, holds, is_fresh, taken_stage, held_of, pending_of, tags_of, other, stamp};
+ghost use Rattle.wl_index.specs.Rows.{Apart, holds, is_fresh, taken_stage, IsLock, held_of, pending_of, tags_of, other, stamp};
 
 use std::alloc::Global;
 use std::collections::BTreeMap;
@@ -72,7 +73,8 @@ impl Table {
 
     /// How many requests are live.
     pub fn len(&self) -> usize
-        ensures { result ≡ length self.now.entries }
+        ensures entries { result ≡ length self.now.entries }
+        ensures live { result ≡ length (held_of self.now.entries) + length (pending_of self.now.entries) }
     {
         self.requests.len()
     }
@@ -123,7 +125,8 @@ impl Table {
 
     /// Whether an agent has the lock of this number.
     pub fn has_lock(&self, agent: u64, number: u64) -> bool
-        ensures { result ≡ list_any (is_lock_of agent number) (held_of self.now.entries) }
+        ensures found { result ≡ list_any (is_lock_of agent number) (held_of self.now.entries) }
+        ensures lock { result ≡ true → (r : Request) × IsLock agent number self.now.entries r }
     {
         match self.requests.get(&number) {
             Some(request) => is_held_by(request, agent),

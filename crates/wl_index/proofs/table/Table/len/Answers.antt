@@ -1,0 +1,8 @@
+use Rattle.std.proofs.Common.{◌∙◌, sym}
+use Rattle.wl_index.proofs.Entries.{live_count}
+use Rattle.wl_index.proofs.table.Table.len.Goals as goal
+
+pub returns-clause-live : goal.returns-clause-live
+returns-clause-live c =
+    let i = c.self.inside in
+    rw (← c.self.view_is) (c.len.ensures.len ∙ sym (live_count i.requests.entries))
