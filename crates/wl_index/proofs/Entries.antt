@@ -653,3 +653,45 @@ lock_is agent id es r sorted there held =
       held = ap held_of (sym gone) ∙ m.held;
       pending = ap pending_of (sym gone) ∙ m.pending;
     }
+
+-- the last request is taken back
+retracted_at : (number : ℕ) (r : Request) (es : List Entry) (next_stamp next : ℕ) → Found number es r → IsTable es next_stamp next → r.stage ≡ Pending → next ≡ number + 1 → IsStrictlySortedBy nat_cmp (keys_of (filter (other number) es)) → IsTable (filter (other number) es) next_stamp number
+retracted_at number r es next_stamp next f table waits_now last sorted =
+    let apart : (l : List Entry) → AllByRecursion (λ (e : Entry). (e.0 == number) ≡ false) l → AllByRecursion (λ (e : Entry). other number e ≡ true) l = λ l all. all_weaker (λ (e : Entry). (e.0 == number) ≡ false) (λ e. other number e ≡ true) l (λ e no. rw no refl) all in
+    let rest : filter (other number) es ≡ f.front ++ f.back = ap (filter (other number)) f.whole ∙ filter-append (other number) f.front ((number, r) ∷ f.back) ∙ rw (filter_whole (other number) f.front (apart f.front f.low), number_same number, filter_whole (other number) f.back (apart f.back f.high)) refl in
+    let here : filter waiting ((number, r) ∷ f.back) ≡ (number, r) ∷ filter waiting f.back = rw waits_now refl in
+    let many : length (filter waiting es) ≡ length (filter waiting f.front) + suc (length (filter waiting f.back)) = ap (λ l. length (filter waiting l)) f.whole ∙ ap length (filter-append waiting f.front ((number, r) ∷ f.back) ∙ ap (λ l. filter waiting f.front ++ l) here) ∙ length-append (filter waiting f.front) ((number, r) ∷ filter waiting f.back) in
+    let few : length (filter waiting (filter (other number) es)) ≡ length (filter waiting f.front) + length (filter waiting f.back) = ap (λ l. length (filter waiting l)) rest ∙ ap length (filter-append waiting f.front f.back) ∙ length-append (filter waiting f.front) (filter waiting f.back) in
+    let room = table.room in
+    let high = table.high in
+    record {
+      ordered = sorted;
+      below = below_number es table.below;
+      stamped = all_filter (λ (e : Entry). stamp_of e < next_stamp) (other number) es table.stamped;
+      first = table.first;
+      room = omega (arith, many, few, room, last);
+      high = omega (arith, high, last);
+    }
+  where
+    below_number : (l : List Entry) → AllByRecursion (λ (e : Entry). e.0 < next) l → AllByRecursion (λ (e : Entry). e.0 < number) (filter (other number) l)
+    below_number [] all = tt
+    below_number (e ∷ l) all = by (e.0 == number) refl (below_number l all.1)
+      where
+        by : (b : Bool) → (e.0 == number) ≡ b → AllByRecursion (λ (x : Entry). x.0 < number) (filter (other number) l) → AllByRecursion (λ (x : Entry). x.0 < number) (cond (not (e.0 == number)) (e ∷ filter (other number) l) (filter (other number) l))
+        by true h rest = rw h rest
+        by false h rest = let less = all.0 in rw h (grind (arith, nat_tests, h, less, last), rest)
+
+pub retracted : (number : ℕ) (r : Request) (es : List Entry) (next_stamp next : ℕ) → IsTable es next_stamp next → lookup (is_at (nat_cmp number)) es ≡ Some r → r.stage ≡ Pending → next ≡ number + 1 → IsStrictlySortedBy nat_cmp (keys_of (filter (other number) es)) → IsTable (filter (other number) es) next_stamp number
+retracted number r es next_stamp next table there waits_now last sorted = retracted_at number r es next_stamp next (found number es r table.ordered there) table waits_now last sorted
+
+-- a value written over itself
+pub set_same : {X : Type 0} (p : ℕ → Bool) (es : List (ℕ × X)) (x : X) → lookup p es ≡ Some x → set_value p es x ≡ es
+set_same p [] x there = refl
+set_same p (e ∷ es) x there = by (p e.0) refl (set_same p es x)
+  where
+    seen : (b : Bool) → p e.0 ≡ b → cond b (Some e.1) (lookup p es) ≡ Some x
+    seen b h = sym (ap (λ c. cond c (Some e.1) (lookup p es)) h) ∙ there
+
+    by : (b : Bool) → p e.0 ≡ b → (lookup p es ≡ Some x → set_value p es x ≡ es) → cond (p e.0) ((e.0, x) ∷ es) (e ∷ set_value p es x) ≡ e ∷ es
+    by true h rest = rw h (ap (λ v. (e.0, v) ∷ es) (ap (λ o. unwrap_or o x) (sym (seen true h))))
+    by false h rest = rw h (ap (λ l. e ∷ l) (rest (seen false h)))

@@ -1,14 +1,16 @@
 -- The names in use: their lines by the number that brought each into use, and where each name's line is (own).
-use Rattle.std.specs.Prelude.{◌≡◌, ℕ, ◌≤◌, ◌==◌, Bool, true, false, not, ◌||◌, ◌&&◌, List, [], ◌∷◌, ◌++◌, length, map, filter, Option, Some, None}
+use Rattle.std.specs.Prelude.{◌≡◌, ℕ, ◌≤◌, ◌<◌, ◌==◌, Bool, true, false, not, ◌||◌, ◌&&◌, List, [], ◌∷◌, ◌++◌, length, map, filter, Option, Some, None}
 use Rattle.std.specs.Str.{bytes_eq}
 use Rattle.std.specs.List.{list_any, AllByRecursion}
 use Rattle.std.specs.List.Sorted.{IsStrictlySortedBy}
-use Rattle.std.specs.Map.{keys_of}
+use Rattle.std.specs.Map.{keys_of, lookup, set_value}
 use Rattle.std.specs.Ordering.{nat_cmp}
 use Rattle.wl_machine.specs.declared.rows.HeldRow.{HeldRow}
 use Rattle.wl_machine.specs.declared.rows.PendingRow.{PendingRow}
 use Rattle.wl_machine.specs.Grants.{any_exclusive, grants, in_use, locks, queue, Lists, settle_names}
-use Rattle.wl_index.specs.Lines.{Waiting, Matches}
+use Rattle.wl_types.specs.declared.words.Mode.{Mode}
+use Rattle.std.specs.BTreeMap.{is_at}
+use Rattle.wl_index.specs.Lines.{Waiting, Matches, with_one_more}
 
 -- a line and its place
 abbrev pub Placed : Type 0
@@ -51,3 +53,12 @@ pub record Underway (target : Lists) (stay : List (List ℕ)) (lines : List Plac
   pub reaches : settle_names now (names_of lines) ≡ target
   pub stays : filter (in_use target.held target.pending) (names_of lines) ≡ stay
   pub ready : Ready lines now.held now.pending left
+
+-- the numbers of a line are below a bound
+abbrev pub IsBelow : ℕ → Waiting → Type 0
+IsBelow number w = AllByRecursion (λ e. e.0 < number) w.waits × AllByRecursion (λ e. e.0 < number) w.holders
+
+-- a request came to the end of its name's queue. A name that was out of use comes into use behind all others
+pub record Joined (old new : List Placed) (name : List ℕ) (place number : ℕ) (mode : Mode) : Type 0 where
+  pub there : among name (names_of old) ≡ true → (w : Waiting) × (lookup (is_at (nat_cmp place)) old ≡ Some w) × (w.name ≡ name) × (new ≡ set_value (is_at (nat_cmp place)) old (with_one_more w number mode))
+  pub fresh : among name (names_of old) ≡ false → (place ≡ number) × (new ≡ old ++ (number, record { name = name; waits = (number, mode) ∷ []; holders = [] }) ∷ [])

@@ -1,13 +1,13 @@
 //! The names in use.
-ghost use Rattle.std.specs.Prelude.{◌≡◌, ℕ, ◌+◌, ◌≤◌, true, false, List, [], ◌∷◌, ◌++◌, filter, length, vec_len, vec_capacity, IsSome, IfSome, OnOk, OnErr, IfOk, IfNone, Some, None};
+ghost use Rattle.std.specs.Prelude.{◌≡◌, ℕ, ◌+◌, ◌≤◌, ◌<◌, true, false, List, [], ◌∷◌, ◌++◌, filter, length, vec_len, vec_capacity, IsSome, IfSome, OnOk, OnErr, IfOk, IfNone, Some, None};
 ghost use Rattle.std.specs.List.{AllByRecursion};
 ghost use Rattle.std.specs.Map.{lookup, set_value};
 ghost use Rattle.std.specs.BTreeMap.{is_at};
 ghost use Rattle.std.specs.Ordering.{nat_cmp};
 ghost use Rattle.wl_machine.specs.Grants.{Lists, lists_of, settle_name, settle_names, in_use};
 ghost use Rattle.wl_index.specs.Rows.{other, held_of, pending_of, tags_of};
-ghost use Rattle.wl_index.specs.Lines.{Waiting, Matches, without, is_busy};
-ghost use Rattle.wl_index.specs.Names.{names_of, among, IsNames, Ready, Underway};
+ghost use Rattle.wl_index.specs.Lines.{Waiting, Matches, without, is_busy, with_one_more};
+ghost use Rattle.wl_index.specs.Names.{names_of, among, IsNames, Ready, Underway, Joined, IsBelow};
 
 use crate::line::Line;
 use crate::room::push_in_room;
@@ -16,7 +16,7 @@ use crate::table::{Request, Table};
 use std::alloc::Global;
 use std::collections::BTreeMap;
 use std::marker::Model;
-use wl_types::{Change, Name, Phase};
+use wl_types::{Change, Memory, Mode, Name, Phase};
 
 /// The names in use: their lines by the number that brought each into use, and where each name's line is.
 #[derive(Drop)]
@@ -45,6 +45,41 @@ impl Names {
             lines: BTreeMap::new(alloc),
             uses: BTreeMap::new(alloc),
         }
+    }
+
+    /// A request comes to the end of its name's queue. Answers the place of its line.
+    fn join(&mut self, alloc: Global, name: &Name, number: u64, mode: Mode) -> Result<u64, Memory>
+        requires places { AllByRecursion (λ e. e.0 < number) self.old }
+        requires below { AllByRecursion (λ e. IsBelow number e.1) self.old }
+        ensures joined { IfOk result (λ place. Joined self.old self.new name.now place number mode) }
+        ensures places { AllByRecursion (λ e. e.0 < number + 1) self.new }
+        ensures err { OnErr result (self.new ≡ self.old) }
+    {
+        if let Some(place) = self.uses.get(name.as_str()) {
+            let place = *place;
+            push_at(&mut self.lines, place, number, mode)?;
+            return Ok(place);
+        }
+        self.add(alloc, name, number, mode)?;
+        Ok(number)
+    }
+
+    /// A name comes into use, behind all others.
+    fn add(&mut self, alloc: Global, name: &Name, number: u64, mode: Mode) -> Result<(), Memory>
+        requires places { AllByRecursion (λ e. e.0 < number) self.old }
+        requires fresh { among name.now (names_of self.old) ≡ false }
+        ensures added { OnOk result (self.new ≡ self.old ++ (number, record { name = name.now; waits = (number, mode) ∷ []; holders = [] }) ∷ []) }
+        ensures err { OnErr result (self.new ≡ self.old) }
+    {
+        let mut line = Line::new(alloc, name.copy(alloc)?);
+        line.push(number, mode)?;
+        let text = String::from_str(alloc, name.as_str())?;
+        self.lines.insert(number, line)?;
+        let Ok(_) = self.uses.insert(text, number) else {
+            self.lines.remove(&number);
+            return Err(Memory);
+        };
+        Ok(())
     }
 
     /// The request or the lock of this number ends. Its name's place is touched, and the change is told.
@@ -136,4 +171,20 @@ fn remove_at(lines: &mut BTreeMap<u64, Line>, place: u64, number: u64)
 {
     let line = lines.get_mut(&place).unwrap();
     line.remove(number);
+}
+
+/// A request comes to the end of a line's queue.
+fn push_at(
+    lines: &mut BTreeMap<u64, Line>,
+    place: u64,
+    number: u64,
+    mode: Mode,
+) -> Result<(), Memory>
+    requires there { IsSome (lookup (is_at (nat_cmp place)) lines.old.entries) }
+    requires below { IfSome (lookup (is_at (nat_cmp place)) lines.old.entries) (λ w. IsBelow number w) }
+    ensures ok { OnOk result (IfSome (lookup (is_at (nat_cmp place)) lines.old.entries) (λ w. lines.new.entries ≡ set_value (is_at (nat_cmp place)) lines.old.entries (with_one_more w number mode))) }
+    ensures err { OnErr result (lines.new.entries ≡ lines.old.entries) }
+{
+    let line = lines.get_mut(&place).unwrap();
+    line.push(number, mode)
 }

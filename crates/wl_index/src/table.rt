@@ -1,6 +1,6 @@
 //! The live requests by number. A lock keeps its place in the order of grants as a stamp, so a grant writes in place.
-ghost use Rattle.std.specs.Prelude.{◌≡◌, ◌+◌, ◌≤◌, ◌<◌, ◌==◌, true, List, [], ◌∷◌, ◌++◌, map, filter, not, length, IfOk, OnOk, OnErr, false, ◌&&◌};
-ghost use Rattle.std.specs.List.{list_any};
+ghost use Rattle.std.specs.Prelude.{◌≡◌, ◌+◌, ◌≤◌, ◌<◌, ◌==◌, true, List, [], ◌∷◌, ◌++◌, map, filter, not, length, IfOk, OnOk, OnErr, Some, false, ◌&&◌};
+ghost use Rattle.std.specs.List.{list_any, AllByRecursion};
 ghost use Rattle.std.specs.List.Sorted.{IsStrictlySortedBy};
 ghost use Rattle.std.specs.Map.{keys_of, lookup};
 ghost use Rattle.std.specs.BTreeMap.{is_at};
@@ -96,6 +96,7 @@ impl Table {
     ) -> Result<u64, Memory>
         requires { self.old.next < 9007199254740992 }
         ensures number { IfOk result (λ n. n ≡ self.old.next) }
+        ensures below { AllByRecursion (λ e. e.0 < self.old.next) self.old.entries }
         ensures entries { OnOk result (self.new.entries ≡ self.old.entries ++ (self.old.next, record { agent = agent; name = name; mode = mode; signal = signal; stage = Stage.Pending }) ∷ []) }
         ensures next { OnOk result (self.new.next ≡ self.old.next + 1) }
         ensures err { OnErr result (self.new ≡ self.old) }
@@ -111,6 +112,16 @@ impl Table {
         self.requests.insert(number, request)?;
         self.next = number + 1;
         Ok(number)
+    }
+
+    /// Takes the last request back, with its number.
+    pub fn retract(&mut self, number: u64)
+        requires last { self.old.next ≡ number + 1 }
+        requires waits { (r : Request) × (lookup (is_at (nat_cmp number)) self.old.entries ≡ Some r) × (r.stage ≡ Stage.Pending) }
+        ensures { self.new ≡ record { entries = filter (other number) self.old.entries; next = number } }
+    {
+        self.requests.remove(&number);
+        self.next = number;
     }
 
     /// The request or the lock of this number ends, and is handed out.
