@@ -9,7 +9,7 @@ use Rattle.std.proofs.lemmas.Option.{none-some}
 use Rattle.std.specs.Str.{bytes_eq}
 use Rattle.std.specs.List.{list_any, AllByRecursion}
 use Rattle.std.specs.List.Sorted.{IsStrictlySortedBy}
-use Rattle.std.specs.Map.{keys_of, lookup, set_value}
+use Rattle.std.specs.Map.{keys_of, lookup, set_value, remove_entry}
 use Rattle.std.specs.BTreeMap.{is_at, insert_entry}
 use Rattle.std.specs.Ordering.{nat_cmp}
 use Rattle.std.specs.Cmp.Lexicographic.{same_text}
@@ -20,16 +20,20 @@ use Rattle.std.proofs.lemmas.List.Elements.{filter-append}
 use Rattle.wl_types.specs.declared.words.Mode.{Mode}
 use Rattle.wl_machine.specs.declared.rows.HeldRow.{HeldRow}
 use Rattle.wl_machine.specs.declared.rows.PendingRow.{PendingRow}
-use Rattle.wl_machine.specs.Grants.{any_exclusive, grants, in_use, locks, queue, Lists}
+use Rattle.wl_machine.specs.Grants.{is_exclusive, is_empty, any_exclusive, grants, in_use, locks, queue, Lists}
 use Rattle.wl_machine.specs.Step.{with_name}
+use Rattle.wl_machine.specs.Laws.{is_grantable}
+use Rattle.wl_machine.proofs.InTurn.{in_turn}
+use Rattle.wl_index.proofs.Settling.{admits_grantable, empty_map}
 use Rattle.wl_machine.proofs.Lists.{or_false, other_bytes, same_bytes}
-use Rattle.wl_index.specs.Rows.{Entry, stamp_of, waiting, holding, request_row, lock_row, held_of, pending_of}
+use Rattle.wl_index.specs.declared.table.Stage.TheVariants.{Pending}
+use Rattle.wl_index.specs.Rows.{Entry, other, stamp_of, waiting, holding, request_row, lock_row, held_of, pending_of}
 use Rattle.wl_index.specs.Stamps.{by_stamp, by_stamp_all}
-use Rattle.wl_index.specs.Lines.{Numbered, Waiting, Matches, with_one_more, number_and_mode, lock_and_mode}
-use Rattle.wl_index.specs.Names.{Placed, names_of, among, has_place, is_touched, IsNames, Ready, Joined, IsBelow}
+use Rattle.wl_index.specs.Lines.{Numbered, Waiting, Matches, admits, with_one_more, number_and_mode, lock_and_mode}
+use Rattle.wl_index.specs.Names.{Placed, names_of, among, has_place, is_touched, IsNames, Ready, Joined, Entered, IsBelow}
 use Rattle.wl_index.proofs.Lists.{all_append, all_front, all_back, all_filter, all_weaker}
-use Rattle.wl_index.proofs.Entries.{number_same, set_same}
-use Rattle.wl_index.proofs.Placed.{At, at_line, at_place, name_found, written_names, written_is}
+use Rattle.wl_index.proofs.Entries.{same_number, number_same, set_same}
+use Rattle.wl_index.proofs.Placed.{At, at_line, at_place, remove_apart, name_found, written_names, written_is}
 use Rattle.wl_index.proofs.Used.{in_use_same}
 use Rattle.wl_index.proofs.Ends.{Differ, one_touched}
 
@@ -57,10 +61,6 @@ others_used [] place held pending r out all = tt
 others_used (e ∷ lines) place held pending r out all =
     let parts = or_false (bytes_eq e.1.name r.name) (among r.name (names_of lines)) out in
     ((λ no. in_use_same e.1.name held held (pending ++ r ∷ []) pending refl (queue_stays pending r e.1.name (other_bytes r.name e.1.name parts.0)) ∙ all.0 refl), others_used lines place held pending r parts.1 all.1)
-
-pub record Entered (name : List ℕ) (place : ℕ) (old new : List Placed) (held : List HeldRow) (pending : List PendingRow) : Type 0 where
-  pub ready : Ready new held pending (place ∷ [])
-  pub names_more : names_of new ≡ with_name name (names_of old)
 
 nobody : (lines : List Placed) (m : List ℕ) → is_touched [] lines m ≡ false
 nobody [] m = refl
@@ -220,3 +220,49 @@ places_added n lines w all = all_append (λ (e : Placed). e.0 < n + 1) lines ((n
 
 pub below_at : (name : List ℕ) (place number : ℕ) (lines : List Placed) → (a : At name place lines) → AllByRecursion (λ (e : Placed). IsBelow number e.1) lines → IsBelow number a.line
 below_at name place number lines a all = (all_back (λ (e : Placed). IsBelow number e.1) a.split.front ((place, a.line) ∷ a.split.back) (subst (AllByRecursion (λ (e : Placed). IsBelow number e.1)) a.split.whole all)).0
+
+pub places_removed : (n : ℕ) (name : List ℕ) (place : ℕ) (lines : List Placed) (line : Waiting) → At name place lines → AllByRecursion (λ (e : Placed). e.0 < n) lines → AllByRecursion (λ (e : Placed). e.0 < n) (remove_entry (is_at (nat_cmp place)) (set_value (is_at (nat_cmp place)) lines line))
+places_removed n name place lines line a all =
+    let P : Placed → Type 0 = λ e. e.0 < n in
+    let parts = subst (AllByRecursion P) a.split.whole all in
+    rw (ap (remove_entry (is_at (nat_cmp place))) (a.split.set line) ∙ remove_apart place a.split.front a.split.back line a.split.low) (all_append P a.split.front a.split.back (all_front P a.split.front ((place, a.line) ∷ a.split.back) parts) (all_back P a.split.front ((place, a.line) ∷ a.split.back) parts).1)
+
+-- ---- whether a request is available
+
+grants_one : (held : List HeldRow) (row : PendingRow) → not (is_empty (grants held (row ∷ []))) ≡ is_grantable held row
+grants_one held row = ap (λ l. not (is_empty l)) (sym (in_turn held (row ∷ []))) ∙ by (is_grantable held row)
+  where
+    by : (b : Bool) → not (is_empty (cond b (row ∷ []) [])) ≡ b
+    by true = refl
+    by false = refl
+
+pub available_at : (w : Waiting) (held : List HeldRow) (pending : List PendingRow) (row : PendingRow) → Matches w held pending → w.name ≡ row.name → (is_empty w.waits && admits w row.mode) ≡ (is_empty (queue row.name pending) && not (is_empty (grants (locks row.name held) (row ∷ []))))
+available_at w held pending row matches named =
+    let q : is_empty w.waits ≡ is_empty (queue row.name pending) = ap is_empty matches.waits ∙ empty_map number_and_mode (queue w.name pending) ∙ ap (λ n. is_empty (queue n pending)) named in
+    let a : admits w row.mode ≡ not (is_empty (grants (locks row.name held) (row ∷ []))) = admits_grantable w held pending row matches ∙ ap (λ n. is_grantable (locks n held) row) named ∙ sym (grants_one (locks row.name held) row) in
+    rw (q, a) refl
+
+pub available_new : (held : List HeldRow) (pending : List PendingRow) (row : PendingRow) → locks row.name held ≡ [] → queue row.name pending ≡ [] → true ≡ (is_empty (queue row.name pending) && not (is_empty (grants (locks row.name held) (row ∷ []))))
+available_new held pending row none empty = rw (none, empty) (sym (grants_one [] row ∙ by (is_exclusive row.mode)))
+  where
+    by : (b : Bool) → cond b true true ≡ true
+    by true = refl
+    by false = refl
+
+pub entered_as : (find : List ℕ → Option ℕ) (name : List ℕ) (place number : ℕ) (mode : Mode) (old new : List Placed) (held : List HeldRow) (pending : List PendingRow) (r : PendingRow) → IsNames old find → Joined old new name place number mode
+    → r.name ≡ name → r.number ≡ number → r.mode ≡ mode → Ready old held pending [] → Entered name place old new held (pending ++ r ∷ [])
+entered_as find name place number mode old new held pending r names joined named numbered moded ready =
+    subst (λ n. Entered n place old new held (pending ++ r ∷ [])) named (entered find place old new held pending r names ready (rw (named, numbered, moded) joined))
+
+-- ---- a request more in the table
+
+abbrev pub entry_now : ℕ → ℕ → List ℕ → Mode → Option ℕ → Entry
+entry_now number agent name mode signal = (number, record { agent = agent; name = name; mode = mode; signal = signal; stage = Pending })
+
+pub last_there : (es : List Entry) (e : Entry) → AllByRecursion (λ (x : Entry). x.0 < e.0) es → lookup (is_at (nat_cmp e.0)) (es ++ e ∷ []) ≡ Some e.1
+last_there [] e below = rw (same_number e.0 e.0, number_same e.0) refl
+last_there (x ∷ es) e below = let no : (x.0 == e.0) ≡ false = (let less = below.0 in grind (arith, nat_tests, less)) in rw (same_number e.0 x.0, no) (last_there es e below.1)
+
+pub last_gone : (es : List Entry) (e : Entry) → AllByRecursion (λ (x : Entry). x.0 < e.0) es → filter (other e.0) (es ++ e ∷ []) ≡ es
+last_gone [] e below = rw (number_same e.0) refl
+last_gone (x ∷ es) e below = let no : (x.0 == e.0) ≡ false = (let less = below.0 in grind (arith, nat_tests, less)) in rw no (ap (λ l. x ∷ l) (last_gone es e below.1))

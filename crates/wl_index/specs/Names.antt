@@ -10,6 +10,7 @@ use Rattle.wl_machine.specs.declared.rows.PendingRow.{PendingRow}
 use Rattle.wl_machine.specs.Grants.{any_exclusive, grants, in_use, locks, queue, Lists, settle_names}
 use Rattle.wl_types.specs.declared.words.Mode.{Mode}
 use Rattle.std.specs.BTreeMap.{is_at}
+use Rattle.wl_machine.specs.Step.{with_name}
 use Rattle.wl_index.specs.Lines.{Waiting, Matches, with_one_more}
 
 -- a line and its place
@@ -62,3 +63,8 @@ IsBelow number w = AllByRecursion (λ e. e.0 < number) w.waits × AllByRecursion
 pub record Joined (old new : List Placed) (name : List ℕ) (place number : ℕ) (mode : Mode) : Type 0 where
   pub there : among name (names_of old) ≡ true → (w : Waiting) × (lookup (is_at (nat_cmp place)) old ≡ Some w) × (w.name ≡ name) × (new ≡ set_value (is_at (nat_cmp place)) old (with_one_more w number mode))
   pub fresh : among name (names_of old) ≡ false → (place ≡ number) × (new ≡ old ++ (number, record { name = name; waits = (number, mode) ∷ []; holders = [] }) ∷ [])
+
+-- a name has one request more, and its place is touched
+pub record Entered (name : List ℕ) (place : ℕ) (old new : List Placed) (held : List HeldRow) (pending : List PendingRow) : Type 0 where
+  pub ready : Ready new held pending (place ∷ [])
+  pub names_more : names_of new ≡ with_name name (names_of old)

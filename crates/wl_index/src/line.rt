@@ -1,5 +1,5 @@
 //! One name in use.
-ghost use Rattle.std.specs.Prelude.{◌≡◌, ℕ, ◌<◌, List, [], ◌∷◌, OnOk, OnErr, slice_get, Some, None, false, true};
+ghost use Rattle.std.specs.Prelude.{◌≡◌, ℕ, ◌<◌, List, [], ◌∷◌, OnOk, OnErr, slice_get, Some, None, false, true, ◌&&◌};
 ghost use Rattle.std.specs.List.{AllByRecursion};
 ghost use Rattle.wl_types.specs.declared.words.Mode.TheVariants.{Exclusive};
 ghost use Rattle.wl_machine.specs.Grants.{is_empty};
@@ -90,6 +90,13 @@ impl Line {
         } else {
             !self.excludes()
         }
+    }
+
+    /// Whether a request of this mode would be granted at once.
+    pub fn is_available(&self, mode: Mode) -> bool
+        ensures { result ≡ (is_empty self.now.waits && admits self.now mode) }
+    {
+        self.queue.is_empty() && self.admits(mode)
     }
 
     /// A request that waits, after the others.

@@ -1,22 +1,25 @@
 //! The names in use.
-ghost use Rattle.std.specs.Prelude.{◌≡◌, ℕ, ◌+◌, ◌≤◌, ◌<◌, true, false, List, [], ◌∷◌, ◌++◌, filter, length, vec_len, vec_capacity, IsSome, IfSome, OnOk, OnErr, IfOk, IfNone, Some, None};
+ghost use Rattle.std.specs.Prelude.{◌≡◌, ℕ, ◌+◌, ◌≤◌, ◌<◌, true, false, List, [], ◌∷◌, ◌++◌, filter, not, ◌&&◌, length, vec_len, vec_capacity, IsSome, IfSome, OnOk, OnErr, IfOk, IfNone, Some, None};
 ghost use Rattle.std.specs.List.{AllByRecursion};
 ghost use Rattle.std.specs.Map.{lookup, set_value};
 ghost use Rattle.std.specs.BTreeMap.{is_at};
 ghost use Rattle.std.specs.Ordering.{nat_cmp};
-ghost use Rattle.wl_machine.specs.Grants.{Lists, lists_of, settle_name, settle_names, in_use};
+ghost use Rattle.wl_machine.specs.declared.rows.HeldRow.{HeldRow};
+ghost use Rattle.wl_machine.specs.declared.rows.PendingRow.{PendingRow};
+ghost use Rattle.wl_machine.specs.Grants.{Lists, lists_of, settle_name, settle_names, in_use, is_empty, grants, locks, queue};
+ghost use Rattle.wl_machine.specs.Step.{with_name};
 ghost use Rattle.wl_index.specs.Rows.{other, held_of, pending_of, tags_of};
 ghost use Rattle.wl_index.specs.Lines.{Waiting, Matches, without, is_busy, with_one_more};
-ghost use Rattle.wl_index.specs.Names.{names_of, among, IsNames, Ready, Underway, Joined, IsBelow};
+ghost use Rattle.wl_index.specs.Names.{names_of, among, IsNames, Ready, Underway, Entered, IsBelow};
 
 use crate::line::Line;
 use crate::room::push_in_room;
 use crate::settle::settle;
-use crate::table::{Request, Table};
+use crate::table::{Request, Stage, Table};
 use std::alloc::Global;
 use std::collections::BTreeMap;
 use std::marker::Model;
-use wl_types::{Change, Memory, Mode, Name, Phase};
+use wl_types::{Ask, Change, Memory, Mode, Name, Phase};
 
 /// The names in use: their lines by the number that brought each into use, and where each name's line is.
 #[derive(Drop)]
@@ -51,7 +54,8 @@ impl Names {
     fn join(&mut self, alloc: Global, name: &Name, number: u64, mode: Mode) -> Result<u64, Memory>
         requires places { AllByRecursion (λ e. e.0 < number) self.old }
         requires below { AllByRecursion (λ e. IsBelow number e.1) self.old }
-        ensures joined { IfOk result (λ place. Joined self.old self.new name.now place number mode) }
+        ensures entered { IfOk result (λ place. (held : List HeldRow) (pending : List PendingRow) (r : PendingRow) → r.name ≡ name.now → r.number ≡ number → r.mode ≡ mode
+            → Ready self.old held pending [] → Entered name.now place self.old self.new held (pending ++ r ∷ [])) }
         ensures places { AllByRecursion (λ e. e.0 < number + 1) self.new }
         ensures err { OnErr result (self.new ≡ self.old) }
     {
@@ -82,6 +86,54 @@ impl Names {
         Ok(())
     }
 
+    /// Whether a request of this name and mode would be granted at once.
+    pub(crate) fn is_available(&self, table: &Table, name: &Name, mode: Mode) -> bool
+        requires { Ready self.now (held_of table.now.entries) (pending_of table.now.entries) [] }
+        ensures { (row : PendingRow) → row.name ≡ name.now → row.mode ≡ mode
+            → result ≡ (is_empty (queue row.name (pending_of table.now.entries)) && not (is_empty (grants (locks row.name (held_of table.now.entries)) (row ∷ [])))) }
+    {
+        match self.uses.get(name.as_str()) {
+            Some(place) => self.lines.get(place).unwrap().is_available(mode),
+            None => true,
+        }
+    }
+
+    /// A request comes to the end of its queue, with the next number.
+    pub(crate) fn enter(
+        &mut self,
+        alloc: Global,
+        agent: u64,
+        name: Name,
+        ask: &Ask,
+        table: &mut Table,
+        touched: &mut Vec<u64>,
+    ) -> Result<u64, Memory>
+        requires ready { Ready self.old (held_of table.old.entries) (pending_of table.old.entries) [] }
+        requires places { AllByRecursion (λ e. e.0 < table.old.next) self.old }
+        requires low { table.old.next < 9007199254740992 }
+        requires none { touched.old.items ≡ [] }
+        requires room { vec_len touched.old < vec_capacity touched.old }
+        ensures number { IfOk result (λ n. n ≡ table.old.next) }
+        ensures entries { OnOk result (table.new.entries ≡ table.old.entries ++ (table.old.next, record { agent = agent; name = name; mode = ask.now.mode; signal = ask.now.signal; stage = Stage.Pending }) ∷ []) }
+        ensures ready { OnOk result (Ready self.new (held_of table.new.entries) (pending_of table.new.entries) touched.new.items) }
+        ensures names { OnOk result (names_of self.new ≡ with_name name (names_of self.old)) }
+        ensures places { OnOk result (AllByRecursion (λ e. e.0 < table.new.next) self.new) }
+        ensures next { OnOk result (table.new.next ≡ table.old.next + 1) }
+        ensures unchanged { OnErr result (self.new ≡ self.old) }
+        ensures table { OnErr result (table.new ≡ table.old) }
+        ensures touched { OnErr result (touched.new.items ≡ []) }
+        ensures capacity { vec_capacity touched.old ≤ vec_capacity touched.new }
+    {
+        let copy = name.copy(alloc)?;
+        let number = table.push(agent, name, ask.mode, ask.signal)?;
+        let Ok(place) = self.join(alloc, &copy, number, ask.mode) else {
+            table.retract(number);
+            return Err(Memory);
+        };
+        push_in_room(touched, place);
+        Ok(number)
+    }
+
     /// The request or the lock of this number ends. Its name's place is touched, and the change is told.
     pub(crate) fn end(
         &mut self,
@@ -99,6 +151,7 @@ impl Names {
         ensures entries { table.new.entries ≡ filter (other number) table.old.entries }
         ensures ready { Ready self.new (held_of table.new.entries) (pending_of table.new.entries) touched.new.items }
         ensures names { names_of self.new ≡ names_of self.old }
+        ensures places { (n : ℕ) → AllByRecursion (λ e. e.0 < n) self.old → AllByRecursion (λ e. e.0 < n) self.new }
         ensures changes { changes.new.items ≡ changes.old.items ++ record { id = number; phase = phase } ∷ [] }
         ensures next { table.new.next ≡ table.old.next }
         ensures fewer { length table.new.entries + 1 ≡ length table.old.entries }
@@ -122,6 +175,7 @@ impl Names {
         ensures underway { (target : Lists) (stay : List (List ℕ)) (rest : List ℕ) → AllByRecursion (λ q. place ≤ q) rest
             → Underway target stay self.old (lists_of (held_of table.old.entries) (pending_of table.old.entries) changes.old.items) (place ∷ rest)
             → Underway target stay self.new (lists_of (held_of table.new.entries) (pending_of table.new.entries) changes.new.items) rest }
+        ensures places { (n : ℕ) → AllByRecursion (λ e. e.0 < n) self.old → AllByRecursion (λ e. e.0 < n) self.new }
         ensures next { table.new.next ≡ table.old.next }
         ensures tags { tags_of table.new.entries ≡ tags_of table.old.entries }
         ensures capacity { vec_capacity changes.old ≤ vec_capacity changes.new }
@@ -150,6 +204,7 @@ impl Names {
         ensures settled { lists_of (held_of table.new.entries) (pending_of table.new.entries) changes.new.items ≡ settle_names (lists_of (held_of table.old.entries) (pending_of table.old.entries) changes.old.items) (names_of self.old) }
         ensures names { names_of self.new ≡ filter (in_use (held_of table.new.entries) (pending_of table.new.entries)) (names_of self.old) }
         ensures ready { Ready self.new (held_of table.new.entries) (pending_of table.new.entries) [] }
+        ensures places { (n : ℕ) → AllByRecursion (λ e. e.0 < n) self.old → AllByRecursion (λ e. e.0 < n) self.new }
         ensures next { table.new.next ≡ table.old.next }
         ensures tags { tags_of table.new.entries ≡ tags_of table.old.entries }
         ensures none { touched.new.items ≡ [] }

@@ -19,6 +19,7 @@ loop-place-init c =
     record {
       underway = start c.args.self.now now items ready;
       sorted = subst (IsSorted nat_cmp) (sym c.deref-place-items.ensures.value) c.sort_unstable.ensures.sorted;
+      places = λ n below. below;
       next = refl;
       tags = refl;
       capacity = omega arith;
@@ -41,6 +42,7 @@ loop-place-preserved c =
     record {
       underway = c.settle_at.ensures.underway target stay rest (sorted_least place rest sorted) (subst (λ r. Underway target stay l.self now r) more l.invariant.underway);
       sorted = sorted_next place rest sorted;
+      places = λ n below. c.settle_at.ensures.places n (l.invariant.places n below);
       next = c.settle_at.ensures.next ∙ l.invariant.next;
       tags = c.settle_at.ensures.tags ∙ l.invariant.tags;
       capacity = omega (arith, wide, wider);

@@ -1,4 +1,4 @@
-use Rattle.std.proofs.Common.{◌≡◌, ◌∷◌, ◌++◌, ◌∙◌, ◌==◌, ap, subst, sym, nat_cmp, Some, None, refl, false}
+use Rattle.std.proofs.Common.{◌≡◌, ◌∷◌, ◌++◌, ◌∙◌, ◌==◌, ◌<◌, ap, subst, sym, nat_cmp, Some, None, refl, false}
 use Rattle.std.specs.Option.{option_copied_mut, unwrap_or}
 use Rattle.std.specs.List.{AllByRecursion}
 use Rattle.std.specs.List.Sorted.{IsStrictlySortedBy}
@@ -14,6 +14,7 @@ use Rattle.wl_index.specs.Names.{Placed, IsNames, Underway}
 use Rattle.wl_index.proofs.Lists.{all_back}
 use Rattle.wl_index.proofs.Placed.{at_line, none_at, written_there, written_is, removed_is}
 use Rattle.wl_index.proofs.Underway.{settled_stays, settled_leaves, settled_nowhere}
+use Rattle.wl_index.proofs.Joins.{places_written, places_removed}
 use Rattle.wl_index.proofs.names.Names.settle_at.Goals as goal
 
 pub returns-in_default-clause-underway : goal.returns-in_default-clause-underway
@@ -93,3 +94,33 @@ returns-clause-underway c target stay rest above u =
     let idle = sym c.is_busy.ensures ∙ c.if-is_busy.false in
     let done = settled_leaves (get_by_text i.uses) c.args.place rest target stay i.lines.entries before w.name line a c.self.invariant above (subst (λ v. Underway target stay v before (c.args.place ∷ rest)) (sym c.self.view_is) u) c.settle.ensures.name matches idle in
     subst (λ v. Underway target stay v after rest) (sym left) (subst (λ l. Underway target stay (remove_entry (is_at (nat_cmp c.args.place)) (set_value (is_at (nat_cmp c.args.place)) i.lines.entries line)) l rest) (sym c.settle.ensures.settled) done)
+
+pub returns-in_default-clause-places : goal.returns-in_default-clause-places
+returns-in_default-clause-places c n below = rw c.get_mut.follows.holds-at-none (subst (AllByRecursion (λ (e : Placed). e.0 < n)) (sym c.self.view_is) below)
+
+pub returns-then-is_busy-clause-places : goal.returns-then-is_busy-clause-places
+returns-then-is_busy-clause-places c n below =
+    let i = c.self.inside in
+    let w = c.in-Some.line.now in
+    let there : lookup (is_at (nat_cmp c.args.place)) i.lines.entries ≡ Some w = sym c.get_mut.ensures.value ∙ ap option_copied_mut c.in-Some.is in
+    let a = at_line c.args.place w i.lines.entries (get_by_text i.uses) c.self.invariant there in
+    let before : Lists = lists_of (held_of c.args.table.now.entries) (pending_of c.args.table.now.entries) c.args.changes.now.items in
+    let after : Lists = lists_of (held_of c.settle.new.table.entries) (pending_of c.settle.new.table.entries) c.settle.new.changes.items in
+    let line = c.settle.new.line in
+    let written : (c.get_mut.follows.lender line).entries ≡ set_value (is_at (nat_cmp c.args.place)) i.lines.entries line = (c.get_mut.follows.holds line).0 in
+    let matches : Matches line (settle_name before w.name).held (settle_name before w.name).pending = subst (λ (l : Lists). Matches line l.held l.pending) c.settle.ensures.settled c.settle.ensures.matches in
+    subst (AllByRecursion (λ (e : Placed). e.0 < n)) (sym written) (places_written n w.name c.args.place i.lines.entries line a (subst (AllByRecursion (λ (e : Placed). e.0 < n)) (sym c.self.view_is) below))
+
+pub returns-clause-places : goal.returns-clause-places
+returns-clause-places c n below =
+    let i = c.self.inside in
+    let w = c.in-Some.line.now in
+    let there : lookup (is_at (nat_cmp c.args.place)) i.lines.entries ≡ Some w = sym c.get_mut.ensures.value ∙ ap option_copied_mut c.in-Some.is in
+    let a = at_line c.args.place w i.lines.entries (get_by_text i.uses) c.self.invariant there in
+    let before : Lists = lists_of (held_of c.args.table.now.entries) (pending_of c.args.table.now.entries) c.args.changes.now.items in
+    let after : Lists = lists_of (held_of c.settle.new.table.entries) (pending_of c.settle.new.table.entries) c.settle.new.changes.items in
+    let line = c.settle.new.line in
+    let written : (c.get_mut.follows.lender line).entries ≡ set_value (is_at (nat_cmp c.args.place)) i.lines.entries line = (c.get_mut.follows.holds line).0 in
+    let matches : Matches line (settle_name before w.name).held (settle_name before w.name).pending = subst (λ (l : Lists). Matches line l.held l.pending) c.settle.ensures.settled c.settle.ensures.matches in
+    let left : c.remove.new.self.entries ≡ remove_entry (is_at (nat_cmp c.args.place)) (set_value (is_at (nat_cmp c.args.place)) i.lines.entries line) = c.remove.ensures.entries ∙ ap (remove_entry (is_at (nat_cmp c.args.place))) written in
+    subst (AllByRecursion (λ (e : Placed). e.0 < n)) (sym left) (places_removed n w.name c.args.place i.lines.entries line a (subst (AllByRecursion (λ (e : Placed). e.0 < n)) (sym c.self.view_is) below))
