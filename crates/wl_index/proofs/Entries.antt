@@ -695,3 +695,6 @@ set_same p (e ∷ es) x there = by (p e.0) refl (set_same p es x)
     by : (b : Bool) → p e.0 ≡ b → (lookup p es ≡ Some x → set_value p es x ≡ es) → cond (p e.0) ((e.0, x) ∷ es) (e ∷ set_value p es x) ≡ e ∷ es
     by true h rest = rw h (ap (λ v. (e.0, v) ∷ es) (ap (λ o. unwrap_or o x) (sym (seen true h))))
     by false h rest = rw h (ap (λ l. e ∷ l) (rest (seen false h)))
+
+pub tags_length : (new old : List Entry) → tags_of new ≡ tags_of old → length new ≡ length old
+tags_length new old same = sym (length-map new tag) ∙ ap length same ∙ length-map old tag

@@ -1,17 +1,20 @@
 //! The machine over indexes.
-ghost use Rattle.std.specs.Prelude.{◌≡◌, ℕ, ◌+◌, ◌≤◌, List, [], ◌∷◌, IfOk, IfErr, OnErr, OnOk, Option, Some, None, true};
+ghost use Rattle.std.specs.Prelude.{◌≡◌, ℕ, ◌+◌, ◌≤◌, List, [], ◌∷◌, IfOk, IfErr, OnErr, OnOk, Option, Some, None, true, false, not, ◌&&◌};
 ghost use Rattle.wl_types.specs.Refusals.{refused_or_memory};
 ghost use Rattle.wl_machine.specs.Refusals.{refusal};
 ghost use Rattle.wl_machine.specs.State.{opening, AreNumbers};
-ghost use Rattle.wl_machine.specs.Step.{Gives};
+ghost use Rattle.wl_machine.specs.Step.{Gives, available, new_request};
 
 use crate::names::Names;
 use crate::owners::Owners;
+use crate::room::push_in_room;
 use crate::table::Table;
 use std::alloc::Global;
 use std::marker::Model;
 use wl_machine::{Command, Reply};
-use wl_types::{Ask, Change, Kind, Numbers, Phase, Refusal, ReleaseAnswer, TakeAnswer};
+use wl_types::{
+    Ask, Change, Kind, Memory, Name, Numbers, Phase, Refusal, ReleaseAnswer, TakeAnswer,
+};
 
 mod refusals;
 
@@ -48,7 +51,7 @@ impl Model for IndexCore {
       recent = c.changes.items;
     } };
 
-    ghost invariant = { λ c. IsCore c.names c.table.entries (vec_capacity c.changes) (vec_capacity c.touched) × (c.touched.items ≡ []) };
+    ghost invariant = { λ c. IsCore c.names c.table.entries c.table.next (vec_capacity c.changes) (vec_capacity c.touched) × (c.touched.items ≡ []) };
 }
 
 impl IndexCore {
@@ -130,6 +133,49 @@ impl IndexCore {
         self.names
             .settle(&mut self.table, &mut self.changes, &mut self.touched);
         ReleaseAnswer::Released
+    }
+
+    /// Whether a request is to be granted at once or not at all, and can't be granted.
+    fn is_unavailable(&self, name: &Name, ask: &Ask) -> bool
+        requires { name.now ≡ ask.now.name }
+        ensures { (agent : ℕ) → result ≡ (ask.now.if_available && not (available self.now.state (new_request self.now.state agent ask.now))) }
+    {
+        ask.if_available && !self.names.is_available(&self.table, name, ask.mode)
+    }
+
+    /// A request without `steal` that nothing refuses. All that can fail comes first.
+    fn admit(&mut self, agent: u64, ask: &Ask) -> Result<u64, Memory>
+        requires accepted { refusal self.old.state (Command.Request agent ask.now) ≡ None }
+        requires no_changes { self.old.recent ≡ [] }
+        requires plain { ask.now.steal ≡ false }
+        ensures admitted { IfOk result (λ id. Gives self.old.state (Command.Request agent ask.now) self.new.state (Reply.Request id) self.new.recent) }
+        ensures unchanged { OnErr result (self.new ≡ self.old) }
+    {
+        let name = match Name::of(self.alloc, ask.name.as_str()) {
+            Ok(name) => name,
+            Err(_) => return Err(Memory),
+        };
+        let unavailable = self.is_unavailable(&name, ask);
+        let live = self.table.len();
+        self.changes.reserve(live + 1)?;
+        self.touched.reserve(live + 1)?;
+        if unavailable {
+            let number = self.table.skip();
+            let phase = Phase::Unavailable;
+            push_in_room(&mut self.changes, Change { id: number, phase });
+            return Ok(number);
+        }
+        let number = self.names.enter(
+            self.alloc,
+            agent,
+            name,
+            ask,
+            &mut self.table,
+            &mut self.touched,
+        )?;
+        self.names
+            .settle(&mut self.table, &mut self.changes, &mut self.touched);
+        Ok(number)
     }
 
     /// The changes of the last call on `&mut self`: the ends, and then the grants, each in the machine's order. They

@@ -1,5 +1,5 @@
 //! The live requests by number. A lock keeps its place in the order of grants as a stamp, so a grant writes in place.
-ghost use Rattle.std.specs.Prelude.{◌≡◌, ◌+◌, ◌≤◌, ◌<◌, ◌==◌, true, List, [], ◌∷◌, ◌++◌, map, filter, not, length, IfOk, OnOk, OnErr, Some, false, ◌&&◌};
+ghost use Rattle.std.specs.Prelude.{◌≡◌, ◌+◌, ◌≤◌, ◌<◌, ◌^◌, ◌==◌, true, List, [], ◌∷◌, ◌++◌, map, filter, not, length, IfOk, OnOk, OnErr, Some, false, ◌&&◌};
 ghost use Rattle.std.specs.List.{list_any, AllByRecursion};
 ghost use Rattle.std.specs.List.Sorted.{IsStrictlySortedBy};
 ghost use Rattle.std.specs.Map.{keys_of, lookup};
@@ -74,6 +74,7 @@ impl Table {
     /// How many requests are live.
     pub fn len(&self) -> usize
         ensures entries { result ≡ length self.now.entries }
+        ensures small { result < 2 ^ 63 }
         ensures live { result ≡ length (held_of self.now.entries) + length (pending_of self.now.entries) }
     {
         self.requests.len()
@@ -112,6 +113,17 @@ impl Table {
         self.requests.insert(number, request)?;
         self.next = number + 1;
         Ok(number)
+    }
+
+    /// Uses up the next number, for a request that is unavailable.
+    pub fn skip(&mut self) -> u64
+        requires { self.old.next < 9007199254740992 }
+        ensures number { result ≡ self.old.next }
+        ensures next { self.new ≡ record self.old { next = self.old.next + 1 } }
+    {
+        let number = self.next;
+        self.next = number + 1;
+        number
     }
 
     /// Takes the last request back, with its number.

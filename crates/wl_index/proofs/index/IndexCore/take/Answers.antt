@@ -14,6 +14,7 @@ invariant_of-self c =
     let is = c.self.invariant.0 in
     let same : length c.take.new.self.entries ≡ length i.table.entries = sym (length-map c.take.new.self.entries tag) ∙ ap length c.take.ensures.tags ∙ length-map i.table.entries tag in (
       record {
+        placed = rw c.take.ensures.next is.placed;
         ready = rw (c.take.ensures.held, c.take.ensures.pending) (ready_taken c.args.id i.names (held_of i.table.entries) (pending_of i.table.entries) is.ready);
         changes_room = rw (same, c.clear.ensures.capacity) is.changes_room;
         touched_room = rw same is.touched_room;
@@ -42,6 +43,7 @@ invariant_of-self-2 c =
     let is = c.self.invariant.0 in
     let same : length c.take.new.self.entries ≡ length i.table.entries = sym (length-map c.take.new.self.entries tag) ∙ ap length c.take.ensures.tags ∙ length-map i.table.entries tag in (
       record {
+        placed = rw c.take.ensures.next is.placed;
         ready = rw (c.take.ensures.held, c.take.ensures.pending) (ready_taken c.args.id i.names (held_of i.table.entries) (pending_of i.table.entries) is.ready);
         changes_room = rw (same, c.clear.ensures.capacity) is.changes_room;
         touched_room = rw same is.touched_room;
