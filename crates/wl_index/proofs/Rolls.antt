@@ -185,3 +185,95 @@ pub agent_inactive : (agent : ℕ) (es : List (ℕ × Member)) → IsStrictlySor
 agent_inactive agent es sorted =
     any_like (λ (row : AgentRow). ((row.number == agent) && is_window row.kind) && not row.active) (λ row. (row.number == agent) && (is_window row.kind && not row.active)) (λ row. and_assoc (row.number == agent) (is_window row.kind) (not row.active)) (map agent_row es)
     ∙ agent_test (λ kind active. is_window kind && not active) agent es sorted
+
+-- ---- one signal more
+
+abbrev row_of : ℕ → Kind → Bool → AgentRow
+row_of n k a = record { number = n; kind = k; active = a }
+
+same_row : (n : ℕ) (k k' : Kind) (a a' : Bool) → k ≡ k' → a ≡ a' → row_of n k a ≡ row_of n k' a'
+same_row n k k' a a' one two = rw (one, two) refl
+
+pub rows_stay : (agent : ℕ) (es : List (ℕ × Member)) (m now : Member) → Found agent es m → now.kind ≡ m.kind → now.active ≡ m.active → map agent_row (set_value (is_at (nat_cmp agent)) es now) ≡ map agent_row es
+rows_stay agent es m now f kind active =
+    ap (map agent_row) (f.set now) ∙ map-append agent_row f.front ((agent, now) ∷ f.back) ∙ ap (λ r. map agent_row f.front ++ r ∷ map agent_row f.back) (same_row agent now.kind m.kind now.active m.active kind active)
+    ∙ sym (ap (map agent_row) f.whole ∙ map-append agent_row f.front ((agent, m) ∷ f.back))
+
+-- an agent written with the same list of signals
+pub roll_stays : (agent : ℕ) (es : List (ℕ × Member)) (signals : List (ℕ × Signal)) (next_agent next_signal : ℕ) (m now : Member) → IsRoll es signals next_agent next_signal → Found agent es m → now.signals.entries ≡ m.signals.entries → IsRoll (set_value (is_at (nat_cmp agent)) es now) signals next_agent next_signal
+roll_stays agent es signals next_agent next_signal m now is f same =
+    let B : ℕ × Member → Type 0 = λ e. e.0 < next_agent in
+    let L : ℕ × Member → Type 0 = λ e. keys_of e.1.signals.entries ≡ made_by e.0 signals in
+    let below = subst (AllByRecursion B) f.whole is.members_below in
+    let listed = subst (AllByRecursion L) f.whole is.listed in
+    let back = all_back L f.front ((agent, m) ∷ f.back) listed in
+    record {
+      members_ordered = rw (keys-set_value (is_at (nat_cmp agent)) es now) is.members_ordered;
+      signals_ordered = is.signals_ordered;
+      members_below = rw (f.set now) (all_append B f.front ((agent, now) ∷ f.back) (all_front B f.front ((agent, m) ∷ f.back) below) (all_back B f.front ((agent, m) ∷ f.back) below));
+      signals_below = is.signals_below;
+      owners_below = is.owners_below;
+      listed = rw (f.set now) (all_append L f.front ((agent, now) ∷ f.back) (all_front L f.front ((agent, m) ∷ f.back) listed) (ap keys_of same ∙ back.0, back.1));
+    }
+
+made_more : (agent owner number : ℕ) (reason : Option Reason) (signals : List (ℕ × Signal)) → made_by agent (signals ++ (number, record { agent = owner; reason = reason }) ∷ []) ≡ made_by agent signals ++ cond (owner == agent) (number ∷ []) []
+made_more agent owner number reason signals =
+    ap (λ l. map (λ (row : SignalRow). row.number) (signals_of agent l)) (map-append signal_row signals ((number, record { agent = owner; reason = reason }) ∷ []))
+    ∙ ap (map (λ (row : SignalRow). row.number)) (filter-append (λ (row : SignalRow). row.agent == agent) (map signal_row signals) (signal_row (number, record { agent = owner; reason = reason }) ∷ []))
+    ∙ map-append (λ (row : SignalRow). row.number) (signals_of agent (map signal_row signals)) (signals_of agent (signal_row (number, record { agent = owner; reason = reason }) ∷ []))
+    ∙ ap (λ l. made_by agent signals ++ l) (by (owner == agent))
+  where
+    by : (b : Bool) → map (λ (row : SignalRow). row.number) (cond b (signal_row (number, record { agent = owner; reason = reason }) ∷ []) []) ≡ cond b (number ∷ []) []
+    by true = refl
+    by false = refl
+
+made_below : (agent next : ℕ) (signals : List (ℕ × Signal)) → AllByRecursion (λ (e : ℕ × Signal). e.0 < next) signals → AllByRecursion (λ k. k < next) (made_by agent signals)
+made_below agent next [] all = tt
+made_below agent next (e ∷ signals) all = by (e.1.agent == agent) (made_below agent next signals all.1)
+  where
+    by : (b : Bool) → AllByRecursion (λ k. k < next) (made_by agent signals) → AllByRecursion (λ k. k < next) (map (λ (row : SignalRow). row.number) (cond b (signal_row e ∷ signals_of agent (map signal_row signals)) (signals_of agent (map signal_row signals))))
+    by true rest = (all.0, rest)
+    by false rest = rest
+
+keys_all : {X : Type 0} (P : ℕ → Type 0) (es : List (ℕ × X)) → AllByRecursion P (keys_of es) → AllByRecursion (λ (e : ℕ × X). P e.0) es
+keys_all P [] all = tt
+keys_all P (e ∷ es) all = (all.0, keys_all P es all.1)
+
+others_listed : (agent number : ℕ) (reason : Option Reason) (signals : List (ℕ × Signal)) (l : List (ℕ × Member)) → AllByRecursion (λ (e : ℕ × Member). (e.0 == agent) ≡ false) l → AllByRecursion (λ (e : ℕ × Member). keys_of e.1.signals.entries ≡ made_by e.0 signals) l
+    → AllByRecursion (λ (e : ℕ × Member). keys_of e.1.signals.entries ≡ made_by e.0 (signals ++ (number, record { agent = agent; reason = reason }) ∷ [])) l
+others_listed agent number reason signals [] apart all = tt
+others_listed agent number reason signals (e ∷ l) apart all =
+    let no : (agent == e.0) ≡ false = (let h = apart.0 in grind (arith, nat_tests, h)) in
+    (all.0 ∙ sym (made_more e.0 agent number reason signals ∙ ap (λ b. made_by e.0 signals ++ cond b (number ∷ []) []) no ∙ append-nil (made_by e.0 signals)), others_listed agent number reason signals l apart.1 all.1)
+
+pub signalled : (agent : ℕ) (es es' : List (ℕ × Member)) (signals signals' : List (ℕ × Signal)) (next_agent next_signal : ℕ) (m now : Member) → IsRoll es signals next_agent next_signal → Found agent es m → es' ≡ set_value (is_at (nat_cmp agent)) es now
+    → now.signals.entries ≡ insert_entry nat_cmp m.signals.entries next_signal tt → signals' ≡ insert_entry nat_cmp signals next_signal (record { agent = agent; reason = None }) → IsStrictlySortedBy nat_cmp (keys_of signals') → IsRoll es' signals' next_agent (next_signal + 1)
+signalled agent es es' signals signals' next_agent next_signal m now is f set listed_now more sorted =
+    let sig : Signal = record { agent = agent; reason = None } in
+    let last : signals' ≡ signals ++ (next_signal, sig) ∷ [] = more ∙ entry_last signals next_signal sig is.signals_below in
+    let B : ℕ × Member → Type 0 = λ e. e.0 < next_agent in
+    let L : ℕ × Member → Type 0 = λ e. keys_of e.1.signals.entries ≡ made_by e.0 signals in
+    let N : ℕ × Member → Type 0 = λ e. keys_of e.1.signals.entries ≡ made_by e.0 (signals ++ (next_signal, sig) ∷ []) in
+    let below = subst (AllByRecursion B) f.whole is.members_below in
+    let listed = subst (AllByRecursion L) f.whole is.listed in
+    let front = all_front L f.front ((agent, m) ∷ f.back) listed in
+    let back = all_back L f.front ((agent, m) ∷ f.back) listed in
+    let low : AllByRecursion (λ k. k < next_signal) (keys_of m.signals.entries) = rw back.0 (made_below agent next_signal signals is.signals_below) in
+    let mine : keys_of now.signals.entries ≡ made_by agent (signals ++ (next_signal, sig) ∷ []) =
+    ap keys_of (listed_now ∙ entry_last m.signals.entries next_signal tt (keys_all (λ k. k < next_signal) m.signals.entries low)) ∙ map-append (λ e. e.0) m.signals.entries ((next_signal, tt) ∷ []) ∙ ap (λ l. l ++ next_signal ∷ []) back.0
+    ∙ sym (made_more agent agent next_signal None signals ∙ ap (λ b. made_by agent signals ++ cond b (next_signal ∷ []) []) (number_same agent)) in
+    record {
+      members_ordered = rw (set, keys-set_value (is_at (nat_cmp agent)) es now) is.members_ordered;
+      signals_ordered = sorted;
+      members_below = rw (set, f.set now) (all_append B f.front ((agent, now) ∷ f.back) (all_front B f.front ((agent, m) ∷ f.back) below) (all_back B f.front ((agent, m) ∷ f.back) below));
+      signals_below = rw last (all_append (λ (e : ℕ × Signal). e.0 < next_signal + 1) signals ((next_signal, sig) ∷ []) (all_weaker (λ (e : ℕ × Signal). e.0 < next_signal) (λ e. e.0 < next_signal + 1) signals (λ e less. omega (arith, less)) is.signals_below) (omega arith, tt));
+      owners_below = rw last (all_append (λ (e : ℕ × Signal). e.1.agent < next_agent) signals ((next_signal, sig) ∷ []) is.owners_below ((all_back B f.front ((agent, m) ∷ f.back) below).0, tt));
+      listed = rw (last, set, f.set now) (all_append N f.front ((agent, now) ∷ f.back) (others_listed agent next_signal None signals f.front f.low front) (mine, others_listed agent next_signal None signals f.back f.high back.1));
+    }
+
+pub signal_rows : (signals signals' : List (ℕ × Signal)) (number : ℕ) (sig : Signal) → AllByRecursion (λ (e : ℕ × Signal). e.0 < number) signals → signals' ≡ insert_entry nat_cmp signals number sig → map signal_row signals' ≡ map signal_row signals ++ signal_row (number, sig) ∷ []
+signal_rows signals signals' number sig below set = ap (map signal_row) (set ∙ entry_last signals number sig below) ∙ map-append signal_row signals ((number, sig) ∷ [])
+
+pub some_at : {X : Type 0} (o : Option X) → is_some o ≡ true → (x : X) × (o ≡ Some x)
+some_at None h = absurd (cc)
+some_at (Some x) h = (x, refl)

@@ -104,6 +104,24 @@ impl IndexCore {
         Ok(())
     }
 
+    /// A new signal of the agent, not aborted. Its number is the answer. Refused: `NoSuchAgent`, `TooManySignals`
+    /// where the agent has made 1,024, `NumbersSpent`.
+    pub fn new_signal(&mut self, agent: u64) -> Result<u64, Refusal>
+        ensures made { IfOk result (λ signal. Gives self.old.state (Command.NewSignal agent) self.new.state (Reply.Signal signal) self.new.recent) }
+        ensures refused { IfErr result (λ r. r ≡ refused_or_memory (refusal self.old.state (Command.NewSignal agent))) }
+        ensures unchanged { OnErr result (self.new.state ≡ self.old.state) }
+        ensures no_changes { OnErr result (self.new.recent ≡ []) }
+    {
+        self.changes.clear();
+        if let Some(refusal) = self.signal_refusal(agent) {
+            return Err(refusal);
+        }
+        match self.owners.make_signal(agent) {
+            Ok(number) => Ok(number),
+            Err(_) => Err(Refusal::Memory),
+        }
+    }
+
     /// Marks a lock that is held and untaken as taken, whoever's it is: its agent is told of the grant.
     pub fn take(&mut self, id: u64) -> TakeAnswer
         ensures { Gives self.old.state (Command.Take id) self.new.state (Reply.Took result) self.new.recent }

@@ -1,6 +1,10 @@
 //! Agents and their signals, by number.
-ghost use Rattle.std.specs.Prelude.{◌≡◌, ℕ, ◌+◌, ◌≤◌, ◌<◌, ◌==◌, ◌&&◌, true, not, List, [], ◌∷◌, ◌++◌, map, length, OnOk, OnErr, IfOk, None, if◌then◌else◌};
+ghost use Rattle.std.specs.Prelude.{◌≡◌, ℕ, ◌+◌, ◌≤◌, ◌<◌, ◌==◌, ◌&&◌, true, not, List, [], ◌∷◌, ◌++◌, map, length, OnOk, OnErr, IfOk, IfSome, IsSome, None, if◌then◌else◌};
 ghost use Rattle.std.specs.List.{list_any};
+ghost use Rattle.std.specs.Map.{lookup, set_value};
+ghost use Rattle.std.specs.BTreeMap.{is_at, insert_entry};
+ghost use Rattle.std.specs.Ordering.{nat_cmp};
+ghost use Rattle.wl_index.specs.declared.owners.Member.{Member};
 ghost use Rattle.wl_machine.specs.Refusals.{is_window, reason_in, signals_of};
 ghost use Rattle.wl_machine.specs.Step.{with_active};
 
@@ -162,6 +166,39 @@ impl Owners {
         };
         member.active = active;
     }
+
+    /// A new signal of the agent, not aborted.
+    pub fn make_signal(&mut self, agent: u64) -> Result<u64, Memory>
+        requires low { self.old.next_signal < 9007199254740992 }
+        requires there { list_any (λ row. row.number == agent) self.old.agents ≡ true }
+        ensures number { IfOk result (λ n. n ≡ self.old.next_signal) }
+        ensures made { OnOk result (self.new ≡ record self.old { signals = self.old.signals ++ record { agent = agent; number = self.old.next_signal; reason = None } ∷ []; next_signal = self.old.next_signal + 1 }) }
+        ensures err { OnErr result (self.new ≡ self.old) }
+    {
+        let number = self.next_signal;
+        let signal = Signal {
+            agent,
+            reason: None,
+        };
+        self.signals.insert(number, signal)?;
+        let Ok(_) = add_signal(&mut self.members, agent, number) else {
+            self.signals.remove(&number);
+            return Err(Memory);
+        };
+        self.next_signal = number + 1;
+        Ok(number)
+    }
+}
+
+/// A signal comes to its agent's list.
+fn add_signal(members: &mut BTreeMap<u64, Member>, agent: u64, signal: u64) -> Result<(), Memory>
+    requires { IsSome (lookup (is_at (nat_cmp agent)) members.old.entries) }
+    ensures ok { OnOk result (IfSome (lookup (is_at (nat_cmp agent)) members.old.entries) (λ m. (now : Member) × (members.new.entries ≡ set_value (is_at (nat_cmp agent)) members.old.entries now) × (now.kind ≡ m.kind) × (now.active ≡ m.active) × (now.signals.entries ≡ insert_entry nat_cmp m.signals.entries signal tt))) }
+    ensures err { OnErr result (IfSome (lookup (is_at (nat_cmp agent)) members.old.entries) (λ m. (now : Member) × (members.new.entries ≡ set_value (is_at (nat_cmp agent)) members.old.entries now) × (now.kind ≡ m.kind) × (now.active ≡ m.active) × (now.signals.entries ≡ m.signals.entries))) }
+{
+    let member = members.get_mut(&agent).unwrap();
+    member.signals.insert(signal, ())?;
+    Ok(())
 }
 
 fn is_inactive(member: &Member) -> bool
