@@ -1,5 +1,5 @@
 //! One name in use.
-ghost use Rattle.std.specs.Prelude.{◌≡◌, ℕ, ◌<◌, List, [], ◌∷◌, OnOk, OnErr, slice_get, Some, None, false, true, ◌&&◌};
+ghost use Rattle.std.specs.Prelude.{map, ◌≡◌, ℕ, ◌<◌, List, [], ◌∷◌, OnOk, OnErr, slice_get, Some, None, false, true, ◌&&◌};
 ghost use Rattle.std.specs.List.{AllByRecursion};
 ghost use Rattle.wl_types.specs.declared.words.Mode.TheVariants.{Exclusive};
 ghost use Rattle.wl_machine.specs.Grants.{is_empty};
@@ -161,6 +161,14 @@ impl Line {
         }
         let (number, mode) = self.live.first_key_value()?;
         Some((*number, *mode))
+    }
+
+    /// The number of the first of the holders.
+    pub fn first_number(&self) -> Option<u64>
+        ensures { result ≡ slice_get (map (λ e. e.0) self.now.holders) 0 }
+    {
+        let (number, _) = self.first_holder()?;
+        Some(number)
     }
 
     /// A request that steals holds the name, which nobody holds.

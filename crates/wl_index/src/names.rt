@@ -1,13 +1,16 @@
 //! The names in use.
-ghost use Rattle.std.specs.Prelude.{◌≡◌, ℕ, ◌+◌, ◌≤◌, ◌<◌, true, false, List, [], ◌∷◌, ◌++◌, filter, not, ◌&&◌, length, vec_len, vec_capacity, IsSome, IfSome, OnOk, OnErr, IfOk, IfNone, Some, None};
+ghost use Rattle.std.specs.Prelude.{◌≡◌, ℕ, ◌+◌, ◌≤◌, ◌<◌, true, false, List, [], ◌∷◌, ◌++◌, filter, map, not, ◌&&◌, slice_get, length, vec_len, vec_capacity, IsSome, IfSome, OnOk, OnErr, IfOk, IfNone, Some, None};
 ghost use Rattle.std.specs.List.{AllByRecursion};
-ghost use Rattle.std.specs.Map.{lookup, set_value};
+ghost use Rattle.std.specs.Map.{lookup, set_value, keys_of};
 ghost use Rattle.std.specs.BTreeMap.{is_at};
 ghost use Rattle.std.specs.Ordering.{nat_cmp};
 ghost use Rattle.wl_machine.specs.declared.rows.HeldRow.{HeldRow};
 ghost use Rattle.wl_machine.specs.declared.rows.PendingRow.{PendingRow};
 ghost use Rattle.wl_machine.specs.Grants.{Lists, lists_of, settle_name, settle_names, in_use, is_empty, grants, locks, queue};
-ghost use Rattle.wl_machine.specs.Step.{with_name};
+ghost use Rattle.wl_machine.specs.Step.{with_name, lock_ends};
+ghost use Rattle.wl_types.specs.declared.phases.Phase.TheVariants.{Stolen};
+ghost use Rattle.std.specs.Str.{bytes_eq};
+ghost use Rattle.std.specs.List.Sorted.{IsStrictlySortedBy};
 ghost use Rattle.wl_index.specs.Rows.{other, held_of, pending_of, tags_of};
 ghost use Rattle.wl_index.specs.Lines.{Waiting, Matches, without, is_busy, with_one_more};
 ghost use Rattle.wl_index.specs.Names.{names_of, among, IsNames, Ready, Underway, Entered, IsBelow};
@@ -154,6 +157,7 @@ impl Names {
         ensures places { (n : ℕ) → AllByRecursion (λ e. e.0 < n) self.old → AllByRecursion (λ e. e.0 < n) self.new }
         ensures changes { changes.new.items ≡ changes.old.items ++ record { id = number; phase = phase } ∷ [] }
         ensures next { table.new.next ≡ table.old.next }
+        ensures ordered { IsStrictlySortedBy nat_cmp (keys_of table.new.entries) }
         ensures fewer { length table.new.entries + 1 ≡ length table.old.entries }
         ensures changes_len { vec_len changes.new ≡ vec_len changes.old + 1 }
         ensures touched_len { vec_len touched.new ≡ vec_len touched.old + 1 }
@@ -166,6 +170,49 @@ impl Names {
         push_in_room(touched, place);
         push_in_room(changes, Change { id: number, phase });
         request
+    }
+
+    /// The number of the first lock of a name.
+    fn first_holder(&self, table: &Table, name: &Name) -> Option<u64>
+        requires matched { AllByRecursion (λ e. Matches e.1 (held_of table.now.entries) (pending_of table.now.entries)) self.now }
+        requires known { (m : List ℕ) → among m (names_of self.now) ≡ false → locks m (held_of table.now.entries) ≡ [] }
+        ensures { result ≡ slice_get (map (λ lock. lock.number) (locks name.now (held_of table.now.entries))) 0 }
+    {
+        match self.uses.get(name.as_str()) {
+            Some(place) => self.lines.get(place).unwrap().first_number(),
+            None => None,
+        }
+    }
+
+    /// The locks of a name end: they are stolen.
+    fn oust(
+        &mut self,
+        name: &Name,
+        table: &mut Table,
+        changes: &mut Vec<Change>,
+        touched: &mut Vec<u64>,
+    )
+        requires ready { Ready self.old (held_of table.old.entries) (pending_of table.old.entries) touched.old.items }
+        requires ordered { IsStrictlySortedBy nat_cmp (keys_of table.old.entries) }
+        requires changes_room { vec_len changes.old + length table.old.entries ≤ vec_capacity changes.old }
+        requires touched_room { vec_len touched.old + length table.old.entries ≤ vec_capacity touched.old }
+        ensures held { held_of table.new.entries ≡ filter (λ lock. not (bytes_eq lock.name name.now)) (held_of table.old.entries) }
+        ensures gone { locks name.now (held_of table.new.entries) ≡ [] }
+        ensures pending { pending_of table.new.entries ≡ pending_of table.old.entries }
+        ensures changes { changes.new.items ≡ changes.old.items ++ lock_ends Stolen (locks name.now (held_of table.old.entries)) }
+        ensures ready { Ready self.new (held_of table.new.entries) (pending_of table.new.entries) touched.new.items }
+        ensures names { names_of self.new ≡ names_of self.old }
+        ensures places { (n : ℕ) → AllByRecursion (λ e. e.0 < n) self.old → AllByRecursion (λ e. e.0 < n) self.new }
+        ensures next { table.new.next ≡ table.old.next }
+        ensures ordered { IsStrictlySortedBy nat_cmp (keys_of table.new.entries) }
+        ensures changes_sum { vec_len changes.new + length table.new.entries ≡ vec_len changes.old + length table.old.entries }
+        ensures touched_sum { vec_len touched.new + length table.new.entries ≡ vec_len touched.old + length table.old.entries }
+        ensures changes_capacity { vec_capacity changes.old ≤ vec_capacity changes.new }
+        ensures touched_capacity { vec_capacity touched.old ≤ vec_capacity touched.new }
+    {
+        while let Some(number) = self.first_holder(table, name) {
+            self.end(number, Phase::Stolen, table, changes, touched);
+        }
     }
 
     /// Grants what the queue at this place grants. A name out of use leaves.

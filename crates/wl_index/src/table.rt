@@ -75,6 +75,7 @@ impl Table {
     pub fn len(&self) -> usize
         ensures entries { result ≡ length self.now.entries }
         ensures small { result < 2 ^ 63 }
+        ensures ordered { IsStrictlySortedBy nat_cmp (keys_of self.now.entries) }
         ensures live { result ≡ length (held_of self.now.entries) + length (pending_of self.now.entries) }
     {
         self.requests.len()
@@ -141,6 +142,7 @@ impl Table {
         ensures value { result ≡ lookup (is_at (nat_cmp number)) self.old.entries }
         ensures entries { self.new.entries ≡ filter (other number) self.old.entries }
         ensures ordered { IsStrictlySortedBy nat_cmp (keys_of self.old.entries) }
+        ensures still_ordered { IsStrictlySortedBy nat_cmp (keys_of self.new.entries) }
         ensures next { self.new.next ≡ self.old.next }
     {
         self.requests.remove(&number)
