@@ -88,3 +88,7 @@ pub record IsLine (live waits : List Numbered) (exclusive : Option ℕ) : Type 0
 abbrev pub holder_without : ℕ → Option ℕ → Option ℕ
 holder_without number None = None
 holder_without number (Some n) = if n == number then None else Some n
+
+-- held by a request that took it, which no longer waits
+abbrev pub seized : ℕ → Waiting → Waiting
+seized number w = record (without number w) { holders = (number, Exclusive) ∷ [] }

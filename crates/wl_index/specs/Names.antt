@@ -10,6 +10,7 @@ use Rattle.wl_machine.specs.declared.rows.PendingRow.{PendingRow}
 use Rattle.wl_machine.specs.Grants.{any_exclusive, grants, in_use, locks, queue, Lists, settle_names}
 use Rattle.wl_types.specs.declared.words.Mode.{Mode}
 use Rattle.std.specs.BTreeMap.{is_at}
+use Rattle.wl_types.specs.declared.words.Mode.TheVariants.{Exclusive}
 use Rattle.wl_machine.specs.Step.{with_name}
 use Rattle.wl_index.specs.Lines.{Waiting, Matches, with_one_more}
 
@@ -68,3 +69,10 @@ pub record Joined (old new : List Placed) (name : List ℕ) (place number : ℕ)
 pub record Entered (name : List ℕ) (place : ℕ) (old new : List Placed) (held : List HeldRow) (pending : List PendingRow) : Type 0 where
   pub ready : Ready new held pending (place ∷ [])
   pub names_more : names_of new ≡ with_name name (names_of old)
+
+-- one request of this number waits, for this name, and is exclusive
+pub record WaitsAlone (number : ℕ) (name : List ℕ) (pending : List PendingRow) : Type 0 where
+  pub row : PendingRow
+  pub only : filter (λ (request : PendingRow). request.number == number) pending ≡ row ∷ []
+  pub named : row.name ≡ name
+  pub mode : row.mode ≡ Exclusive

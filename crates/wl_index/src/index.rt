@@ -186,7 +186,7 @@ impl IndexCore {
         let number = self.names.enter(
             self.alloc,
             agent,
-            name,
+            &name,
             ask,
             &mut self.table,
             &mut self.touched,

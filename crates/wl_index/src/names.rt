@@ -1,19 +1,19 @@
 //! The names in use.
-ghost use Rattle.std.specs.Prelude.{◌≡◌, ℕ, ◌+◌, ◌≤◌, ◌<◌, true, false, List, [], ◌∷◌, ◌++◌, filter, map, not, ◌&&◌, slice_get, length, vec_len, vec_capacity, IsSome, IfSome, OnOk, OnErr, IfOk, IfNone, Some, None};
+ghost use Rattle.std.specs.Prelude.{◌≡◌, ℕ, ◌+◌, ◌≤◌, ◌<◌, ◌==◌, true, false, List, [], ◌∷◌, ◌++◌, filter, map, not, ◌&&◌, slice_get, length, vec_len, vec_capacity, IsSome, IfSome, OnOk, OnErr, IfOk, IfNone, Some, None};
 ghost use Rattle.std.specs.List.{AllByRecursion};
 ghost use Rattle.std.specs.Map.{lookup, set_value, keys_of};
 ghost use Rattle.std.specs.BTreeMap.{is_at};
 ghost use Rattle.std.specs.Ordering.{nat_cmp};
 ghost use Rattle.wl_machine.specs.declared.rows.HeldRow.{HeldRow};
 ghost use Rattle.wl_machine.specs.declared.rows.PendingRow.{PendingRow};
-ghost use Rattle.wl_machine.specs.Grants.{Lists, lists_of, settle_name, settle_names, in_use, is_empty, grants, locks, queue};
+ghost use Rattle.wl_machine.specs.Grants.{Lists, lists_of, settle_name, settle_names, in_use, is_empty, grants, locks, queue, granted_lock};
 ghost use Rattle.wl_machine.specs.Step.{with_name, lock_ends};
 ghost use Rattle.wl_types.specs.declared.phases.Phase.TheVariants.{Stolen};
 ghost use Rattle.std.specs.Str.{bytes_eq};
 ghost use Rattle.std.specs.List.Sorted.{IsStrictlySortedBy};
 ghost use Rattle.wl_index.specs.Rows.{other, held_of, pending_of, tags_of};
-ghost use Rattle.wl_index.specs.Lines.{Waiting, Matches, without, is_busy, with_one_more};
-ghost use Rattle.wl_index.specs.Names.{names_of, among, IsNames, Ready, Underway, Entered, IsBelow};
+ghost use Rattle.wl_index.specs.Lines.{Waiting, Matches, without, is_busy, with_one_more, seized};
+ghost use Rattle.wl_index.specs.Names.{names_of, among, IsNames, Ready, Underway, Entered, IsBelow, WaitsAlone};
 
 use crate::line::Line;
 use crate::room::push_in_room;
@@ -106,7 +106,7 @@ impl Names {
         &mut self,
         alloc: Global,
         agent: u64,
-        name: Name,
+        name: &Name,
         ask: &Ask,
         table: &mut Table,
         touched: &mut Vec<u64>,
@@ -117,9 +117,9 @@ impl Names {
         requires none { touched.old.items ≡ [] }
         requires room { vec_len touched.old < vec_capacity touched.old }
         ensures number { IfOk result (λ n. n ≡ table.old.next) }
-        ensures entries { OnOk result (table.new.entries ≡ table.old.entries ++ (table.old.next, record { agent = agent; name = name; mode = ask.now.mode; signal = ask.now.signal; stage = Stage.Pending }) ∷ []) }
+        ensures entries { OnOk result (table.new.entries ≡ table.old.entries ++ (table.old.next, record { agent = agent; name = name.now; mode = ask.now.mode; signal = ask.now.signal; stage = Stage.Pending }) ∷ []) }
         ensures ready { OnOk result (Ready self.new (held_of table.new.entries) (pending_of table.new.entries) touched.new.items) }
-        ensures names { OnOk result (names_of self.new ≡ with_name name (names_of self.old)) }
+        ensures names { OnOk result (names_of self.new ≡ with_name name.now (names_of self.old)) }
         ensures places { OnOk result (AllByRecursion (λ e. e.0 < table.new.next) self.new) }
         ensures next { OnOk result (table.new.next ≡ table.old.next + 1) }
         ensures unchanged { OnErr result (self.new ≡ self.old) }
@@ -128,8 +128,8 @@ impl Names {
         ensures capacity { vec_capacity touched.old ≤ vec_capacity touched.new }
     {
         let copy = name.copy(alloc)?;
-        let number = table.push(agent, name, ask.mode, ask.signal)?;
-        let Ok(place) = self.join(alloc, &copy, number, ask.mode) else {
+        let number = table.push(agent, copy, ask.mode, ask.signal)?;
+        let Ok(place) = self.join(alloc, name, number, ask.mode) else {
             table.retract(number);
             return Err(Memory);
         };
@@ -215,6 +215,28 @@ impl Names {
         }
     }
 
+    /// An exclusive request that waits takes a name that nobody holds, before all others.
+    fn seize(&mut self, name: &Name, number: u64, table: &mut Table, touched: &mut Vec<u64>)
+        requires ready { Ready self.old (held_of table.old.entries) (pending_of table.old.entries) touched.old.items }
+        requires ordered { IsStrictlySortedBy nat_cmp (keys_of table.old.entries) }
+        requires gone { locks name.now (held_of table.old.entries) ≡ [] }
+        requires waits { WaitsAlone number name.now (pending_of table.old.entries) }
+        requires room { vec_len touched.old < vec_capacity touched.old }
+        ensures held { held_of table.new.entries ≡ held_of table.old.entries ++ map granted_lock (filter (λ (request : PendingRow). request.number == number) (pending_of table.old.entries)) }
+        ensures pending { pending_of table.new.entries ≡ filter (λ (request : PendingRow). not (request.number == number)) (pending_of table.old.entries) }
+        ensures ready { Ready self.new (held_of table.new.entries) (pending_of table.new.entries) touched.new.items }
+        ensures names { names_of self.new ≡ names_of self.old }
+        ensures places { (n : ℕ) → AllByRecursion (λ e. e.0 < n) self.old → AllByRecursion (λ e. e.0 < n) self.new }
+        ensures next { table.new.next ≡ table.old.next }
+        ensures tags { tags_of table.new.entries ≡ tags_of table.old.entries }
+        ensures capacity { vec_capacity touched.old ≤ vec_capacity touched.new }
+    {
+        let place = *self.uses.get(name.as_str()).unwrap();
+        seize_at(&mut self.lines, place, number);
+        table.grant(number);
+        push_in_room(touched, place);
+    }
+
     /// Grants what the queue at this place grants. A name out of use leaves.
     fn settle_at(&mut self, place: u64, table: &mut Table, changes: &mut Vec<Change>)
         requires matched { AllByRecursion (λ e. Matches e.1 (held_of table.old.entries) (pending_of table.old.entries)) self.old }
@@ -289,4 +311,15 @@ fn push_at(
 {
     let line = lines.get_mut(&place).unwrap();
     line.push(number, mode)
+}
+
+/// A request takes a line that nobody holds.
+fn seize_at(lines: &mut BTreeMap<u64, Line>, place: u64, number: u64)
+    requires there { IsSome (lookup (is_at (nat_cmp place)) lines.old.entries) }
+    requires gone { IfSome (lookup (is_at (nat_cmp place)) lines.old.entries) (λ w. w.holders ≡ []) }
+    ensures { IfSome (lookup (is_at (nat_cmp place)) lines.old.entries) (λ w. lines.new.entries ≡ set_value (is_at (nat_cmp place)) lines.old.entries (seized number w)) }
+{
+    let line = lines.get_mut(&place).unwrap();
+    line.remove(number);
+    line.seize(number);
 }

@@ -19,8 +19,8 @@ pub join-requires-clause-below : goal.join-requires-clause-below
 join-requires-clause-below c =
     let es = c.args.table.now.entries in
     let next = c.args.table.now.next in
-    let e : Entry = entry_now next c.args.agent c.args.name c.args.ask.now.mode c.args.ask.now.signal in
-    let pushed : c.push.new.self.entries ≡ es ++ e ∷ [] = c.in_ok-number.ensures.entries in
+    let e : Entry = entry_now next c.args.agent c.args.name.now c.args.ask.now.mode c.args.ask.now.signal in
+    let pushed : c.push.new.self.entries ≡ es ++ e ∷ [] = c.in_ok-number.ensures.entries ∙ ap (λ n. es ++ entry_now next c.args.agent n c.args.ask.now.mode c.args.ask.now.signal ∷ []) c.in_ok-copy.ensures in
     let number : c.in_ok-number.number ≡ next = c.in_ok-number.ensures.number in
     subst (λ n. AllByRecursion (λ (x : Placed). IsBelow n x.1) c.args.self.now) (sym number) (lines_below next es c.args.self.now c.in_ok-number.ensures.below c.requires.ready.matched)
 
@@ -28,8 +28,8 @@ pub retract-requires-clause-waits : goal.retract-requires-clause-waits
 retract-requires-clause-waits c =
     let es = c.args.table.now.entries in
     let next = c.args.table.now.next in
-    let e : Entry = entry_now next c.args.agent c.args.name c.args.ask.now.mode c.args.ask.now.signal in
-    let pushed : c.push.new.self.entries ≡ es ++ e ∷ [] = c.in_ok-number.ensures.entries in
+    let e : Entry = entry_now next c.args.agent c.args.name.now c.args.ask.now.mode c.args.ask.now.signal in
+    let pushed : c.push.new.self.entries ≡ es ++ e ∷ [] = c.in_ok-number.ensures.entries ∙ ap (λ n. es ++ entry_now next c.args.agent n c.args.ask.now.mode c.args.ask.now.signal ∷ []) c.in_ok-copy.ensures in
     let number : c.in_ok-number.number ≡ next = c.in_ok-number.ensures.number in
     (e.1, subst (λ n. lookup (is_at (nat_cmp n)) c.push.new.self.entries ≡ Some e.1) (sym number) (ap (lookup (is_at (nat_cmp next))) pushed ∙ last_there es e c.in_ok-number.ensures.below), refl)
 
@@ -37,8 +37,8 @@ pub returns-in_default-clause-table : goal.returns-in_default-clause-table
 returns-in_default-clause-table c =
     let es = c.args.table.now.entries in
     let next = c.args.table.now.next in
-    let e : Entry = entry_now next c.args.agent c.args.name c.args.ask.now.mode c.args.ask.now.signal in
-    let pushed : c.push.new.self.entries ≡ es ++ e ∷ [] = c.in_ok-number.ensures.entries in
+    let e : Entry = entry_now next c.args.agent c.args.name.now c.args.ask.now.mode c.args.ask.now.signal in
+    let pushed : c.push.new.self.entries ≡ es ++ e ∷ [] = c.in_ok-number.ensures.entries ∙ ap (λ n. es ++ entry_now next c.args.agent n c.args.ask.now.mode c.args.ask.now.signal ∷ []) c.in_ok-copy.ensures in
     let number : c.in_ok-number.number ≡ next = c.in_ok-number.ensures.number in
     c.retract.ensures ∙ rows_same c.args.table.now (filter (other c.in_ok-number.number) c.push.new.self.entries) c.in_ok-number.number (ap (λ n. filter (other n) c.push.new.self.entries) number ∙ ap (filter (other next)) pushed ∙ last_gone es e c.in_ok-number.ensures.below) number
 
@@ -46,12 +46,11 @@ pub returns-clause-ready : goal.returns-clause-ready
 returns-clause-ready c =
     let es = c.args.table.now.entries in
     let next = c.args.table.now.next in
-    let e : Entry = entry_now next c.args.agent c.args.name c.args.ask.now.mode c.args.ask.now.signal in
-    let pushed : c.push.new.self.entries ≡ es ++ e ∷ [] = c.in_ok-number.ensures.entries in
+    let e : Entry = entry_now next c.args.agent c.args.name.now c.args.ask.now.mode c.args.ask.now.signal in
+    let pushed : c.push.new.self.entries ≡ es ++ e ∷ [] = c.in_ok-number.ensures.entries ∙ ap (λ n. es ++ entry_now next c.args.agent n c.args.ask.now.mode c.args.ask.now.signal ∷ []) c.in_ok-copy.ensures in
     let number : c.in_ok-number.number ≡ next = c.in_ok-number.ensures.number in
     let r : PendingRow = request_row e in
-    let copied : c.in_ok-copy.copy ≡ c.args.name = c.in_ok-copy.ensures in
-    let done : Entered c.in_ok-copy.copy c.in-Ok.place c.args.self.now c.join.new.self (held_of es) (pending_of es ++ r ∷ []) = c.in-Ok.ensures.entered (held_of es) (pending_of es) r (sym copied) (sym number) refl c.requires.ready in
+    let done : Entered c.args.name.now c.in-Ok.place c.args.self.now c.join.new.self (held_of es) (pending_of es ++ r ∷ []) = c.in-Ok.ensures.entered (held_of es) (pending_of es) r refl (sym number) refl c.requires.ready in
     let h : held_of c.push.new.self.entries ≡ held_of es = ap held_of pushed ∙ held_more es next e.1 refl in
     let p : pending_of c.push.new.self.entries ≡ pending_of es ++ r ∷ [] = ap pending_of pushed ∙ pending_more es next e.1 refl in
     let t : c.push_in_room.new.items.items ≡ c.in-Ok.place ∷ [] = c.push_in_room.ensures.items ∙ ap (λ l. l ++ c.in-Ok.place ∷ []) c.requires.none in
@@ -61,19 +60,18 @@ pub returns-clause-names : goal.returns-clause-names
 returns-clause-names c =
     let es = c.args.table.now.entries in
     let next = c.args.table.now.next in
-    let e : Entry = entry_now next c.args.agent c.args.name c.args.ask.now.mode c.args.ask.now.signal in
-    let pushed : c.push.new.self.entries ≡ es ++ e ∷ [] = c.in_ok-number.ensures.entries in
+    let e : Entry = entry_now next c.args.agent c.args.name.now c.args.ask.now.mode c.args.ask.now.signal in
+    let pushed : c.push.new.self.entries ≡ es ++ e ∷ [] = c.in_ok-number.ensures.entries ∙ ap (λ n. es ++ entry_now next c.args.agent n c.args.ask.now.mode c.args.ask.now.signal ∷ []) c.in_ok-copy.ensures in
     let number : c.in_ok-number.number ≡ next = c.in_ok-number.ensures.number in
     let r : PendingRow = request_row e in
-    let copied : c.in_ok-copy.copy ≡ c.args.name = c.in_ok-copy.ensures in
-    let done : Entered c.in_ok-copy.copy c.in-Ok.place c.args.self.now c.join.new.self (held_of es) (pending_of es ++ r ∷ []) = c.in-Ok.ensures.entered (held_of es) (pending_of es) r (sym copied) (sym number) refl c.requires.ready in
-    done.names_more ∙ ap (λ n. with_name n (names_of c.args.self.now)) copied
+    let done : Entered c.args.name.now c.in-Ok.place c.args.self.now c.join.new.self (held_of es) (pending_of es ++ r ∷ []) = c.in-Ok.ensures.entered (held_of es) (pending_of es) r refl (sym number) refl c.requires.ready in
+    done.names_more
 
 pub returns-clause-places : goal.returns-clause-places
 returns-clause-places c =
     let es = c.args.table.now.entries in
     let next = c.args.table.now.next in
-    let e : Entry = entry_now next c.args.agent c.args.name c.args.ask.now.mode c.args.ask.now.signal in
-    let pushed : c.push.new.self.entries ≡ es ++ e ∷ [] = c.in_ok-number.ensures.entries in
+    let e : Entry = entry_now next c.args.agent c.args.name.now c.args.ask.now.mode c.args.ask.now.signal in
+    let pushed : c.push.new.self.entries ≡ es ++ e ∷ [] = c.in_ok-number.ensures.entries ∙ ap (λ n. es ++ entry_now next c.args.agent n c.args.ask.now.mode c.args.ask.now.signal ∷ []) c.in_ok-copy.ensures in
     let number : c.in_ok-number.number ≡ next = c.in_ok-number.ensures.number in
     subst (λ n. AllByRecursion (λ (x : Placed). x.0 < n) c.join.new.self) (ap (λ n. n + 1) number ∙ sym c.in_ok-number.ensures.next) c.in-Ok.ensures.places
