@@ -31,7 +31,7 @@ use Rattle.wl_index.specs.Rows.{Entry, other, stamp_of, waiting, holding, reques
 use Rattle.wl_index.specs.Stamps.{by_stamp, by_stamp_all}
 use Rattle.wl_index.specs.Lines.{Numbered, Waiting, Matches, admits, with_one_more, number_and_mode, lock_and_mode}
 use Rattle.wl_index.specs.Names.{Placed, names_of, among, has_place, is_touched, IsNames, Ready, Joined, Entered, IsBelow}
-use Rattle.wl_index.proofs.Lists.{all_append, all_front, all_back, all_filter, all_weaker}
+use Rattle.wl_index.proofs.Lists.{all_append, all_front, all_back, all_filter, all_weaker, filter_none, filter_whole}
 use Rattle.wl_index.proofs.Entries.{same_number, number_same, set_same}
 use Rattle.wl_index.proofs.Placed.{At, at_line, at_place, remove_apart, name_found, written_names, written_is}
 use Rattle.wl_index.proofs.Used.{in_use_same}
@@ -266,3 +266,11 @@ last_there (x ∷ es) e below = let no : (x.0 == e.0) ≡ false = (let less = be
 pub last_gone : (es : List Entry) (e : Entry) → AllByRecursion (λ (x : Entry). x.0 < e.0) es → filter (other e.0) (es ++ e ∷ []) ≡ es
 last_gone [] e below = rw (number_same e.0) refl
 last_gone (x ∷ es) e below = let no : (x.0 == e.0) ≡ false = (let less = below.0 in grind (arith, nat_tests, less)) in rw no (ap (λ l. x ∷ l) (last_gone es e below.1))
+
+-- the last request is the only one of its number
+pub last_waits : (es : List Entry) (r : PendingRow) → AllByRecursion (λ (x : Entry). x.0 < r.number) es
+    → (filter (λ (q : PendingRow). q.number == r.number) (pending_of es ++ r ∷ []) ≡ r ∷ []) × (filter (λ (q : PendingRow). not (q.number == r.number)) (pending_of es ++ r ∷ []) ≡ pending_of es)
+last_waits es r below =
+    let apart : AllByRecursion (λ (q : PendingRow). (q.number == r.number) ≡ false) (pending_of es) = all_map (λ (q : PendingRow). (q.number == r.number) ≡ false) request_row (filter waiting es) (all_filter (λ (x : Entry). (x.0 == r.number) ≡ false) waiting es (all_weaker (λ (x : Entry). x.0 < r.number) (λ x. (x.0 == r.number) ≡ false) es (λ x less. grind (arith, nat_tests, less)) below)) in
+    (filter-append (λ (q : PendingRow). q.number == r.number) (pending_of es) (r ∷ []) ∙ rw (filter_none (λ (q : PendingRow). q.number == r.number) (pending_of es) apart, number_same r.number) refl,
+    filter-append (λ (q : PendingRow). not (q.number == r.number)) (pending_of es) (r ∷ []) ∙ rw (filter_whole (λ (q : PendingRow). not (q.number == r.number)) (pending_of es) (all_weaker (λ (q : PendingRow). (q.number == r.number) ≡ false) (λ q. not (q.number == r.number) ≡ true) (pending_of es) (λ q no. rw no refl) apart), number_same r.number) (append-nil (pending_of es)))

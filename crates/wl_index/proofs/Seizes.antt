@@ -1,5 +1,5 @@
 -- A request that steals takes its name.
-use Rattle.std.proofs.Common.{◌≡◌, ℕ, ◌==◌, ◌+◌, Bool, true, false, cond, List, [], ◌∷◌, ◌++◌, length, map, refl, ap, subst, sym, ◌∙◌, append-nil}
+use Rattle.std.proofs.Common.{◌≡◌, ℕ, ◌==◌, ◌+◌, Bool, true, false, cond, List, [], ◌∷◌, ◌++◌, length, map, refl, ap, subst, sym, ◌∙◌, append-nil, arith}
 use Rattle.std.specs.Prelude.{not, ◌||◌, filter, Option, Some, None}
 use Rattle.std.specs.Str.{bytes_eq}
 use Rattle.std.specs.List.{list_any, AllByRecursion}
@@ -14,6 +14,7 @@ use Rattle.wl_machine.specs.declared.rows.HeldRow.{HeldRow}
 use Rattle.wl_machine.specs.declared.rows.PendingRow.{PendingRow}
 use Rattle.wl_machine.specs.Grants.{any_exclusive, granted_lock, locks, queue}
 use Rattle.wl_machine.proofs.Lists.{same_bytes}
+use Rattle.wl_core.proofs.Moves.{length-filter-not}
 use Rattle.wl_index.specs.declared.table.Request.{Request}
 use Rattle.wl_index.specs.declared.table.Stage.TheVariants.{Pending}
 use Rattle.wl_index.specs.Rows.{Entry, request_row, held_of, pending_of}
@@ -97,3 +98,11 @@ line_free name place lines held pending a all gone =
     let M : Placed → Type 0 = λ e. Matches e.1 held pending in
     let mine = (all_back M a.split.front ((place, a.line) ∷ a.split.back) (subst (AllByRecursion M) a.split.whole all)).0 in
     mine.holders ∙ ap (λ n. map lock_and_mode (locks n held)) a.named ∙ ap (map lock_and_mode) gone
+
+-- one waits no more
+pub fewer_wait : (number : ℕ) (pending pending' : List PendingRow) (r : Request) (es : List Entry) → filter (is_request number) pending ≡ request_row (number, r) ∷ [] → pending' ≡ filter (λ (request : PendingRow). not (request.number == number)) pending → length pending' + 1 ≡ length pending
+fewer_wait number pending pending' r es only rest =
+    let both = length-filter-not (is_request number) pending in
+    let one : length (filter (is_request number) pending) ≡ 1 = ap length only in
+    let left = ap length rest in
+    omega (arith, both, one, left)

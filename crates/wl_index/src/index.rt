@@ -196,6 +196,66 @@ impl IndexCore {
         Ok(number)
     }
 
+    /// A request with `steal` that nothing refuses. All that can fail comes first.
+    fn steal(&mut self, agent: u64, ask: &Ask) -> Result<u64, Memory>
+        requires accepted { refusal self.old.state (Command.Request agent ask.now) ≡ None }
+        requires no_changes { self.old.recent ≡ [] }
+        requires steal { ask.now.steal ≡ true }
+        ensures admitted { IfOk result (λ id. Gives self.old.state (Command.Request agent ask.now) self.new.state (Reply.Request id) self.new.recent) }
+        ensures unchanged { OnErr result (self.new ≡ self.old) }
+    {
+        let name = match Name::of(self.alloc, ask.name.as_str()) {
+            Ok(name) => name,
+            Err(_) => return Err(Memory),
+        };
+        let live = self.table.len();
+        self.changes.reserve(live + 1)?;
+        self.touched.reserve(live + 2)?;
+        let number = self.names.enter(
+            self.alloc,
+            agent,
+            &name,
+            ask,
+            &mut self.table,
+            &mut self.touched,
+        )?;
+        self.names.steal(
+            &name,
+            number,
+            &mut self.table,
+            &mut self.changes,
+            &mut self.touched,
+        );
+        self.names
+            .settle(&mut self.table, &mut self.changes, &mut self.touched);
+        Ok(number)
+    }
+
+    /// Asks for a lock. The number of the request is the answer, also where it is unavailable at once; `changes`
+    /// tells what became of it, and of others. Refused: `NoSuchAgent`, `InvalidState`, those of `Ask::check`,
+    /// `NoSuchSignal`, `SignalAborted`, `NameTooLong`, `TooManyRequests` where 65,536 are live (a steal and one with
+    /// `if_available` too), `NumbersSpent`.
+    pub fn request(&mut self, agent: u64, ask: &Ask) -> Result<u64, Refusal>
+        ensures requested { IfOk result (λ id. Gives self.old.state (Command.Request agent ask.now) self.new.state (Reply.Request id) self.new.recent) }
+        ensures refused { IfErr result (λ r. r ≡ refused_or_memory (refusal self.old.state (Command.Request agent ask.now))) }
+        ensures unchanged { OnErr result (self.new.state ≡ self.old.state) }
+        ensures no_changes { OnErr result (self.new.recent ≡ []) }
+    {
+        self.changes.clear();
+        if let Some(refusal) = self.request_refusal(agent, ask) {
+            return Err(refusal);
+        }
+        let admitted = if ask.steal {
+            self.steal(agent, ask)
+        } else {
+            self.admit(agent, ask)
+        };
+        match admitted {
+            Ok(number) => Ok(number),
+            Err(_) => Err(Refusal::Memory),
+        }
+    }
+
     /// The changes of the last call on `&mut self`: the ends, and then the grants, each in the machine's order. They
     /// are no part of the state.
     pub fn changes(&self) -> &[Change]

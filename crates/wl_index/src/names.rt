@@ -8,7 +8,7 @@ ghost use Rattle.wl_machine.specs.declared.rows.HeldRow.{HeldRow};
 ghost use Rattle.wl_machine.specs.declared.rows.PendingRow.{PendingRow};
 ghost use Rattle.wl_machine.specs.Grants.{Lists, lists_of, settle_name, settle_names, in_use, is_empty, grants, locks, queue, granted_lock};
 ghost use Rattle.wl_machine.specs.Step.{with_name, lock_ends};
-ghost use Rattle.wl_types.specs.declared.phases.Phase.TheVariants.{Stolen};
+ghost use Rattle.wl_types.specs.declared.phases.Phase.TheVariants.{Stolen, Granted};
 ghost use Rattle.std.specs.Str.{bytes_eq};
 ghost use Rattle.std.specs.List.Sorted.{IsStrictlySortedBy};
 ghost use Rattle.wl_index.specs.Rows.{other, held_of, pending_of, tags_of};
@@ -118,6 +118,10 @@ impl Names {
         requires room { vec_len touched.old < vec_capacity touched.old }
         ensures number { IfOk result (λ n. n ≡ table.old.next) }
         ensures entries { OnOk result (table.new.entries ≡ table.old.entries ++ (table.old.next, record { agent = agent; name = name.now; mode = ask.now.mode; signal = ask.now.signal; stage = Stage.Pending }) ∷ []) }
+        ensures ordered { OnOk result (IsStrictlySortedBy nat_cmp (keys_of table.new.entries)) }
+        ensures only { OnOk result (filter (λ (request : PendingRow). request.number == table.old.next) (pending_of table.new.entries) ≡ record { number = table.old.next; agent = agent; name = name.now; mode = ask.now.mode; signal = ask.now.signal } ∷ []) }
+        ensures others { OnOk result (filter (λ (request : PendingRow). not (request.number == table.old.next)) (pending_of table.new.entries) ≡ pending_of table.old.entries) }
+        ensures len { OnOk result (vec_len touched.new ≡ vec_len touched.old + 1) }
         ensures ready { OnOk result (Ready self.new (held_of table.new.entries) (pending_of table.new.entries) touched.new.items) }
         ensures names { OnOk result (names_of self.new ≡ with_name name.now (names_of self.old)) }
         ensures places { OnOk result (AllByRecursion (λ e. e.0 < table.new.next) self.new) }
@@ -205,6 +209,7 @@ impl Names {
         ensures places { (n : ℕ) → AllByRecursion (λ e. e.0 < n) self.old → AllByRecursion (λ e. e.0 < n) self.new }
         ensures next { table.new.next ≡ table.old.next }
         ensures ordered { IsStrictlySortedBy nat_cmp (keys_of table.new.entries) }
+        ensures fewer { length table.new.entries ≤ length table.old.entries }
         ensures changes_sum { vec_len changes.new + length table.new.entries ≡ vec_len changes.old + length table.old.entries }
         ensures touched_sum { vec_len touched.new + length table.new.entries ≡ vec_len touched.old + length table.old.entries }
         ensures changes_capacity { vec_capacity changes.old ≤ vec_capacity changes.new }
@@ -235,6 +240,38 @@ impl Names {
         seize_at(&mut self.lines, place, number);
         table.grant(number);
         push_in_room(touched, place);
+    }
+
+    /// A request that steals, and waits, takes its name from the holders.
+    pub(crate) fn steal(
+        &mut self,
+        name: &Name,
+        number: u64,
+        table: &mut Table,
+        changes: &mut Vec<Change>,
+        touched: &mut Vec<u64>,
+    )
+        requires ready { Ready self.old (held_of table.old.entries) (pending_of table.old.entries) touched.old.items }
+        requires ordered { IsStrictlySortedBy nat_cmp (keys_of table.old.entries) }
+        requires waits { WaitsAlone number name.now (pending_of table.old.entries) }
+        requires changes_room { vec_len changes.old + length table.old.entries ≤ vec_capacity changes.old }
+        requires touched_room { vec_len touched.old + length table.old.entries ≤ vec_capacity touched.old }
+        ensures held { held_of table.new.entries ≡ filter (λ lock. not (bytes_eq lock.name name.now)) (held_of table.old.entries) ++ map granted_lock (filter (λ (request : PendingRow). request.number == number) (pending_of table.old.entries)) }
+        ensures pending { pending_of table.new.entries ≡ filter (λ (request : PendingRow). not (request.number == number)) (pending_of table.old.entries) }
+        ensures changes { changes.new.items ≡ (changes.old.items ++ lock_ends Stolen (locks name.now (held_of table.old.entries))) ++ record { id = number; phase = Granted } ∷ [] }
+        ensures ready { Ready self.new (held_of table.new.entries) (pending_of table.new.entries) touched.new.items }
+        ensures names { names_of self.new ≡ names_of self.old }
+        ensures places { (n : ℕ) → AllByRecursion (λ e. e.0 < n) self.old → AllByRecursion (λ e. e.0 < n) self.new }
+        ensures next { table.new.next ≡ table.old.next }
+        ensures fewer { length table.new.entries ≤ length table.old.entries }
+        ensures room { vec_len changes.new + length (pending_of table.new.entries) ≤ vec_capacity changes.new }
+        ensures changes_capacity { vec_capacity changes.old ≤ vec_capacity changes.new }
+        ensures touched_capacity { vec_capacity touched.old ≤ vec_capacity touched.new }
+    {
+        self.oust(name, table, changes, touched);
+        self.seize(name, number, table, touched);
+        let phase = Phase::Granted;
+        push_in_room(changes, Change { id: number, phase });
     }
 
     /// Grants what the queue at this place grants. A name out of use leaves.

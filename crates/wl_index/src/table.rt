@@ -100,6 +100,7 @@ impl Table {
         ensures number { IfOk result (λ n. n ≡ self.old.next) }
         ensures below { AllByRecursion (λ e. e.0 < self.old.next) self.old.entries }
         ensures entries { OnOk result (self.new.entries ≡ self.old.entries ++ (self.old.next, record { agent = agent; name = name; mode = mode; signal = signal; stage = Stage.Pending }) ∷ []) }
+        ensures ordered { OnOk result (IsStrictlySortedBy nat_cmp (keys_of self.new.entries)) }
         ensures next { OnOk result (self.new.next ≡ self.old.next + 1) }
         ensures err { OnErr result (self.new ≡ self.old) }
     {

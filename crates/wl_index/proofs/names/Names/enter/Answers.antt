@@ -1,5 +1,5 @@
-use Rattle.std.proofs.Common.{◌≡◌, ◌∙◌, ◌+◌, ◌<◌, ◌∷◌, ◌++◌, [], List, ap, subst, sym, refl, nat_cmp, Some, None, rules}
-use Rattle.std.specs.Prelude.{filter, ℕ}
+use Rattle.std.proofs.Common.{◌≡◌, ◌∙◌, ◌+◌, ◌==◌, ◌<◌, ◌∷◌, ◌++◌, [], List, ap, subst, sym, refl, nat_cmp, Some, None, rules}
+use Rattle.std.specs.Prelude.{filter, not, ℕ}
 use Rattle.wl_machine.specs.Step.{with_name}
 use Rattle.std.specs.List.{AllByRecursion}
 use Rattle.std.specs.Map.{lookup}
@@ -8,8 +8,8 @@ use Rattle.wl_machine.specs.declared.rows.PendingRow.{PendingRow}
 use Rattle.wl_index.specs.declared.table.Stage.TheVariants.{Pending}
 use Rattle.wl_index.specs.Rows.{Entry, Rows, other, request_row, held_of, pending_of}
 use Rattle.wl_index.specs.Names.{Placed, Ready, Entered, IsBelow, names_of}
-use Rattle.wl_index.proofs.Entries.{held_more, pending_more}
-use Rattle.wl_index.proofs.Joins.{entry_now, last_there, last_gone, lines_below}
+use Rattle.wl_index.proofs.Entries.{is_request, held_more, pending_more}
+use Rattle.wl_index.proofs.Joins.{entry_now, last_there, last_gone, last_waits, lines_below}
 use Rattle.wl_index.proofs.names.Names.enter.Goals as goal
 
 rows_same : (rows : Rows) (es : List Entry) (n : ℕ) → es ≡ rows.entries → n ≡ rows.next → record { entries = es; next = n } ≡ rows
@@ -75,3 +75,23 @@ returns-clause-places c =
     let pushed : c.push.new.self.entries ≡ es ++ e ∷ [] = c.in_ok-number.ensures.entries ∙ ap (λ n. es ++ entry_now next c.args.agent n c.args.ask.now.mode c.args.ask.now.signal ∷ []) c.in_ok-copy.ensures in
     let number : c.in_ok-number.number ≡ next = c.in_ok-number.ensures.number in
     subst (λ n. AllByRecursion (λ (x : Placed). x.0 < n) c.join.new.self) (ap (λ n. n + 1) number ∙ sym c.in_ok-number.ensures.next) c.in-Ok.ensures.places
+
+pub returns-clause-only : goal.returns-clause-only
+returns-clause-only c =
+    let es = c.args.table.now.entries in
+    let next = c.args.table.now.next in
+    let e : Entry = entry_now next c.args.agent c.args.name.now c.args.ask.now.mode c.args.ask.now.signal in
+    let pushed : c.push.new.self.entries ≡ es ++ e ∷ [] = c.in_ok-number.ensures.entries ∙ ap (λ n. es ++ entry_now next c.args.agent n c.args.ask.now.mode c.args.ask.now.signal ∷ []) c.in_ok-copy.ensures in
+    let number : c.in_ok-number.number ≡ next = c.in_ok-number.ensures.number in
+    let p : pending_of c.push.new.self.entries ≡ pending_of es ++ request_row e ∷ [] = ap pending_of pushed ∙ pending_more es next e.1 refl in
+    ap (filter (is_request next)) p ∙ (last_waits es (request_row e) c.in_ok-number.ensures.below).0
+
+pub returns-clause-others : goal.returns-clause-others
+returns-clause-others c =
+    let es = c.args.table.now.entries in
+    let next = c.args.table.now.next in
+    let e : Entry = entry_now next c.args.agent c.args.name.now c.args.ask.now.mode c.args.ask.now.signal in
+    let pushed : c.push.new.self.entries ≡ es ++ e ∷ [] = c.in_ok-number.ensures.entries ∙ ap (λ n. es ++ entry_now next c.args.agent n c.args.ask.now.mode c.args.ask.now.signal ∷ []) c.in_ok-copy.ensures in
+    let number : c.in_ok-number.number ≡ next = c.in_ok-number.ensures.number in
+    let p : pending_of c.push.new.self.entries ≡ pending_of es ++ request_row e ∷ [] = ap pending_of pushed ∙ pending_more es next e.1 refl in
+    ap (filter (λ (request : PendingRow). not (request.number == next))) p ∙ (last_waits es (request_row e) c.in_ok-number.ensures.below).1

@@ -45,6 +45,7 @@ loop-number-preserved c =
       names = c.end.ensures.names ∙ l.invariant.names;
       places = λ n below. c.end.ensures.places n (l.invariant.places n below);
       next = c.end.ensures.next ∙ l.invariant.next;
+      fewer = (let less = l.invariant.fewer in omega (arith, fewer, less));
       changes_sum = omega (arith, fewer, changes_len, changes_sum);
       touched_sum = omega (arith, fewer, touched_len, touched_sum);
       changes_capacity = omega (arith, one, three);

@@ -22,6 +22,7 @@ invariant-loop-number l = record {
   names : names_of l.self ≡ names_of l.fn.self;
   places : (n : ℕ) → AllByRecursion (λ e. e.0 < n) l.fn.self → AllByRecursion (λ e. e.0 < n) l.self;
   next : l.table.next ≡ l.fn.table.next;
+  fewer : length l.table.entries ≤ length l.fn.table.entries;
   changes_sum : vec_len l.changes + length l.table.entries ≡ vec_len l.fn.changes + length l.fn.table.entries;
   touched_sum : vec_len l.touched + length l.table.entries ≡ vec_len l.fn.touched + length l.fn.table.entries;
   changes_capacity : vec_capacity l.fn.changes ≤ vec_capacity l.changes;
