@@ -1,10 +1,9 @@
 -- A request or a lock ends: what its line, and the names, then say.
 use Rattle.std.proofs.Common.{◌≡◌, ℕ, suc, ◌+◌, ◌==◌, Bool, true, false, cond, List, [], ◌∷◌, ◌++◌, length, map, refl, ap, subst, sym, ◌∙◌, arith}
-use Rattle.std.specs.Prelude.{not, ◌&&◌, ◌||◌, filter, Option, Some, None}
+use Rattle.std.specs.Prelude.{not, ◌&&◌, ◌||◌, filter, Option, Some}
 use Rattle.std.specs.Str.{bytes_eq}
 use Rattle.std.specs.List.{list_any, AllByRecursion}
-use Rattle.std.specs.List.Sorted.{IsStrictlySortedBy}
-use Rattle.std.specs.Map.{keys_of, lookup, set_value}
+use Rattle.std.specs.Map.{set_value}
 use Rattle.std.specs.BTreeMap.{is_at}
 use Rattle.std.specs.Ordering.{nat_cmp}
 use Rattle.std.specs.Option.{IsSome}
@@ -14,18 +13,16 @@ use Rattle.std.proofs.lemmas.List.{map-append, length-append}
 use Rattle.std.proofs.lemmas.List.Elements.{filter-append}
 use Rattle.wl_machine.specs.declared.rows.HeldRow.{HeldRow}
 use Rattle.wl_machine.specs.declared.rows.PendingRow.{PendingRow}
-use Rattle.wl_machine.specs.Grants.{is_exclusive, any_exclusive, grants, in_use, locks, queue}
+use Rattle.wl_machine.specs.Grants.{is_exclusive, any_exclusive, in_use, locks, queue}
 use Rattle.wl_machine.proofs.Lists.{or_false, other_bytes, same_bytes, any_filter, filters_commute}
 use Rattle.wl_index.specs.declared.table.Request.{Request}
-use Rattle.wl_index.specs.declared.table.Stage.{Stage}
-use Rattle.wl_index.specs.declared.table.Stage.TheVariants.{Pending, Held}
 use Rattle.wl_index.specs.Stamps.{by_stamp, by_stamp_all}
-use Rattle.wl_index.specs.Rows.{Entry, other, waits, holds, waiting, holding, stamp_of, request_row, lock_row, held_of, pending_of}
+use Rattle.wl_index.specs.Rows.{Entry, other, waiting, holding, stamp_of, request_row, lock_row, held_of, pending_of}
 use Rattle.wl_index.specs.Lines.{Waiting, Matches, without, other_than, number_and_mode, lock_and_mode}
 use Rattle.wl_index.specs.Names.{Placed, names_of, among, has_place, is_touched, IsNames, Ready}
-use Rattle.wl_index.proofs.Lists.{filter_map, filter_whole, all_weaker, all_append, all_front, all_back, all_filter, filter_passed}
-use Rattle.wl_index.proofs.Entries.{Found, found, number_same, pending_filter, held_filter, live_count}
-use Rattle.wl_index.proofs.Placed.{At, at_place, name_found, written_names, written_is, matches_other}
+use Rattle.wl_index.proofs.Lists.{filter_map, filter_whole, all_weaker, all_append, all_front, all_back, all_filter}
+use Rattle.wl_index.proofs.Entries.{Found, number_same, pending_filter, held_filter, live_count}
+use Rattle.wl_index.proofs.Placed.{At, at_place, name_found, written_names, written_is}
 use Rattle.wl_index.proofs.Used.{in_use_same}
 
 abbrev pub other_lock : ℕ → HeldRow → Bool

@@ -26,7 +26,7 @@ use Rattle.wl_index.specs.declared.table.Request.{Request}
 use Rattle.wl_index.specs.declared.table.Stage.{Stage}
 use Rattle.wl_index.specs.declared.table.Stage.TheVariants.{Pending, Held}
 use Rattle.wl_index.specs.Stamps.{place, by_stamp, by_stamp_last, by_stamp_all, filter_by_stamp}
-use Rattle.wl_index.specs.Rows.{Entry, Apart, Tag, tag, tags_of, other, is_fresh, taken_stage, waits, holds, stamp, waiting, holding, stamp_of, request_row, lock_row, pending_of, held_of, IsTable, IsLock}
+use Rattle.wl_index.specs.Rows.{Entry, Apart, tag, tags_of, other, is_fresh, taken_stage, waits, holds, stamp, waiting, holding, stamp_of, request_row, lock_row, pending_of, held_of, IsTable, IsLock}
 use Rattle.wl_index.proofs.Lists.{filter_map, filter_like, filter_swap, filter_whole, filter_none, filter_passed, all_filter, all_weaker, all_append, all_front, all_back, any_map, any_by_stamp, map_by_stamp}
 
 pub same_number : (id k : ℕ) → is_at (nat_cmp id) k ≡ (k == id)

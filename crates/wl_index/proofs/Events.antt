@@ -1,5 +1,5 @@
 -- The machine's steps, where all queues were processed.
-use Rattle.std.proofs.Common.{◌≡◌, ℕ, ◌∙◌, true, false, List, [], ◌∷◌, ◌++◌, ap, subst, sym, refl}
+use Rattle.std.proofs.Common.{◌≡◌, ℕ, ◌∙◌, true, false, List, [], ◌∷◌, ◌++◌, ap, refl}
 use Rattle.std.specs.Prelude.{filter, not, ◌&&◌, None}
 use Rattle.std.specs.List.{list_any}
 use Rattle.wl_types.specs.declared.phases.Change.{Change}

@@ -1,7 +1,7 @@
 -- A request comes to the end of its name's queue: what the lines, and the names, then say.
-use Rattle.std.proofs.Common.{◌≡◌, ℕ, ◌+◌, ◌<◌, ◌==◌, Bool, true, false, cond, List, [], ◌∷◌, ◌++◌, length, map, refl, ap, subst, sym, ◌∙◌, append-nil, arith}
+use Rattle.std.proofs.Common.{◌≡◌, ℕ, ◌+◌, ◌<◌, ◌==◌, Bool, true, false, cond, List, [], ◌∷◌, ◌++◌, map, refl, ap, subst, sym, ◌∙◌, append-nil, arith}
 use Rattle.std.specs.Prelude.{not, ◌&&◌, ◌||◌, filter, Option, Some, None}
-use Rattle.std.specs.Option.{unwrap_or, IsSome}
+use Rattle.std.specs.Option.{IsSome}
 use Rattle.std.specs.Result.{OnErr}
 use Rattle.std.specs.declared.result.Result.{Result}
 use Rattle.std.specs.declared.result.Result.TheVariants.{Ok, Err}
@@ -10,9 +10,8 @@ use Rattle.std.specs.Str.{bytes_eq}
 use Rattle.std.specs.List.{list_any, AllByRecursion}
 use Rattle.std.specs.List.Sorted.{IsStrictlySortedBy}
 use Rattle.std.specs.Map.{keys_of, lookup, set_value, remove_entry}
-use Rattle.std.specs.BTreeMap.{is_at, insert_entry}
+use Rattle.std.specs.BTreeMap.{is_at}
 use Rattle.std.specs.Ordering.{nat_cmp}
-use Rattle.std.specs.Cmp.Lexicographic.{same_text}
 use Rattle.std.proofs.lemmas.Bool.Decides.{nat_tests}
 use Rattle.std.proofs.lemmas.List.Folds.{list_any-append}
 use Rattle.std.proofs.lemmas.List.{map-append}
@@ -20,8 +19,7 @@ use Rattle.std.proofs.lemmas.List.Elements.{filter-append}
 use Rattle.wl_types.specs.declared.words.Mode.{Mode}
 use Rattle.wl_machine.specs.declared.rows.HeldRow.{HeldRow}
 use Rattle.wl_machine.specs.declared.rows.PendingRow.{PendingRow}
-use Rattle.wl_machine.specs.Grants.{is_exclusive, is_empty, any_exclusive, grants, in_use, locks, queue, Lists}
-use Rattle.wl_machine.specs.Step.{with_name}
+use Rattle.wl_machine.specs.Grants.{is_exclusive, is_empty, grants, in_use, locks, queue}
 use Rattle.wl_machine.specs.Laws.{is_grantable}
 use Rattle.wl_machine.proofs.InTurn.{in_turn}
 use Rattle.wl_index.proofs.Settling.{admits_grantable, empty_map}
@@ -33,7 +31,7 @@ use Rattle.wl_index.specs.Lines.{Numbered, Waiting, Matches, admits, with_one_mo
 use Rattle.wl_index.specs.Names.{Placed, names_of, among, has_place, is_touched, IsNames, Ready, Joined, Entered, IsBelow}
 use Rattle.wl_index.proofs.Lists.{all_append, all_front, all_back, all_filter, all_weaker, filter_none, filter_whole}
 use Rattle.wl_index.proofs.Entries.{same_number, number_same, set_same}
-use Rattle.wl_index.proofs.Placed.{At, at_line, at_place, remove_apart, name_found, written_names, written_is}
+use Rattle.wl_index.proofs.Placed.{At, at_line, at_place, remove_apart, name_found, written_names}
 use Rattle.wl_index.proofs.Used.{in_use_same}
 use Rattle.wl_index.proofs.Ends.{Differ, one_touched}
 
@@ -271,6 +269,7 @@ last_gone (x ∷ es) e below = let no : (x.0 == e.0) ≡ false = (let less = bel
 pub last_waits : (es : List Entry) (r : PendingRow) → AllByRecursion (λ (x : Entry). x.0 < r.number) es
     → (filter (λ (q : PendingRow). q.number == r.number) (pending_of es ++ r ∷ []) ≡ r ∷ []) × (filter (λ (q : PendingRow). not (q.number == r.number)) (pending_of es ++ r ∷ []) ≡ pending_of es)
 last_waits es r below =
-    let apart : AllByRecursion (λ (q : PendingRow). (q.number == r.number) ≡ false) (pending_of es) = all_map (λ (q : PendingRow). (q.number == r.number) ≡ false) request_row (filter waiting es) (all_filter (λ (x : Entry). (x.0 == r.number) ≡ false) waiting es (all_weaker (λ (x : Entry). x.0 < r.number) (λ x. (x.0 == r.number) ≡ false) es (λ x less. grind (arith, nat_tests, less)) below)) in
-    (filter-append (λ (q : PendingRow). q.number == r.number) (pending_of es) (r ∷ []) ∙ rw (filter_none (λ (q : PendingRow). q.number == r.number) (pending_of es) apart, number_same r.number) refl,
-    filter-append (λ (q : PendingRow). not (q.number == r.number)) (pending_of es) (r ∷ []) ∙ rw (filter_whole (λ (q : PendingRow). not (q.number == r.number)) (pending_of es) (all_weaker (λ (q : PendingRow). (q.number == r.number) ≡ false) (λ q. not (q.number == r.number) ≡ true) (pending_of es) (λ q no. rw no refl) apart), number_same r.number) (append-nil (pending_of es)))
+    let apart : AllByRecursion (λ (q : PendingRow). (q.number == r.number) ≡ false) (pending_of es) = all_map (λ (q : PendingRow). (q.number == r.number) ≡ false) request_row (filter waiting es) (all_filter (λ (x : Entry). (x.0 == r.number) ≡ false) waiting es (all_weaker (λ (x : Entry). x.0 < r.number) (λ x. (x.0 == r.number) ≡ false) es (λ x less. grind (arith, nat_tests, less)) below)) in (
+      filter-append (λ (q : PendingRow). q.number == r.number) (pending_of es) (r ∷ []) ∙ rw (filter_none (λ (q : PendingRow). q.number == r.number) (pending_of es) apart, number_same r.number) refl,
+      filter-append (λ (q : PendingRow). not (q.number == r.number)) (pending_of es) (r ∷ []) ∙ rw (filter_whole (λ (q : PendingRow). not (q.number == r.number)) (pending_of es) (all_weaker (λ (q : PendingRow). (q.number == r.number) ≡ false) (λ q. not (q.number == r.number) ≡ true) (pending_of es) (λ q no. rw no refl) apart), number_same r.number) (append-nil (pending_of es)),
+    )

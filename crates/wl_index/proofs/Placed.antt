@@ -1,7 +1,7 @@
 -- Lines by the number that brought their name into use: one line written, or removed.
-use Rattle.std.proofs.Common.{◌≡◌, ℕ, ◌≤◌, ◌==◌, Bool, true, false, cond, List, [], ◌∷◌, ◌++◌, suc, length, map, refl, ap, subst, sym, ◌∙◌, arith}
+use Rattle.std.proofs.Common.{◌≡◌, ℕ, ◌==◌, Bool, true, false, cond, List, [], ◌∷◌, ◌++◌, map, refl, ap, subst, sym, ◌∙◌}
 use Rattle.std.specs.Prelude.{not, ◌||◌, ◌&&◌, filter, Option, Some, None}
-use Rattle.std.specs.Option.{unwrap_or, IsSome, IfSome, option_copied}
+use Rattle.std.specs.Option.{unwrap_or, IsSome, option_copied}
 use Rattle.std.proofs.Common.{Bor}
 use Rattle.std.specs.Str.{bytes_eq}
 use Rattle.std.specs.List.{list_any, AllByRecursion}
@@ -10,10 +10,8 @@ use Rattle.std.specs.Map.{keys_of, lookup, set_value, remove_entry}
 use Rattle.std.specs.BTreeMap.{is_at}
 use Rattle.std.specs.Ordering.{nat_cmp}
 use Rattle.std.specs.Cmp.Lexicographic.{same_text}
-use Rattle.std.proofs.lemmas.Bool.Decides.{nat_tests}
 use Rattle.std.proofs.lemmas.Option.{none-some}
 use Rattle.std.proofs.lemmas.List.{map-append}
-use Rattle.std.proofs.lemmas.List.Elements.{filter-append}
 use Rattle.std.proofs.lemmas.List.Folds.{list_any-append}
 use Rattle.std.proofs.lemmas.Map.{keys-set_value}
 use Rattle.std.proofs.lemmas.Map.Keys.{sorted_head, sorted_tail}
@@ -24,7 +22,7 @@ use Rattle.wl_index.specs.Lines.{Waiting, Matches, is_busy, number_and_mode, loc
 use Rattle.wl_index.specs.Names.{names_of, among, IsNames}
 use Rattle.wl_index.proofs.Lists.{all_append, all_front, all_back}
 use Rattle.wl_index.proofs.Entries.{Found, found, same_number, number_same, above_apart}
-use Rattle.wl_machine.proofs.Lists.{same_bytes, other_bytes}
+use Rattle.wl_machine.proofs.Lists.{other_bytes}
 use Rattle.wl_index.proofs.Used.{settle_locks_other, settle_queue_other}
 
 abbrev pub NameAt : Type 0

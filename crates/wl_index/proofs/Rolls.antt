@@ -1,6 +1,6 @@
 -- Agents and signals by number: what a look-up, a write or one more means for the machine's lists.
 use Rattle.std.proofs.Common.{◌≡◌, ℕ, suc, ◌+◌, ◌<◌, ◌==◌, Bool, true, false, cond, List, [], ◌∷◌, ◌++◌, length, map, refl, ap, subst, sym, ◌∙◌, arith, append-nil}
-use Rattle.std.specs.Prelude.{filter, not, ◌&&◌, ◌||◌, Option, Some, None, is_some}
+use Rattle.std.specs.Prelude.{not, ◌&&◌, ◌||◌, Option, Some, None, is_some}
 use Rattle.std.specs.Option.{IsSome}
 use Rattle.std.specs.List.{list_any, AllByRecursion}
 use Rattle.std.specs.List.Sorted.{IsStrictlySortedBy}
@@ -21,7 +21,7 @@ use Rattle.wl_machine.specs.Step.{with_active}
 use Rattle.wl_index.specs.declared.owners.Member.{Member}
 use Rattle.wl_index.specs.declared.owners.Signal.{Signal}
 use Rattle.wl_index.specs.Roll.{agent_row, signal_row, made_by, IsRoll, at_some, reason_at}
-use Rattle.wl_index.proofs.Lists.{any_map, filter_map, filter_none, all_append, all_front, all_back, all_weaker}
+use Rattle.wl_index.proofs.Lists.{any_map, all_append, all_front, all_back, all_weaker}
 use Rattle.wl_index.proofs.Entries.{Found, found, entry_last, same_number, number_same, above_apart}
 
 -- ---- a look-up

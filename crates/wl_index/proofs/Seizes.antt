@@ -1,27 +1,26 @@
 -- A request that steals takes its name.
 use Rattle.std.proofs.Common.{◌≡◌, ℕ, ◌==◌, ◌+◌, Bool, true, false, cond, List, [], ◌∷◌, ◌++◌, length, map, refl, ap, subst, sym, ◌∙◌, append-nil, arith}
-use Rattle.std.specs.Prelude.{not, ◌||◌, filter, Option, Some, None}
+use Rattle.std.specs.Prelude.{not, ◌||◌, filter, Option, Some}
 use Rattle.std.specs.Str.{bytes_eq}
 use Rattle.std.specs.List.{list_any, AllByRecursion}
 use Rattle.std.specs.List.Sorted.{IsStrictlySortedBy}
 use Rattle.std.specs.Map.{keys_of, lookup, set_value}
 use Rattle.std.specs.BTreeMap.{is_at}
 use Rattle.std.specs.Ordering.{nat_cmp}
-use Rattle.std.proofs.lemmas.List.{map-append}
 use Rattle.std.proofs.lemmas.List.Elements.{filter-append}
 use Rattle.wl_types.specs.declared.words.Mode.TheVariants.{Exclusive}
 use Rattle.wl_machine.specs.declared.rows.HeldRow.{HeldRow}
 use Rattle.wl_machine.specs.declared.rows.PendingRow.{PendingRow}
-use Rattle.wl_machine.specs.Grants.{any_exclusive, granted_lock, locks, queue}
+use Rattle.wl_machine.specs.Grants.{granted_lock, locks, queue}
 use Rattle.wl_machine.proofs.Lists.{same_bytes}
 use Rattle.wl_core.proofs.Moves.{length-filter-not}
 use Rattle.wl_index.specs.declared.table.Request.{Request}
 use Rattle.wl_index.specs.declared.table.Stage.TheVariants.{Pending}
 use Rattle.wl_index.specs.Rows.{Entry, request_row, held_of, pending_of}
-use Rattle.wl_index.specs.Lines.{Waiting, Matches, number_and_mode, lock_and_mode, seized}
+use Rattle.wl_index.specs.Lines.{Matches, number_and_mode, lock_and_mode, seized}
 use Rattle.wl_index.specs.Names.{Placed, IsNames, Ready, WaitsAlone, names_of}
 use Rattle.wl_index.proofs.Lists.{all_back}
-use Rattle.wl_index.proofs.Entries.{Found, found, is_request, pending_there, pending_one}
+use Rattle.wl_index.proofs.Entries.{found, is_request, pending_there, pending_one}
 use Rattle.wl_index.proofs.Placed.{At, written_names, written_is}
 use Rattle.wl_index.proofs.Ends.{Differ, one_touched, queue_apart, without_matches}
 

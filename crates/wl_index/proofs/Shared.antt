@@ -1,7 +1,7 @@
 -- A line's live requests: the sharers in front, and those that wait.
-use Rattle.std.proofs.Common.{◌≡◌, ℕ, suc, ◌+◌, ◌-◌, ◌<◌, ◌≤◌, ◌==◌, Bool, true, false, cond, List, [], ◌∷◌, ◌++◌, length, take, refl, ap, subst, sym, ◌∙◌, arith, append-nil, append_assoc}
-use Rattle.std.specs.Prelude.{filter, not, ◌||◌, ◌&&◌, Option, Some, None, is_some, slice_get, IfSome, IsSome, ◌↔◌}
-use Rattle.std.specs.List.{list_any, AllByRecursion}
+use Rattle.std.proofs.Common.{◌≡◌, ℕ, ◌+◌, ◌-◌, ◌<◌, ◌==◌, Bool, true, false, cond, List, [], ◌∷◌, ◌++◌, length, take, refl, ap, subst, sym, ◌∙◌, arith, append_assoc}
+use Rattle.std.specs.Prelude.{filter, not, ◌&&◌, Option, Some, None, is_some, slice_get, IfSome, IsSome, ◌↔◌}
+use Rattle.std.specs.List.{AllByRecursion}
 use Rattle.std.specs.List.Sorted.{IsStrictlySortedBy}
 use Rattle.std.specs.Map.{keys_of, remove_entry}
 use Rattle.std.specs.BTreeMap.{is_at, insert_entry}
@@ -14,8 +14,8 @@ use Rattle.std.proofs.lemmas.Bool.Decides.{nat_tests}
 use Rattle.wl_types.specs.declared.words.Mode.{Mode}
 use Rattle.wl_types.specs.declared.words.Mode.TheVariants.{Exclusive}
 use Rattle.wl_machine.specs.Grants.{is_exclusive, is_empty}
-use Rattle.wl_index.specs.Lines.{Numbered, Waiting, excludes, admits, other_than, without, with_one_more, holders_of, holder_without, after_grant, without_admitted, IsLine}
-use Rattle.wl_index.proofs.Lists.{all_append, all_filter, filter_whole}
+use Rattle.wl_index.specs.Lines.{Numbered, Waiting, excludes, admits, other_than, holders_of, holder_without, after_grant, without_admitted, IsLine}
+use Rattle.wl_index.proofs.Lists.{all_append, all_filter}
 use Rattle.wl_index.proofs.Entries.{removed_at, entry_last}
 
 -- the first of them are those in front

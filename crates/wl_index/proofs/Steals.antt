@@ -1,14 +1,13 @@
 -- A steal is settled at its own name alone.
-use Rattle.std.proofs.Common.{◌≡◌, ℕ, Bool, true, false, cond, List, [], ◌∷◌, ◌++◌, length, map, refl, ap, subst, sym, ◌∙◌, append-nil}
+use Rattle.std.proofs.Common.{◌≡◌, ℕ, Bool, true, false, cond, List, [], ◌∷◌, ◌++◌, refl, ap, subst, sym, ◌∙◌, append-nil}
 use Rattle.std.specs.Prelude.{not, ◌&&◌, ◌||◌, filter, Option, Some, None, is_some, nat_le}
 use Rattle.std.specs.Str.{bytes_eq}
-use Rattle.std.specs.List.{list_any, AllByRecursion}
+use Rattle.std.specs.List.{AllByRecursion}
 use Rattle.std.specs.Cmp.Lexicographic.{same_text}
 use Rattle.std.proofs.lemmas.List.Elements.{filter-append}
 use Rattle.std.proofs.lemmas.List.Folds.{list_any-append}
 use Rattle.wl_types.specs.declared.words.Mode.{Mode}
 use Rattle.wl_types.specs.declared.words.Mode.TheVariants.{Exclusive, Shared}
-use Rattle.wl_types.specs.declared.phases.Change.{Change}
 use Rattle.wl_types.specs.declared.phases.Phase.TheVariants.{Stolen}
 use Rattle.wl_types.specs.declared.refusal.Refusal.{Refusal}
 use Rattle.wl_types.specs.declared.refusal.Refusal.TheVariants.{StealShared, InvalidState, NameTooLong, TooManyRequests, NumbersSpent, ReservedName, StealIfAvailable, SignalCombined}
@@ -22,7 +21,7 @@ use Rattle.wl_machine.specs.declared.command.Command.TheVariants as command
 use Rattle.wl_machine.specs.declared.command.Reply.TheVariants as reply
 use Rattle.wl_machine.specs.State.{State}
 use Rattle.wl_machine.specs.Refusals.{refusal, known_agent, is_inactive, unknown_signal, aborted_signal, live_count, spent}
-use Rattle.wl_machine.specs.Grants.{is_exclusive, any_exclusive, grants, locks, queue, granted_lock, grant_change, Lists, lists_of, settle_name, settle_names}
+use Rattle.wl_machine.specs.Grants.{any_exclusive, grants, locks, queue, granted_lock, grant_change, Lists, lists_of, settle_name, settle_names}
 use Rattle.wl_machine.specs.Step.{Gives, with_name, new_request, steal_locks, lock_ends}
 use Rattle.wl_machine.proofs.Quiet.{quiet, grants_behind}
 use Rattle.wl_machine.proofs.Lists.{same_bytes, other_bytes}

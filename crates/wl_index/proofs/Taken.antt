@@ -1,5 +1,5 @@
 -- A taken flag plays no part in what a core keeps.
-use Rattle.std.proofs.Common.{◌≡◌, ℕ, suc, Bool, true, false, cond, List, [], ◌∷◌, length, map, refl, ap, sym, ◌∙◌}
+use Rattle.std.proofs.Common.{◌≡◌, ℕ, suc, Bool, true, false, List, [], ◌∷◌, length, map, refl, ap, sym, ◌∙◌}
 use Rattle.std.specs.Prelude.{not, ◌||◌, ◌&&◌, ◌==◌}
 use Rattle.std.specs.Str.{bytes_eq}
 use Rattle.std.specs.List.{list_any, AllByRecursion}
@@ -11,7 +11,7 @@ use Rattle.wl_machine.specs.declared.command.Reply.TheVariants as reply
 use Rattle.wl_types.specs.declared.answers.TakeAnswer.TheVariants as took
 use Rattle.wl_machine.specs.State.{State}
 use Rattle.wl_machine.specs.Step.{Gives, is_untaken, with_taken}
-use Rattle.wl_index.specs.Lines.{Waiting, Matches, lock_and_mode}
+use Rattle.wl_index.specs.Lines.{Matches, lock_and_mode}
 use Rattle.wl_index.specs.Names.{Placed, has_place, Ready}
 use Rattle.wl_index.proofs.Lists.{filter_map, filter_like}
 

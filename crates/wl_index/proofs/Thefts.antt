@@ -1,6 +1,6 @@
 -- The locks of a name end, one after the other.
-use Rattle.std.proofs.Common.{◌≡◌, ℕ, ◌==◌, Bool, true, false, cond, List, [], ◌∷◌, ◌++◌, length, map, refl, ap, subst, sym, ◌∙◌}
-use Rattle.std.specs.Prelude.{not, ◌&&◌, ◌||◌, filter, Option, Some, None, slice_get}
+use Rattle.std.proofs.Common.{◌≡◌, ℕ, ◌==◌, Bool, true, false, cond, List, [], ◌∷◌, map, refl, ap, subst, sym, ◌∙◌}
+use Rattle.std.specs.Prelude.{not, ◌||◌, filter, Option, Some, None, slice_get}
 use Rattle.std.specs.Str.{bytes_eq}
 use Rattle.std.specs.List.{list_any, AllByRecursion}
 use Rattle.std.specs.List.Sorted.{IsStrictlySortedBy}
@@ -9,16 +9,14 @@ use Rattle.std.specs.BTreeMap.{is_at}
 use Rattle.std.specs.Ordering.{nat_cmp}
 use Rattle.std.proofs.lemmas.Map.Keys.{sorted_head, sorted_tail}
 use Rattle.std.proofs.lemmas.List.Elements.{filter-append}
-use Rattle.wl_types.specs.declared.phases.Change.{Change}
 use Rattle.wl_types.specs.declared.phases.Phase.TheVariants.{Stolen}
 use Rattle.wl_machine.specs.declared.rows.HeldRow.{HeldRow}
-use Rattle.wl_machine.specs.declared.rows.PendingRow.{PendingRow}
-use Rattle.wl_machine.specs.Grants.{locks, queue}
-use Rattle.wl_machine.specs.Step.{lock_ends, is_lock_of}
+use Rattle.wl_machine.specs.Grants.{locks}
+use Rattle.wl_machine.specs.Step.{lock_ends}
 use Rattle.wl_index.specs.declared.table.Request.{Request}
 use Rattle.wl_index.specs.Stamps.{by_stamp}
-use Rattle.wl_index.specs.Rows.{Entry, IsLock, other, holds, holding, stamp_of, lock_row, held_of, pending_of}
-use Rattle.wl_index.proofs.Lists.{filter_swap, filter_out, filter_none, all_weaker, any_map, any_by_stamp}
+use Rattle.wl_index.specs.Rows.{Entry, other, holds, holding, stamp_of, lock_row, held_of, pending_of}
+use Rattle.wl_index.proofs.Lists.{filter_swap, filter_out, filter_none, any_map, any_by_stamp}
 use Rattle.wl_index.proofs.Entries.{Found, found, same_number, number_same, above_apart, held_filter, lock_there, lock_at, lock_is}
 use Rattle.wl_index.proofs.Ends.{other_lock, held_without}
 

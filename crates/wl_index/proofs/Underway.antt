@@ -1,10 +1,10 @@
 -- Settling the touched places, one after the other, settles all names.
-use Rattle.std.proofs.Common.{◌≡◌, ℕ, ◌<◌, ◌≤◌, ◌==◌, Bool, true, false, cond, List, [], ◌∷◌, ◌++◌, length, map, refl, ap, subst, sym, ◌∙◌, arith}
-use Rattle.std.specs.Prelude.{not, ◌&&◌, ◌||◌, filter, Option, Some, None}
+use Rattle.std.proofs.Common.{◌≡◌, ℕ, ◌<◌, ◌≤◌, ◌==◌, Bool, true, false, List, [], ◌∷◌, ◌++◌, refl, ap, subst, sym, ◌∙◌, arith}
+use Rattle.std.specs.Prelude.{◌&&◌, ◌||◌, filter, Option, Some}
 use Rattle.std.specs.Str.{bytes_eq}
-use Rattle.std.specs.List.{list_any, AllByRecursion}
+use Rattle.std.specs.List.{AllByRecursion}
 use Rattle.std.specs.List.Sorted.{IsStrictlySortedBy}
-use Rattle.std.specs.Map.{keys_of, lookup, set_value, remove_entry}
+use Rattle.std.specs.Map.{keys_of, set_value, remove_entry}
 use Rattle.std.specs.BTreeMap.{is_at}
 use Rattle.std.specs.Ordering.{nat_cmp}
 use Rattle.std.specs.Option.{unwrap_or}
@@ -12,19 +12,17 @@ use Rattle.std.specs.Cmp.Lexicographic.{same_text}
 use Rattle.std.specs.declared.cmp.Ordering.TheVariants.{Less}
 use Rattle.std.proofs.lemmas.Bool.Decides.{nat_tests}
 use Rattle.std.proofs.lemmas.Map.Keys.{sorted_head, sorted_tail}
-use Rattle.std.proofs.lemmas.Option.{none-some}
 use Rattle.std.proofs.lemmas.List.{map-append}
 use Rattle.std.proofs.lemmas.List.Elements.{filter-append}
 use Rattle.std.proofs.lemmas.List.Folds.{list_any-append}
-use Rattle.wl_machine.specs.Grants.{any_exclusive, grants, locks, queue, Lists, settle_name, settle_names, in_use}
+use Rattle.wl_machine.specs.Grants.{locks, queue, Lists, settle_name, settle_names, in_use}
 use Rattle.wl_machine.proofs.Quiet.{quiet, settled_quiet, settles_keep}
-use Rattle.wl_machine.proofs.Lists.{or_false, other_bytes, same_bytes}
+use Rattle.wl_machine.proofs.Lists.{or_false}
 use Rattle.wl_index.specs.Lines.{Waiting, Matches, is_busy}
 use Rattle.wl_index.specs.Names.{Placed, names_of, among, has_place, is_touched, IsNames, Ready, Underway}
-use Rattle.wl_index.proofs.Lists.{all_append, all_front, all_back, all_weaker, filter_whole}
-use Rattle.wl_index.proofs.Entries.{Found, found, same_number, number_same}
+use Rattle.wl_index.proofs.Lists.{all_append, all_front, all_back, filter_whole}
 use Rattle.wl_index.proofs.Local.{settle_quiet, settle_all_quiet}
-use Rattle.wl_index.proofs.Placed.{At, at_place, written_names, remove_apart, others_match, busy_in_use}
+use Rattle.wl_index.proofs.Placed.{At, written_names, remove_apart, others_match, busy_in_use}
 use Rattle.wl_index.proofs.Used.{in_use_same, unused_empty, use_other, settle_alone, settles_other, settle_locks_other, settle_queue_other}
 
 -- names with nothing to grant are passed over

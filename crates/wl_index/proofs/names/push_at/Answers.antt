@@ -1,9 +1,7 @@
-use Rattle.std.proofs.Common.{◌≡◌, ◌∙◌, ap, nat_cmp, Some, rules, sym}
+use Rattle.std.proofs.Common.{◌≡◌, ◌∙◌, ap, nat_cmp, Some, sym}
 use Rattle.std.specs.Option.{option_copied_mut}
-use Rattle.std.specs.Result.{OnErr, OnOk}
-use Rattle.std.specs.Map.{lookup, set_value}
+use Rattle.std.specs.Map.{lookup}
 use Rattle.std.specs.BTreeMap.{is_at}
-use Rattle.wl_index.proofs.Entries.{set_same}
 use Rattle.wl_index.proofs.Joins.{unless_pushed}
 use Rattle.wl_index.proofs.names.push_at.Goals as goal
 

@@ -1,4 +1,4 @@
-use Rattle.std.proofs.Common.{◌≡◌, ◌∙◌, ap, sym, refl, subst, true}
+use Rattle.std.proofs.Common.{◌≡◌, ◌∙◌, ap, sym, refl, subst}
 use Rattle.std.specs.Prelude.{not, ◌&&◌}
 use Rattle.wl_machine.specs.State.{State, Content}
 use Rattle.wl_machine.specs.Step.{available, new_request}

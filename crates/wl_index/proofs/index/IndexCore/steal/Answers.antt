@@ -1,5 +1,5 @@
-use Rattle.std.proofs.Common.{◌≡◌, ◌∙◌, ◌==◌, ◌+◌, ◌≤◌, ◌<◌, ◌∷◌, ◌++◌, [], sym, ap, subst, refl, arith, length, true, false, None, map}
-use Rattle.std.specs.Prelude.{not, ◌&&◌, filter}
+use Rattle.std.proofs.Common.{◌≡◌, ◌∙◌, ◌==◌, ◌+◌, ◌<◌, ◌∷◌, ◌++◌, [], sym, ap, subst, refl, arith, length, None, map}
+use Rattle.std.specs.Prelude.{not, filter}
 use Rattle.std.specs.List.{AllByRecursion}
 use Rattle.std.proofs.lemmas.List.{length-append}
 use Rattle.wl_types.specs.declared.phases.Phase.TheVariants.{Granted, Stolen}
@@ -10,7 +10,7 @@ use Rattle.wl_machine.specs.declared.rows.PendingRow.{PendingRow}
 use Rattle.wl_machine.specs.Refusals.{refusal}
 use Rattle.wl_machine.specs.Grants.{Lists, lists_of, settle_names, in_use, granted_lock, locks}
 use Rattle.wl_machine.specs.Step.{new_request, with_name, lock_ends}
-use Rattle.wl_index.specs.Rows.{Entry, Rows, held_of, pending_of}
+use Rattle.wl_index.specs.Rows.{Entry, held_of, pending_of}
 use Rattle.wl_index.specs.Names.{Placed, WaitsAlone, names_of}
 use Rattle.wl_index.proofs.Entries.{tags_length, is_request, held_more}
 use Rattle.wl_index.proofs.Joins.{entry_now}
@@ -58,13 +58,15 @@ invariant_of-self-2 c =
     let w2 = c.settle.ensures.capacity in
     let t = c.in_ok-number.ensures.capacity in
     let t1 = c.steal.ensures.touched_capacity in
-    let t2 = c.settle.ensures.touched_capacity in
-    (record {
-      placed = placed;
-      ready = c.settle.ensures.ready;
-      changes_room = omega (arith, same, fewer, more, live, changes, w1, w2);
-      touched_room = omega (arith, same, fewer, more, live, touched, t, t1, t2);
-    }, c.settle.ensures.none)
+    let t2 = c.settle.ensures.touched_capacity in (
+      record {
+        placed = placed;
+        ready = c.settle.ensures.ready;
+        changes_room = omega (arith, same, fewer, more, live, changes, w1, w2);
+        touched_room = omega (arith, same, fewer, more, live, touched, t, t1, t2);
+      },
+      c.settle.ensures.none,
+    )
 
 pub returns-clause-admitted : goal.returns-clause-admitted
 returns-clause-admitted c =

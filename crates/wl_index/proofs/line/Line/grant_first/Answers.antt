@@ -1,4 +1,4 @@
-use Rattle.std.proofs.Common.{◌≡◌, ◌∙◌, ◌∷◌, ap, sym, true}
+use Rattle.std.proofs.Common.{◌≡◌, ◌∙◌, ◌∷◌, ap, sym}
 use Rattle.std.specs.Prelude.{slice_get}
 use Rattle.wl_index.specs.Lines.{Waiting, admits, after_grant}
 use Rattle.wl_index.proofs.Shared.{shared_grant, popped}

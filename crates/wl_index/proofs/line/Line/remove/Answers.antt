@@ -1,5 +1,5 @@
-use Rattle.std.proofs.Common.{◌≡◌, ◌∙◌, refl}
-use Rattle.wl_index.proofs.Shared.{Removed, removed_from}
+use Rattle.std.proofs.Common.{refl}
+use Rattle.wl_index.proofs.Shared.{removed_from}
 use Rattle.wl_index.proofs.line.Line.remove.Goals as goal
 
 pub invariant_of-self : goal.invariant_of-self

@@ -1,12 +1,12 @@
-use Rattle.std.proofs.Common.{◌≡◌, ◌∙◌, ◌+◌, ◌<◌, ◌∷◌, ◌++◌, [], ap, subst, sym, refl, nat_cmp, Some, None, rules}
+use Rattle.std.proofs.Common.{◌≡◌, ◌∙◌, ◌<◌, ◌∷◌, ◌++◌, [], ap, subst, sym, nat_cmp, Some, rules}
 use Rattle.std.specs.List.{AllByRecursion}
-use Rattle.std.specs.Map.{lookup, set_value, remove_entry}
+use Rattle.std.specs.Map.{remove_entry}
 use Rattle.std.specs.BTreeMap.{is_at, get_by_text, UpdatesBy}
 use Rattle.std.specs.String.{string_bytes, string_cmp}
 use Rattle.std.specs.Cmp.Lexicographic.{slice_cmp}
 use Rattle.std.proofs.lemmas.Map.Text.{btree_map_updates_text}
 use Rattle.wl_index.specs.Lines.{Waiting}
-use Rattle.wl_index.specs.Names.{Placed, IsNames, among, names_of}
+use Rattle.wl_index.specs.Names.{Placed, among, names_of}
 use Rattle.wl_index.proofs.Entries.{entry_last, undone}
 use Rattle.wl_index.proofs.Joins.{names_joined}
 use Rattle.wl_index.proofs.names.Names.add.Goals as goal

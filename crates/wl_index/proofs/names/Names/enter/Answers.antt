@@ -1,13 +1,11 @@
-use Rattle.std.proofs.Common.{◌≡◌, ◌∙◌, ◌+◌, ◌==◌, ◌<◌, ◌∷◌, ◌++◌, [], List, ap, subst, sym, refl, nat_cmp, Some, None, rules}
+use Rattle.std.proofs.Common.{◌≡◌, ◌∙◌, ◌+◌, ◌==◌, ◌<◌, ◌∷◌, ◌++◌, [], List, ap, subst, sym, refl, nat_cmp, Some}
 use Rattle.std.specs.Prelude.{filter, not, ℕ}
-use Rattle.wl_machine.specs.Step.{with_name}
 use Rattle.std.specs.List.{AllByRecursion}
 use Rattle.std.specs.Map.{lookup}
 use Rattle.std.specs.BTreeMap.{is_at}
 use Rattle.wl_machine.specs.declared.rows.PendingRow.{PendingRow}
-use Rattle.wl_index.specs.declared.table.Stage.TheVariants.{Pending}
 use Rattle.wl_index.specs.Rows.{Entry, Rows, other, request_row, held_of, pending_of}
-use Rattle.wl_index.specs.Names.{Placed, Ready, Entered, IsBelow, names_of}
+use Rattle.wl_index.specs.Names.{Placed, Entered, IsBelow}
 use Rattle.wl_index.proofs.Entries.{is_request, held_more, pending_more}
 use Rattle.wl_index.proofs.Joins.{entry_now, last_there, last_gone, last_waits, lines_below}
 use Rattle.wl_index.proofs.names.Names.enter.Goals as goal

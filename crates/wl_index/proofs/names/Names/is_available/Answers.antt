@@ -1,10 +1,8 @@
-use Rattle.std.proofs.Common.{◌≡◌, ◌∙◌, ◌∷◌, [], ◌&&◌, ap, subst, sym, refl, nat_cmp, Some, None, true}
-use Rattle.std.specs.Prelude.{not}
+use Rattle.std.proofs.Common.{◌≡◌, ◌∙◌, ◌∷◌, [], ◌&&◌, ap, subst, sym, refl, Some, None}
 use Rattle.std.specs.Option.{IsSome, option_copied, unwrap_or}
 use Rattle.std.specs.List.{AllByRecursion}
-use Rattle.std.specs.Map.{lookup}
-use Rattle.std.specs.BTreeMap.{is_at, get_by_text}
-use Rattle.wl_machine.specs.Grants.{is_empty, grants, locks, queue}
+use Rattle.std.specs.BTreeMap.{get_by_text}
+use Rattle.wl_machine.specs.Grants.{is_empty, locks, queue}
 use Rattle.wl_index.specs.Rows.{held_of, pending_of}
 use Rattle.wl_index.specs.Lines.{Waiting, Matches, admits}
 use Rattle.wl_index.specs.Names.{Placed, Ready}

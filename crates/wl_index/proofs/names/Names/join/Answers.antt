@@ -1,10 +1,10 @@
-use Rattle.std.proofs.Common.{◌≡◌, ◌∙◌, ◌+◌, ◌<◌, ◌∷◌, ◌++◌, [], ap, subst, sym, refl, nat_cmp, Some, None, rules}
+use Rattle.std.proofs.Common.{◌≡◌, ◌∙◌, ◌+◌, ◌<◌, ◌∷◌, ◌++◌, [], ap, subst, sym, refl, nat_cmp, Some, None}
 use Rattle.std.specs.Option.{IsSome, IfSome, option_copied}
 use Rattle.std.specs.List.{AllByRecursion}
-use Rattle.std.specs.Map.{lookup, set_value}
+use Rattle.std.specs.Map.{set_value}
 use Rattle.std.specs.BTreeMap.{is_at, get_by_text}
 use Rattle.wl_index.specs.Lines.{with_one_more}
-use Rattle.wl_index.specs.Names.{Placed, IsNames, Ready, Entered, IsBelow, among, names_of}
+use Rattle.wl_index.specs.Names.{Placed, IsNames, Ready, Entered, IsBelow}
 use Rattle.wl_index.proofs.Placed.{written_is}
 use Rattle.wl_index.proofs.Joins.{line_found, not_found, joined_there, joined_fresh, places_more, places_added, places_written, below_at, entered_as}
 use Rattle.wl_index.proofs.names.Names.join.Goals as goal

@@ -4,7 +4,7 @@ use Rattle.std.specs.Option.{IsSome}
 use Rattle.wl_types.specs.declared.phases.Phase.TheVariants.{Stolen}
 use Rattle.wl_machine.specs.Grants.{locks}
 use Rattle.wl_machine.specs.Step.{lock_ends}
-use Rattle.wl_index.specs.Rows.{other, held_of, pending_of}
+use Rattle.wl_index.specs.Rows.{held_of, pending_of}
 use Rattle.wl_index.proofs.Thefts.{stealing, no_number, not_named, all_others}
 use Rattle.wl_index.proofs.names.Names.oust.Goals as goal
 

@@ -1,7 +1,7 @@
 use Rattle.std.proofs.Common.{◌≡◌, ◌∙◌, ◌<◌, [], ap, subst, sym, nat_cmp, Some, refl}
 use Rattle.std.specs.Option.{IsSome, IfSome, option_copied}
 use Rattle.std.specs.List.{AllByRecursion}
-use Rattle.std.specs.Map.{lookup, set_value}
+use Rattle.std.specs.Map.{set_value}
 use Rattle.std.specs.BTreeMap.{is_at, get_by_text}
 use Rattle.wl_index.specs.Rows.{held_of, pending_of}
 use Rattle.wl_index.specs.Lines.{seized}

@@ -4,7 +4,7 @@ use Rattle.std.proofs.lemmas.List.{drop_more, drop_all}
 use Rattle.std.proofs.lemmas.List.Sorted.{list_any-IsPermutation}
 use Rattle.wl_machine.specs.Grants.{Lists, lists_of, settle_names, in_use}
 use Rattle.wl_index.specs.Rows.{held_of, pending_of}
-use Rattle.wl_index.specs.Names.{names_of, has_place, Ready, Underway}
+use Rattle.wl_index.specs.Names.{names_of, has_place, Underway}
 use Rattle.wl_index.proofs.Lists.{sorted_next, sorted_least}
 use Rattle.wl_index.proofs.Underway.{start, any_order, arrived}
 use Rattle.wl_index.proofs.names.Names.settle.Goals as goal

@@ -1,4 +1,4 @@
-use Rattle.std.proofs.Common.{◌≡◌, ◌∙◌, ◌+◌, ◌≤◌, ◌<◌, ◌++◌, ap, subst, sym, arith, length, vec_len, vec_capacity, map}
+use Rattle.std.proofs.Common.{◌∙◌, ◌++◌, ap, subst, sym, arith, map}
 use Rattle.std.specs.Prelude.{filter, not}
 use Rattle.std.specs.Str.{bytes_eq}
 use Rattle.wl_machine.specs.Grants.{granted_lock}

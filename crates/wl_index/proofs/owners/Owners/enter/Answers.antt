@@ -1,6 +1,5 @@
-use Rattle.std.proofs.Common.{◌≡◌, ◌∙◌, sym, ap, nat_cmp, refl, true}
+use Rattle.std.proofs.Common.{ap, refl, true}
 use Rattle.std.specs.Map.{keys_of}
-use Rattle.wl_index.specs.declared.owners.Member.{Member}
 use Rattle.wl_index.proofs.Rolls.{entered_roll, entered_rows}
 use Rattle.wl_index.proofs.owners.Owners.enter.Goals as goal
 

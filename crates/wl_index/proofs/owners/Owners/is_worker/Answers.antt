@@ -1,5 +1,5 @@
 use Rattle.std.proofs.Common.{◌∙◌, sym, ap}
-use Rattle.std.specs.Prelude.{not, ◌&&◌}
+use Rattle.std.specs.Prelude.{not}
 use Rattle.wl_machine.specs.Refusals.{is_window}
 use Rattle.wl_index.specs.declared.owners.Member.{Member}
 use Rattle.wl_index.specs.Roll.{at_some}

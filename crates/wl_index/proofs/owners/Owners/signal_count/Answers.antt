@@ -1,4 +1,4 @@
-use Rattle.std.proofs.Common.{◌≡◌, ◌∙◌, ◌==◌, sym, ap, subst, true, nat_cmp, Some, length, map}
+use Rattle.std.proofs.Common.{◌≡◌, ◌∙◌, ◌==◌, sym, ap, subst, nat_cmp, Some, length, map}
 use Rattle.std.specs.Option.{IsSome, option_copied}
 use Rattle.std.specs.List.{list_any}
 use Rattle.std.specs.Map.{lookup}

@@ -1,8 +1,8 @@
-use Rattle.std.proofs.Common.{◌≡◌, ◌∙◌, ap, subst, nat_cmp, Some, refl, sym, ◌+◌}
+use Rattle.std.proofs.Common.{◌≡◌, ◌∙◌, ap, subst, nat_cmp, Some, refl, ◌+◌}
 use Rattle.std.specs.List.Sorted.{IsStrictlySortedBy}
 use Rattle.std.specs.Map.{keys_of, lookup}
 use Rattle.std.specs.BTreeMap.{is_at}
-use Rattle.wl_index.specs.Rows.{Rows, other}
+use Rattle.wl_index.specs.Rows.{Rows}
 use Rattle.wl_index.proofs.Entries.{removed, retracted}
 use Rattle.wl_index.proofs.table.Table.retract.Goals as goal
 
