@@ -8,3 +8,5 @@ pub mod owners;
 mod room;
 mod settle;
 pub mod table;
+#[cfg(test)]
+mod tests;
