@@ -1,0 +1,52 @@
+use Rattle.std.proofs.Common.{◌≡◌, ◌∙◌, sym, ap, false, length}
+use Rattle.std.specs.List.{list_any}
+use Rattle.std.proofs.lemmas.List.{length-map}
+use Rattle.wl_machine.specs.State.{State}
+use Rattle.wl_machine.specs.Step.{is_untaken}
+use Rattle.wl_index.specs.Rows.{held_of, pending_of, tag}
+use Rattle.wl_index.specs.Names.{names_of}
+use Rattle.wl_index.proofs.Taken.{ready_taken, taken_none, untaken_gives}
+use Rattle.wl_index.proofs.index.IndexCore.take.Goals as goal
+
+pub invariant_of-self : goal.invariant_of-self
+invariant_of-self c =
+    let i = c.self.inside in
+    let is = c.self.invariant.0 in
+    let same : length c.take.new.self.entries ≡ length i.table.entries = sym (length-map c.take.new.self.entries tag) ∙ ap length c.take.ensures.tags ∙ length-map i.table.entries tag in (
+      record {
+        placed = rw c.take.ensures.next is.placed;
+        ready = rw (c.take.ensures.held, c.take.ensures.pending) (ready_taken c.args.id i.names (held_of i.table.entries) (pending_of i.table.entries) is.ready);
+        changes_room = rw (same, c.clear.ensures.capacity) is.changes_room;
+        touched_room = rw same is.touched_room;
+      },
+      c.self.invariant.1,
+    )
+
+pub returns-then-not-take : goal.returns-then-not-take
+returns-then-not-take c =
+    let i = c.self.inside in
+    let s : State = record {
+      agents = i.owners.agents;
+      signals = i.owners.signals;
+      names = names_of i.names;
+      held = held_of i.table.entries;
+      pending = pending_of i.table.entries;
+      next = record { agent = i.owners.next_agent; request = i.table.next; signal = i.owners.next_signal };
+    } in
+    let none : list_any (is_untaken c.args.id) (held_of i.table.entries) ≡ false = sym c.take.ensures.found ∙ c.if-not-take.true in
+    let same : held_of c.take.new.self.entries ≡ held_of i.table.entries = c.take.ensures.held ∙ taken_none c.args.id (held_of i.table.entries) none in
+    rw (← c.self.view_is, same, c.take.ensures.pending, c.take.ensures.next, c.clear.ensures.items) (untaken_gives s c.args.id none)
+
+pub invariant_of-self-2 : goal.invariant_of-self-2
+invariant_of-self-2 c =
+    let i = c.self.inside in
+    let is = c.self.invariant.0 in
+    let same : length c.take.new.self.entries ≡ length i.table.entries = sym (length-map c.take.new.self.entries tag) ∙ ap length c.take.ensures.tags ∙ length-map i.table.entries tag in (
+      record {
+        placed = rw c.take.ensures.next is.placed;
+        ready = rw (c.take.ensures.held, c.take.ensures.pending) (ready_taken c.args.id i.names (held_of i.table.entries) (pending_of i.table.entries) is.ready);
+        changes_room = rw (same, c.clear.ensures.capacity) is.changes_room;
+        touched_room = rw same is.touched_room;
+      },
+      c.self.invariant.1,
+    )

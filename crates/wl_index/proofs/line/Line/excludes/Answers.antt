@@ -1,0 +1,8 @@
+use Rattle.std.proofs.Common.{◌∙◌}
+use Rattle.wl_index.proofs.Shared.{excluded}
+use Rattle.wl_index.proofs.line.Line.excludes.Goals as goal
+
+pub returns : goal.returns
+returns c =
+    let i = c.self.inside in
+    rw (← c.self.view_is) (c.is_some.ensures ∙ excluded i.live.entries i.queue.entries i.holder c.self.invariant)

@@ -1,0 +1,140 @@
+//! Why the indexed core refuses a command, memory aside: by look-ups.
+
+ghost use Rattle.std.specs.Prelude.{◌≡◌, OnOk, IfErr, Option, Some, None, true};
+ghost use Rattle.wl_machine.specs.Refusals.{refusal};
+
+use crate::index::IndexCore;
+use wl_machine::Command;
+use wl_types::{Ask, Kind, Reason, Refusal};
+
+/// How many agents of a manager may be live.
+const AGENTS: usize = 4096;
+
+/// How many signals an agent may make.
+const SIGNALS: usize = 1024;
+
+/// How many requests of a manager may be live.
+const REQUESTS: usize = 65536;
+
+/// How many bytes a name may have.
+const NAME_BYTES: usize = 1024;
+
+/// The first number that is given to nobody: 2^53.
+const NUMBERS: u64 = 9007199254740992;
+
+/// Ok where nothing is refused.
+pub(crate) fn unless_refused(refusal: Option<Refusal>) -> Result<(), Refusal>
+    ensures may { OnOk result (refusal ≡ None) }
+    ensures refused { IfErr result (λ r. refusal ≡ Some r) }
+{
+    match refusal {
+        Some(refusal) => Err(refusal),
+        None => Ok(()),
+    }
+}
+
+impl IndexCore {
+    pub(crate) fn open_refusal(&self) -> Option<Refusal>
+        ensures { result ≡ refusal self.now.state (Command.Enter Kind.Window) }
+    {
+        if self.owners.len() >= AGENTS {
+            return Some(Refusal::TooManyAgents);
+        }
+        if self.owners.next_agent() >= NUMBERS {
+            return Some(Refusal::NumbersSpent);
+        }
+        None
+    }
+
+    pub(crate) fn set_refusal(&self, agent: u64) -> Option<Refusal>
+        ensures { result ≡ refusal self.now.state (Command.SetActive agent true) }
+    {
+        if !self.owners.has(agent) {
+            return Some(Refusal::NoSuchAgent);
+        }
+        if self.owners.is_worker(agent) {
+            return Some(Refusal::NotAWindow);
+        }
+        None
+    }
+
+    pub(crate) fn signal_refusal(&self, agent: u64) -> Option<Refusal>
+        ensures { result ≡ refusal self.now.state (Command.NewSignal agent) }
+    {
+        if !self.owners.has(agent) {
+            return Some(Refusal::NoSuchAgent);
+        }
+        if self.owners.signal_count(agent) >= SIGNALS {
+            return Some(Refusal::TooManySignals);
+        }
+        if self.owners.next_signal() >= NUMBERS {
+            return Some(Refusal::NumbersSpent);
+        }
+        None
+    }
+
+    pub(crate) fn request_refusal(&self, agent: u64, ask: &Ask) -> Option<Refusal>
+        ensures { result ≡ refusal self.now.state (Command.Request agent ask.now) }
+    {
+        if !self.owners.has(agent) {
+            return Some(Refusal::NoSuchAgent);
+        }
+        if self.owners.is_inactive(agent) {
+            return Some(Refusal::InvalidState);
+        }
+        if let Err(refusal) = ask.check() {
+            return Some(refusal);
+        }
+        if let Some(signal) = ask.signal {
+            if !self.owners.has_signal(agent, signal) {
+                return Some(Refusal::NoSuchSignal);
+            }
+            if let Some(reason) = self.owners.reason(agent, signal) {
+                return Some(Refusal::SignalAborted(reason));
+            }
+        }
+        if ask.name.as_str().len() > NAME_BYTES {
+            return Some(Refusal::NameTooLong);
+        }
+        if self.table.len() >= REQUESTS {
+            return Some(Refusal::TooManyRequests);
+        }
+        if self.table.next() >= NUMBERS {
+            return Some(Refusal::NumbersSpent);
+        }
+        None
+    }
+
+    pub(crate) fn abort_refusal(&self, agent: u64, signal: u64) -> Option<Refusal>
+        ensures { result ≡ refusal self.now.state (Command.Abort agent signal Reason.AbortError) }
+    {
+        if !self.owners.has(agent) {
+            return Some(Refusal::NoSuchAgent);
+        }
+        if !self.owners.has_signal(agent, signal) {
+            return Some(Refusal::NoSuchSignal);
+        }
+        None
+    }
+
+    pub(crate) fn terminate_refusal(&self, agent: u64) -> Option<Refusal>
+        ensures { result ≡ refusal self.now.state (Command.Terminate agent) }
+    {
+        if !self.owners.has(agent) {
+            return Some(Refusal::NoSuchAgent);
+        }
+        None
+    }
+
+    pub(crate) fn query_refusal(&self, agent: u64) -> Option<Refusal>
+        ensures { result ≡ refusal self.now.state (Command.Query agent) }
+    {
+        if !self.owners.has(agent) {
+            return Some(Refusal::NoSuchAgent);
+        }
+        if self.owners.is_inactive(agent) {
+            return Some(Refusal::InvalidState);
+        }
+        None
+    }
+}

@@ -1,0 +1,12 @@
+//! The lock machine over indexes: each event costs what it changes.
+#![tactic(auto)]
+
+pub mod index;
+pub mod line;
+pub mod names;
+pub mod owners;
+mod room;
+mod settle;
+pub mod table;
+#[cfg(test)]
+mod tests;

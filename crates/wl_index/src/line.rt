@@ -1,0 +1,181 @@
+//! One name in use.
+ghost use Rattle.std.specs.Prelude.{map, ◌≡◌, ℕ, ◌<◌, List, [], ◌∷◌, OnOk, OnErr, slice_get, Some, None, false, true, ◌&&◌};
+ghost use Rattle.std.specs.List.{AllByRecursion};
+ghost use Rattle.wl_types.specs.declared.words.Mode.TheVariants.{Exclusive};
+ghost use Rattle.wl_machine.specs.Grants.{is_empty};
+ghost use Rattle.wl_index.specs.Lines.{admits, excludes, next_grant, after_grant, is_busy, with_one_more, without, holder_without};
+
+use std::alloc::Global;
+use std::collections::BTreeMap;
+use std::marker::Model;
+use wl_machine::exclusive;
+use wl_types::{Memory, Mode, Name};
+
+/// Who waits for a name and who holds it. What may come to share it has its place among the live from the start, so
+/// that a grant takes no memory: it leaves the queue. An exclusive holder is kept apart.
+#[derive(Drop)]
+pub struct Line {
+    name: Name,
+    live: BTreeMap<u64, Mode>,
+    queue: BTreeMap<u64, Mode>,
+    holder: Option<u64>,
+}
+
+impl Model for Line {
+    ghost use Rattle.wl_index.specs.Lines.{Waiting, holders_of, IsLine};
+
+    ghost Value = { Waiting };
+
+    ghost view = { λ l. record { name = l.name; waits = l.queue.entries; holders = holders_of l.holder l.live.entries l.queue.entries } };
+
+    ghost invariant = { λ l. IsLine l.live.entries l.queue.entries l.holder };
+}
+
+/// The exclusive holder, unless it has this number.
+fn unless(holder: Option<u64>, number: u64) -> Option<u64>
+    ensures { result ≡ holder_without number holder }
+{
+    match holder {
+        Some(other) => { if other == number { None } else { Some(other) } }
+        None => None,
+    }
+}
+
+impl Line {
+    pub fn new(alloc: Global, name: Name) -> Line
+        ensures { result ≡ record { name = name; waits = []; holders = [] } }
+    {
+        Line {
+            name,
+            live: BTreeMap::new(alloc),
+            queue: BTreeMap::new(alloc),
+            holder: None,
+        }
+    }
+
+    pub fn name(&self) -> &Name
+        ensures { result.now ≡ self.now.name }
+    {
+        &self.name
+    }
+
+    /// The first that waits.
+    fn first(&self) -> Option<(u64, Mode)>
+        ensures { result ≡ slice_get self.now.waits 0 }
+    {
+        let (number, mode) = self.queue.first_key_value()?;
+        Some((*number, *mode))
+    }
+
+    /// Whether nobody holds the name.
+    fn is_free(&self) -> bool
+        ensures { result ≡ is_empty self.now.holders }
+    {
+        self.holder.is_none() && self.live.len() == self.queue.len()
+    }
+
+    /// Whether one of the holders is exclusive.
+    fn excludes(&self) -> bool
+        ensures { result ≡ excludes self.now.holders }
+    {
+        self.holder.is_some()
+    }
+
+    /// Whether a request of this mode may be granted beside the holders.
+    fn admits(&self, mode: Mode) -> bool
+        ensures { result ≡ admits self.now mode }
+    {
+        if exclusive(mode) {
+            self.is_free()
+        } else {
+            !self.excludes()
+        }
+    }
+
+    /// Whether a request of this mode would be granted at once.
+    pub fn is_available(&self, mode: Mode) -> bool
+        ensures { result ≡ (is_empty self.now.waits && admits self.now mode) }
+    {
+        self.queue.is_empty() && self.admits(mode)
+    }
+
+    /// A request that waits, after the others.
+    pub fn push(&mut self, number: u64, mode: Mode) -> Result<(), Memory>
+        requires waits { AllByRecursion (λ e. e.0 < number) self.old.waits }
+        requires holders { AllByRecursion (λ e. e.0 < number) self.old.holders }
+        ensures ok { OnOk result (self.new ≡ with_one_more self.old number mode) }
+        ensures err { OnErr result (self.new ≡ self.old) }
+    {
+        self.queue.insert(number, mode)?;
+        let Ok(_) = self.live.insert(number, mode) else {
+            self.queue.remove(&number);
+            return Err(Memory);
+        };
+        Ok(())
+    }
+
+    /// The request or the lock of this number ends.
+    pub fn remove(&mut self, number: u64)
+        ensures { self.new ≡ without number self.old }
+    {
+        self.holder = unless(self.holder, number);
+        self.queue.remove(&number);
+        self.live.remove(&number);
+    }
+
+    /// Whether a lock or a request has the name.
+    pub fn is_busy(&self) -> bool
+        ensures { result ≡ is_busy self.now }
+    {
+        !(self.is_free() && self.queue.is_empty())
+    }
+
+    /// The first that waits holds, if it may.
+    pub fn grant_first(&mut self) -> Option<u64>
+        ensures number { result ≡ next_grant self.old }
+        ensures after { self.new ≡ after_grant self.old }
+    {
+        let Some((number, mode)) = self.first() else {
+            return None;
+        };
+        if !self.admits(mode) {
+            return None;
+        }
+        self.queue.pop_first();
+        if exclusive(mode) {
+            self.live.pop_first();
+            self.holder = Some(number);
+        }
+        Some(number)
+    }
+
+    /// The first of the holders.
+    pub fn first_holder(&self) -> Option<(u64, Mode)>
+        ensures { result ≡ slice_get self.now.holders 0 }
+    {
+        if let Some(number) = self.holder {
+            return Some((number, Mode::Exclusive));
+        }
+        if self.is_free() {
+            return None;
+        }
+        let (number, mode) = self.live.first_key_value()?;
+        Some((*number, *mode))
+    }
+
+    /// The number of the first of the holders.
+    pub fn first_number(&self) -> Option<u64>
+        ensures { result ≡ slice_get (map (λ e. e.0) self.now.holders) 0 }
+    {
+        let (number, _) = self.first_holder()?;
+        Some(number)
+    }
+
+    /// A request that steals holds the name, which nobody holds.
+    pub fn seize(&mut self, number: u64)
+        requires { self.old.holders ≡ [] }
+        ensures { self.new ≡ record self.old { holders = (number, Exclusive) ∷ [] } }
+    {
+        self.holder = Some(number);
+    }
+}
