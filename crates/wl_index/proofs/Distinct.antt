@@ -17,11 +17,11 @@ module _ {X : Type 0} (f : X → ℕ) where
       by false rest = rest
 
   -- a map that keeps the stamps
-  pub distinct_map : (g : X → X) → ((x : X) → f (g x) ≡ f x) → (l : List X) → Distinct f l → Distinct f (map g l)
-  distinct_map g keeps [] distinct = tt
-  distinct_map g keeps (x ∷ l) distinct = (others l distinct.0, distinct_map g keeps l distinct.1)
+  pub distinct_map : {Y : Type 0} (h : Y → ℕ) (g : X → Y) → ((x : X) → h (g x) ≡ f x) → (l : List X) → Distinct f l → Distinct h (map g l)
+  distinct_map h g keeps [] distinct = tt
+  distinct_map h g keeps (x ∷ l) distinct = (others l distinct.0, distinct_map h g keeps l distinct.1)
     where
-      others : (l : List X) → Differs x l → Differs (g x) (map g l)
+      others : (l : List X) → Differs x l → AllByRecursion (λ y. h (g x) ≡ h y → ⊥) (map g l)
       others [] all = tt
       others (y ∷ l) all = ((λ same. all.0 (sym (keeps x) ∙ same ∙ keeps y)), others l all.1)
 

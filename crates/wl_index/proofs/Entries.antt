@@ -428,7 +428,7 @@ marked_rows id (e ∷ l) all = rw (marked_row id e.0 e.1 e.1.stage (e.0 == id) r
 pub held_marked : (id : ℕ) (es : List Entry) → held_of (map (mark id) es) ≡ map (with_taken id) (held_of es)
 held_marked id es =
     ap (λ l. map lock_row (by_stamp stamp_of l)) (filter_map holding (mark id) es ∙ ap (map (mark id)) (filter_like (λ e. holding (mark id e)) holding (same_holding id) es))
-    ∙ ap (map lock_row) (sym (map_by_stamp stamp_of (mark id) (same_stamp id) (filter holding es)))
+    ∙ ap (map lock_row) (sym (map_by_stamp stamp_of stamp_of (mark id) (same_stamp id) (filter holding es)))
     ∙ marked_rows id (by_stamp stamp_of (filter holding es)) (by_stamp_all stamp_of (λ (e : Entry). holding e ≡ true) (filter holding es) (filter_passed holding es))
 
 marked_request : (id : ℕ) (e : Entry) (b : Bool) → request_row (e.0, cond b (marked e.1) e.1) ≡ request_row e
@@ -450,7 +450,7 @@ marked_table id es next_stamp next table =
       ordered = rw (keys_marked es) table.ordered;
       below = below_marked es table.below;
       stamped = stamped_marked es table.stamped;
-      distinct = rw (filter_map holding (mark id) es, filter_like (λ e. holding (mark id e)) holding (same_holding id) es) (distinct_map stamp_of (mark id) (same_stamp id) (filter holding es) table.distinct);
+      distinct = rw (filter_map holding (mark id) es, filter_like (λ e. holding (mark id e)) holding (same_holding id) es) (distinct_map stamp_of stamp_of (mark id) (same_stamp id) (filter holding es) table.distinct);
       first = table.first;
       room = rw (ap length (filter_map waiting (mark id) es ∙ ap (map (mark id)) (filter_like (λ e. waiting (mark id e)) waiting (same_waiting id) es)) ∙ marked_length (filter waiting es)) table.room;
       high = table.high;
