@@ -26,9 +26,12 @@ use wl_types::{
     Snapshot, TakeAnswer,
 };
 
+mod draft;
 mod equality;
 mod lists;
 mod refusals;
+
+pub use draft::PlainDraft;
 
 /// A core that keeps the machine's lists as they are and scans them: the plain program of the definitions, with
 /// which faster cores are compared. It has room for what the end of each live request needs.
