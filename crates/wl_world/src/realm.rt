@@ -20,20 +20,17 @@ use wl_origin::OriginKey;
 use wl_session::Session;
 use wl_types::{Kind, Memory};
 
-/// Gives the key a manager, if it has none.
-fn seat<C: LockCore<Seed = ()>>(
+/// Gives a manager to a key that has none.
+fn seat<C: LockCore>(
     alloc: Global,
     realm: &mut BTreeMap<OriginKey, Origin<C>>,
     key: &OriginKey,
+    origin: Origin<C>,
 ) -> Result<(), Memory>
-    ensures seated { OnOk result (IsSome (get tuple_cmp realm.new key.now)) }
-    ensures same { OnOk result (realm_of C.no_entries realm.new ≡ realm_of C.no_entries realm.old) }
+    ensures { OnOk result (realm_of C.no_entries realm.new ≡ with_origin (realm_of C.no_entries realm.old) key.now origin) }
 {
-    if realm.contains_key(key) {
-        return Ok(());
-    }
     let key = key.copy(alloc)?;
-    realm.insert(key, Origin::new(alloc))?;
+    realm.insert(key, origin)?;
     Ok(())
 }
 
@@ -56,11 +53,13 @@ pub(crate) fn serve_at<C: LockCore<Seed = ()>>(
     ensures session { OnOk result (session.new
         ≡ (served (realm_of C.no_entries realm.old key.now) agent session.old id body.now).session) }
 {
-    seat(alloc, realm, key)?;
-    match realm.get_mut(key) {
-        Some(origin) => serve(alloc, origin, agent, session, id, body),
-        None => unreachable!(),
+    if let Some(origin) = realm.get_mut(key) {
+        return serve(alloc, origin, agent, session, id, body);
     }
+    let mut origin = Origin::new(alloc);
+    let answer = serve(alloc, &mut origin, agent, session, id, body)?;
+    seat(alloc, realm, key, origin)?;
+    Ok(answer)
 }
 
 /// A new agent of this origin.
@@ -75,9 +74,11 @@ pub(crate) fn enter_at<C: LockCore<Seed = ()>>(
     ensures realm { OnOk result (realm_of C.no_entries realm.new ≡ with_origin (realm_of C.no_entries realm.old) key.now
         (stepped (realm_of C.no_entries realm.old key.now) 0 body.now (command.Enter kind)).origin) }
 {
-    seat(alloc, realm, key)?;
-    match realm.get_mut(key) {
-        Some(origin) => origin.enter(kind, body),
-        None => unreachable!(),
+    if let Some(origin) = realm.get_mut(key) {
+        return origin.enter(kind, body);
     }
+    let mut origin = Origin::new(alloc);
+    let outcome = origin.enter(kind, body)?;
+    seat(alloc, realm, key, origin)?;
+    Ok(outcome)
 }
