@@ -9,7 +9,7 @@ use Rattle.wl_types.specs.declared.words.Kind.{Kind}
 use Rattle.wl_types.specs.declared.words.Kind.TheVariants.{Window, Worker}
 use Rattle.wl_types.specs.declared.words.Reason.{Reason}
 use Rattle.wl_types.specs.declared.refusal.Refusal.{Refusal}
-use Rattle.wl_types.specs.declared.refusal.Refusal.TheVariants.{InvalidState, SignalAborted, NameTooLong, NoSuchSignal, TooManyRequests, TooManySignals, TooManyAgents, NumbersSpent, NoSuchAgent, NotAWindow}
+use Rattle.wl_types.specs.declared.refusal.Refusal.TheVariants.{InvalidState, Security, SignalAborted, NameTooLong, NoSuchSignal, TooManyRequests, TooManySignals, TooManyAgents, NumbersSpent, NoSuchAgent, NotAWindow}
 use Rattle.wl_types.specs.declared.ask.Ask.{Ask}
 use Rattle.wl_machine.specs.declared.rows.SignalRow.{SignalRow}
 use Rattle.wl_machine.specs.declared.command.Command.{Command}
@@ -23,6 +23,11 @@ has_agent s agent = list_any (λ row. row.number == agent) s.agents
 abbrev pub is_window : Kind → Bool
 is_window Window = true
 is_window Worker = false
+
+-- What `request` and `query` are refused where an origin is opaque: Storage's "obtain a local storage bottle map" fails, which
+-- is a SecurityError, but a document that isn't fully active gets its InvalidStateError first (Web Locks).
+abbrev pub no_storage : Kind → Bool → Refusal
+no_storage kind active = if is_window kind && not active then InvalidState else Security
 
 -- whether the agent is a window made inactive
 abbrev pub is_inactive : State → ℕ → Bool

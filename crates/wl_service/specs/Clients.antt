@@ -1,10 +1,9 @@
--- What a client is, and what the client of an opaque origin is answered. `request()` and `query()` of a document that isn't fully
--- active throw an InvalidStateError, and those of an opaque origin, where Storage's "obtain a local storage bottle map" fails, a
--- SecurityError (Web Locks); the other answers are (own).
-use Rattle.std.specs.Prelude.{ℕ, Bool, not, ◌&&◌, Option, Some, None, Result, Ok, Err, if◌then◌else◌}
+-- What a client is, and what the client of an opaque origin is answered (own); what its requests and queries are refused is the
+-- machine's `no_storage`.
+use Rattle.std.specs.Prelude.{ℕ, Bool, Option, Some, None, Result, Ok, Err, if◌then◌else◌}
 use Rattle.wl_types.specs.declared.words.Kind.{Kind}
 use Rattle.wl_types.specs.declared.refusal.Refusal.{Refusal}
-use Rattle.wl_types.specs.declared.refusal.Refusal.TheVariants.{InvalidState, Security, NotAWindow}
+use Rattle.wl_types.specs.declared.refusal.Refusal.TheVariants.{NotAWindow}
 use Rattle.wl_machine.specs.Refusals.{is_window}
 use Rattle.wl_service.specs.declared.client.Side.{Side}
 use Rattle.wl_service.specs.declared.client.Side.TheVariants as side
@@ -18,10 +17,6 @@ pub data Who : Type 0 where
 abbrev pub number_of : Who → Option ℕ
 number_of (Managed n) = Some n
 number_of (Opaque kind active) = None
-
--- what `request` and `query` of an opaque client are refused
-abbrev pub no_storage : Kind → Bool → Refusal
-no_storage kind active = if is_window kind && not active then InvalidState else Security
 
 -- what making an opaque client active or inactive is answered, and what the client is then
 abbrev pub activity : Kind → Result Unit Refusal

@@ -3,7 +3,8 @@
 ghost use Rattle.std.specs.Prelude.{◌≡◌, ◌⊎◌, true, Err, IfErr, is_some};
 ghost use Rattle.wl_types.specs.declared.refusal.Refusal.TheVariants.{NoSuchAgent, NoSuchSignal, Security};
 ghost use Rattle.wl_types.specs.declared.answers.ReleaseAnswer.TheVariants.{NotHeld};
-ghost use Rattle.wl_service.specs.Clients.{Managed, Opaque, IfOpaque, activity, made_active, no_storage, number_of};
+ghost use Rattle.wl_machine.specs.Refusals.{no_storage};
+ghost use Rattle.wl_service.specs.Clients.{Managed, Opaque, IfOpaque, activity, made_active, number_of};
 
 use crate::directory::Core;
 use crate::opaque::OpaqueAgent;

@@ -1,7 +1,8 @@
 //! Agents of opaque origins, which have no manager.
 
 ghost use Rattle.std.specs.Prelude.{◌≡◌};
-ghost use Rattle.wl_service.specs.Clients.{activity, active_after, no_storage};
+ghost use Rattle.wl_machine.specs.Refusals.{no_storage};
+ghost use Rattle.wl_service.specs.Clients.{activity, active_after};
 
 use wl_types::{Kind, Refusal};
 

@@ -1,5 +1,5 @@
 -- What a label's line makes of the realm and the label.
-use Rattle.std.specs.Prelude.{ℕ, Bool, true, false, not, ◌&&◌, [], Option, Some, None, Result, Ok, Err, if◌then◌else◌}
+use Rattle.std.specs.Prelude.{ℕ, Bool, true, false, [], Option, Some, None, Result, Ok, Err, if◌then◌else◌}
 use Rattle.std.specs.Ordering.{is_eq}
 use Rattle.wl_types.specs.declared.words.Kind.{Kind}
 use Rattle.wl_types.specs.declared.refusal.Refusal.TheVariants as refusal
@@ -7,7 +7,7 @@ use Rattle.wl_types.specs.declared.answers.ReleaseAnswer.TheVariants.{NotHeld}
 use Rattle.wl_origin.specs.Origin.{Tuple, tuple_cmp}
 use Rattle.wl_origin.specs.Standing.{standing_of}
 use Rattle.wl_origin.specs.declared.standing.KeyFault.{KeyFault}
-use Rattle.wl_machine.specs.Refusals.{is_window}
+use Rattle.wl_machine.specs.Refusals.{is_window, no_storage}
 use Rattle.wl_machine.specs.declared.command.Command.TheVariants as command
 use Rattle.wl_codec.specs.declared.message.Body.{Body}
 use Rattle.wl_codec.specs.declared.message.Body.TheVariants as body
@@ -90,17 +90,14 @@ from_agent realm key n s id b = at_key realm key n (served (realm key) n s id b)
 
 -- ---- agents of opaque origins
 
-abbrev pub no_storage : Kind → Bool → Outcome
-no_storage kind active = outcome.Refused (if is_window kind && not active then refusal.InvalidState else refusal.Security)
-
 abbrev pub opaque_outcome : Kind → Bool → Body → Outcome
 opaque_outcome kind active (body.Enter url other) = outcome.AlreadyOpen
 opaque_outcome kind active body.Signal = outcome.Refused refusal.Security
-opaque_outcome kind active (body.Request ask) = no_storage kind active
+opaque_outcome kind active (body.Request ask) = outcome.Refused (no_storage kind active)
 opaque_outcome kind active (body.Release n) = outcome.Release NotHeld
 opaque_outcome kind active (body.Abort n reason) = outcome.Refused refusal.NoSuchSignal
 opaque_outcome kind active (body.Active b) = if is_window kind then outcome.Active b else outcome.Refused refusal.NotAWindow
-opaque_outcome kind active body.Query = no_storage kind active
+opaque_outcome kind active body.Query = outcome.Refused (no_storage kind active)
 opaque_outcome kind active body.Poll = outcome.Polled
 opaque_outcome kind active body.Close = outcome.Closed
 

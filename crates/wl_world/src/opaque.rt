@@ -1,8 +1,8 @@
 //! Agents of opaque origins, which have no manager.
 
 ghost use Rattle.std.specs.Prelude.{◌≡◌};
-ghost use Rattle.wl_machine.specs.Refusals.{is_window};
-ghost use Rattle.wl_world.specs.Labels.{active_after, no_storage, opaque_outcome};
+ghost use Rattle.wl_machine.specs.Refusals.{is_window, no_storage};
+ghost use Rattle.wl_world.specs.Labels.{active_after, opaque_outcome};
 
 use wl_codec::{Body, Outcome};
 use wl_types::{Kind, Refusal, ReleaseAnswer};
@@ -13,13 +13,13 @@ fn is_window(kind: Kind) -> bool
     matches!(kind, Kind::Window)
 }
 
-fn no_storage(kind: Kind, active: bool) -> Outcome
+fn no_storage(kind: Kind, active: bool) -> Refusal
     ensures { result ≡ no_storage kind active }
 {
     if is_window(kind) && !active {
-        Outcome::Refused(Refusal::InvalidState)
+        Refusal::InvalidState
     } else {
-        Outcome::Refused(Refusal::Security)
+        Refusal::Security
     }
 }
 
@@ -30,7 +30,7 @@ pub(crate) fn opaque_outcome(kind: Kind, active: bool, body: &Body) -> Outcome
     match body {
         Body::Enter { .. } => Outcome::AlreadyOpen,
         Body::Signal => Outcome::Refused(Refusal::Security),
-        Body::Request(_) | Body::Query => no_storage(kind, active),
+        Body::Request(_) | Body::Query => Outcome::Refused(no_storage(kind, active)),
         Body::Release(_) => Outcome::Release(ReleaseAnswer::NotHeld),
         Body::Abort(_, _) => Outcome::Refused(Refusal::NoSuchSignal),
         Body::Active(wanted) => {
