@@ -31,6 +31,7 @@ use Rattle.wl_manager.specs.Agents.{entries_of_abort}
 use Rattle.wl_manager.specs.Locked.{Inner, IsKept, Stays}
 use Rattle.wl_manager.specs.Aborts.{Found, numbers_of, taken, aborted, take_entry, with_takes, Tried, Aborts}
 use Rattle.wl_manager.proofs.Aborting.{both_append}
+use Rattle.wl_manager.proofs.Cutting.{still_cut}
 use Rattle.wl_manager.proofs.Keeping.{LetGoBy, Grounds, ready_abort, kept_on, kept_off, may_follow}
 
 -- takes leave all but the locks
@@ -149,12 +150,12 @@ follows old old_kept agent signal reason mid mid_kept found new answer changes n
         settles id ∙ rw (told, now, append-nil (phases_in mid.state id)) refl
 
 -- what holds between the takes that were found and the abort itself
-halfway : (counts : Bool) (all : ℕ) (old : Inner) (old_kept : Kept) (agent signal : ℕ) (reason : Reason) (mid : Book) (mid_kept : Kept) (found : Found) → IsKept counts all old → Tried old.book old_kept agent signal reason mid mid_kept found []
-    → Grounds counts all (record old { book = mid; kept = mid_kept; total = old.total + length (taken found) })
-halfway counts all old old_kept agent signal reason mid mid_kept found kept tried =
+halfway : (counts keeps_all : Bool) (all : ℕ) (old : Inner) (old_kept : Kept) (agent signal : ℕ) (reason : Reason) (mid : Book) (mid_kept : Kept) (found : Found) → IsKept counts keeps_all all old → Tried old.book old_kept agent signal reason mid mid_kept found []
+    → Grounds counts keeps_all all (record old { book = mid; kept = mid_kept; total = old.total + length (taken found) })
+halfway counts keeps_all all old old_kept agent signal reason mid mid_kept found kept tried =
     let same = subst (λ (t : State). Same old.book.state t) (sym tried.state) (takes_leave (taken found) old.book.state) in
     record {
-      base = tried.appends.base ∙ kept.base;
+      journal = still_cut keeps_all old.book mid _ tried.appends kept.journal;
       standing = tried.standing;
       numbers = kept.numbers ∙ ap (λ n. n.request) (sym same.next);
       agents = ap (λ n. n.agent) same.next ∙ kept.agents;
@@ -162,12 +163,12 @@ halfway counts all old old_kept agent signal reason mid mid_kept found kept trie
       enough = kept.enough;
     }
 
-pub kept_aborted : (counts : Bool) (all : ℕ) (old new : Inner) (old_kept : Kept) (agent signal : ℕ) (reason : Reason) (mid : Book) (mid_kept : Kept) (found : Found) (answer : AbortAnswer) (changes : List Change) → IsKept counts all old → Tried old.book old_kept agent signal reason mid mid_kept found []
+pub kept_aborted : (counts keeps_all : Bool) (all : ℕ) (old new : Inner) (old_kept : Kept) (agent signal : ℕ) (reason : Reason) (mid : Book) (mid_kept : Kept) (found : Found) (answer : AbortAnswer) (changes : List Change) → IsKept counts keeps_all all old → Tried old.book old_kept agent signal reason mid mid_kept found []
     → Gives mid.state (Abort agent signal reason) new.book.state (reply.Aborted answer) new.book.recent → Appends mid new.book (recorded (Abort agent signal reason) (reply.Aborted answer)) → changes ≡ new.book.recent
     → ((id : ℕ) → phases_at id new.kept ≡ after (phases_of id changes) (phases_at id mid_kept)) → new.next ≡ old.next → new.opened ≡ old.opened
-    → (counts ≡ true → new.total ≡ old.total + length (taken found) + length (recorded (Abort agent signal reason) (reply.Aborted answer))) → (counts ≡ true → new.parts + new.opened ≡ all + new.handed) → IsKept counts all new
-kept_aborted counts all old new old_kept agent signal reason mid mid_kept found answer changes kept tried gives adds told settles next opened count share =
-    kept_on counts all (record old { book = mid; kept = mid_kept; total = old.total + length (taken found) }) new (Abort agent signal reason) (reply.Aborted answer) (halfway counts all old old_kept agent signal reason mid mid_kept found kept tried) gives refl refl adds
+    → (counts ≡ true → new.total ≡ old.total + length (taken found) + length (recorded (Abort agent signal reason) (reply.Aborted answer))) → (counts ≡ true → new.parts + new.opened ≡ all + new.handed) → IsKept counts keeps_all all new
+kept_aborted counts keeps_all all old new old_kept agent signal reason mid mid_kept found answer changes kept tried gives adds told settles next opened count share =
+    kept_on counts keeps_all all (record old { book = mid; kept = mid_kept; total = old.total + length (taken found) }) new (Abort agent signal reason) (reply.Aborted answer) (halfway counts keeps_all all old old_kept agent signal reason mid mid_kept found kept tried) gives refl refl adds
     (follows old.book old_kept agent signal reason mid mid_kept found new.book answer changes new.kept tried gives told settles) (omega (arith, next)) (omega (arith, opened)) count share
 
 -- a second abort finds nothing
@@ -186,11 +187,11 @@ again_finds old old_kept agent signal reason mid mid_kept found new answer chang
     at_reason true is = is
     at_reason false is = absurd (let said : reply.Aborted abort_answer.Done ≡ reply.Aborted abort_answer.AlreadyAborted = (rw is at (ap (λ (o : Outcome). o.reply) done)) ∙ ap (λ (a : AbortAnswer). reply.Aborted a) again in cc)
 
-pub does_aborted : (counts : Bool) (all : ℕ) (old was new : Inner) (old_kept : Kept) (agent signal : ℕ) (reason : Reason) (mid : Book) (mid_kept : Kept) (found : Found) (answer : AbortAnswer) (before : List Change) → old ≡ was → IsKept counts all old → LetGoBy old before old_kept
+pub does_aborted : (counts keeps_all : Bool) (all : ℕ) (old was new : Inner) (old_kept : Kept) (agent signal : ℕ) (reason : Reason) (mid : Book) (mid_kept : Kept) (found : Found) (answer : AbortAnswer) (before : List Change) → old ≡ was → IsKept counts keeps_all all old → LetGoBy old before old_kept
     → Tried old.book old_kept agent signal reason mid mid_kept found [] → Gives mid.state (Abort agent signal reason) new.book.state (reply.Aborted answer) new.book.recent → Appends mid new.book (recorded (Abort agent signal reason) (reply.Aborted answer))
     → ((id : ℕ) → cells_at id new.kept ≡ cells_at id mid_kept) → Aborts was new agent signal reason answer found
-does_aborted counts all old was new old_kept agent signal reason mid mid_kept found answer before is kept left tried gives adds cells =
-    let ready = ready_abort counts all old old_kept agent signal reason before kept left in
+does_aborted counts keeps_all all old was new old_kept agent signal reason mid mid_kept found answer before is kept left tried gives adds cells =
+    let ready = ready_abort counts keeps_all all old old_kept agent signal reason before kept left in
     subst (λ (o : Inner). Aborts o new agent signal reason answer found) is (record {
       locks = sym (append-nil (numbers_of found)) ∙ tried.locks;
       gives = subst (λ (s : State). Gives s (Abort agent signal reason) new.book.state (reply.Aborted answer) new.book.recent) tried.state gives;
@@ -217,19 +218,19 @@ nothing_found old old_kept agent signal reason mid mid_kept found new tried none
       cells = tried.cells;
     }
 
-pub kept_unaborted : (counts : Bool) (all : ℕ) (old new : Inner) (old_kept : Kept) (agent signal : ℕ) (reason : Reason) (mid : Book) (found : Found) (r : Refusal) → IsKept counts all old → Tried old.book old_kept agent signal reason mid new.kept found [] → refusal mid.state (Abort agent signal reason) ≡ Some r
-    → new.book.state ≡ mid.state → new.book.recent ≡ [] → Appends mid new.book [] → new.next ≡ old.next → new.opened ≡ old.opened → new.total ≡ old.total → new.parts ≡ old.parts → new.handed ≡ old.handed → IsKept counts all new
-kept_unaborted counts all old new old_kept agent signal reason mid found r kept tried is same quiet adds =
+pub kept_unaborted : (counts keeps_all : Bool) (all : ℕ) (old new : Inner) (old_kept : Kept) (agent signal : ℕ) (reason : Reason) (mid : Book) (found : Found) (r : Refusal) → IsKept counts keeps_all all old → Tried old.book old_kept agent signal reason mid new.kept found [] → refusal mid.state (Abort agent signal reason) ≡ Some r
+    → new.book.state ≡ mid.state → new.book.recent ≡ [] → Appends mid new.book [] → new.next ≡ old.next → new.opened ≡ old.opened → new.total ≡ old.total → new.parts ≡ old.parts → new.handed ≡ old.handed → IsKept counts keeps_all all new
+kept_unaborted counts keeps_all all old new old_kept agent signal reason mid found r kept tried is same quiet adds =
     let none = (refused_finds old.book old_kept agent signal reason mid new.kept found r tried kept.standing is).0 in
     let nothing = nothing_found old old_kept agent signal reason mid new.kept found new.book tried none same adds in
-    kept_off counts all old new kept nothing.state quiet nothing.appends nothing.phases
+    kept_off counts keeps_all all old new kept nothing.state quiet nothing.appends nothing.phases
 
-pub stays_unaborted : (counts : Bool) (all : ℕ) (old was new : Inner) (old_kept : Kept) (agent signal : ℕ) (reason : Reason) (mid : Book) (found : Found) (r : Refusal) (before : List Change) → old ≡ was → IsKept counts all old → LetGoBy old before old_kept → Tried old.book old_kept agent signal reason mid new.kept found []
+pub stays_unaborted : (counts keeps_all : Bool) (all : ℕ) (old was new : Inner) (old_kept : Kept) (agent signal : ℕ) (reason : Reason) (mid : Book) (found : Found) (r : Refusal) (before : List Change) → old ≡ was → IsKept counts keeps_all all old → LetGoBy old before old_kept → Tried old.book old_kept agent signal reason mid new.kept found []
     → refusal mid.state (Abort agent signal reason) ≡ Some r → new.book.state ≡ mid.state → Appends mid new.book [] → new.next ≡ old.next → new.opened ≡ old.opened → new.handed ≡ old.handed → Stays was new
-stays_unaborted counts all old was new old_kept agent signal reason mid found r before is kept left tried refused same adds next opened handed =
+stays_unaborted counts keeps_all all old was new old_kept agent signal reason mid found r before is kept left tried refused same adds next opened handed =
     let none = (refused_finds old.book old_kept agent signal reason mid new.kept found r tried kept.standing refused).0 in
     let nothing = nothing_found old old_kept agent signal reason mid new.kept found new.book tried none same adds in
-    let ready = ready_abort counts all old old_kept agent signal reason before kept left in
+    let ready = ready_abort counts keeps_all all old old_kept agent signal reason before kept left in
     subst (λ (o : Inner). Stays o new) is (record { state = nothing.state; appends = nothing.appends; next = next; opened = opened; handed = handed; cells = λ id phase live. nothing.cells id ∙ ready.cells id phase live })
 
 pub refused_before : (old was : Inner) (old_kept : Kept) (agent signal : ℕ) (reason : Reason) (mid : Book) (mid_kept : Kept) (found : Found) (r : Refusal) → old ≡ was → IsStanding old.book.state → Tried old.book old_kept agent signal reason mid mid_kept found []

@@ -24,7 +24,8 @@ use Rattle.wl_machine.proofs.Standing.{standing_by_step}
 use Rattle.wl_journal.specs.Books.{Book, Appends}
 use Rattle.wl_journal.specs.History.{recorded}
 use Rattle.wl_manager.specs.Keepers.{Kept, seat_at, phases_of_seat, cells_of_seat, phases_at, cells_at, ends_request, MaySettle, after}
-use Rattle.wl_manager.specs.Locked.{Inner, IsKept, ends_in, first, Does, Stays}
+use Rattle.wl_manager.specs.Locked.{Inner, IsKept, IsCut, ends_in, Does, Stays}
+use Rattle.wl_manager.proofs.Cutting.{still_cut}
 
 plain_settles : (from to : Phase) → is_plain_move from to ≡ true → IsTrue (may_settle from to)
 plain_settles from to move = grind arith
@@ -96,17 +97,17 @@ pub record Ready (old : Inner) (command : Command) (mid : Kept) : Type 0 where
 abbrev pub LetGo : Inner → Kept → Type 0
 LetGo old mid = (id : ℕ) → seat_at id mid ≡ cond (ends_request id old.book.recent) None (seat_at id old.kept)
 
-pub ready_left : (counts : Bool) (all : ℕ) (old : Inner) (mid : Kept) (command : Command) → IsKept counts all old → LetGo old mid → ((id : ℕ) → entering old.book.state command id ≡ []) → Ready old command mid
-ready_left counts all old mid command kept left none = record {
+pub ready_left : (counts keeps_all : Bool) (all : ℕ) (old : Inner) (mid : Kept) (command : Command) → IsKept counts keeps_all all old → LetGo old mid → ((id : ℕ) → entering old.book.state command id ≡ []) → Ready old command mid
+ready_left counts keeps_all all old mid command kept left none = record {
   phases = λ id. left_phases old.book.state old.book.recent id (seat_at id old.kept) (seat_at id mid) (kept.settled id) (left id) ∙ (sym (append-nil (phases_in old.book.state id)) ∙ ap (λ (ps : List Phase). phases_in old.book.state id ++ ps) (sym (none id)));
   cells = λ id phase live. ap cells_of_seat (left_seat old.book.state old.book.recent id phase (seat_at id old.kept) (seat_at id mid) (kept.settled id) (left id) live);
 }
 
 -- a request's keeper comes under the next number
-pub ready_put : (counts : Bool) (all : ℕ) (old : Inner) (put mid : Kept) (seat : KeeperSeat) (agent : ℕ) (ask : Ask) → IsKept counts all old
+pub ready_put : (counts keeps_all : Bool) (all : ℕ) (old : Inner) (put mid : Kept) (seat : KeeperSeat) (agent : ℕ) (ask : Ask) → IsKept counts keeps_all all old
     → ((id : ℕ) → seat_at id put ≡ cond (id == old.next) (Some seat) (seat_at id old.kept)) → ((id : ℕ) → seat_at id mid ≡ cond (ends_request id old.book.recent) None (seat_at id put)) → seat.phase ≡ Pending
     → Ready old (Request agent ask) mid × (cells_at old.next mid ≡ seat.cell ∷ [])
-ready_put counts all old put mid seat agent ask kept puts left pending = (record { phases = phases; cells = cells }, ap cells_of_seat new)
+ready_put counts keeps_all all old put mid seat agent ask kept puts left pending = (record { phases = phases; cells = cells }, ap cells_of_seat new)
   where
     free : ends_request old.next old.book.recent ≡ false
     free = no_end (ends_request old.next old.book.recent) refl
@@ -137,40 +138,40 @@ ready_put counts all old put mid seat agent ask kept puts left pending = (record
         ap cells_of_seat (left_seat old.book.state old.book.recent id phase (seat_at id old.kept) (seat_at id mid) (kept.settled id) (left id ∙ ap (cond (ends_request id old.book.recent) None) (puts id ∙ rw (ne_eqb id old.next other) refl)) live)
 
 -- the changes of a command that doesn't abort may be settled
-pub may_all : (counts : Bool) (all : ℕ) (old : Inner) (mid : Kept) (command : Command) (new : Book) (answer : Reply) (changes : List Change) → IsKept counts all old → Ready old command mid
+pub may_all : (counts keeps_all : Bool) (all : ℕ) (old : Inner) (mid : Kept) (command : Command) (new : Book) (answer : Reply) (changes : List Change) → IsKept counts keeps_all all old → Ready old command mid
     → Gives old.book.state command new.state answer new.recent → is_refused answer ≡ false → is_take command ≡ false → table_of command ≡ is_plain_move → changes ≡ new.recent
     → (id : ℕ) → MaySettle (phases_at id mid) (phases_of id changes)
-may_all counts all old mid command new answer changes kept ready gives done other table recent id =
+may_all counts keeps_all all old mid command new answer changes kept ready gives done other table recent id =
     rw (recent, ready.phases id)
     (may_follow (phases_in old.book.state id ++ entering old.book.state command id) (phases_of id new.recent) (phases_in new.state id)
     (subst (λ (t : Phase → Phase → Bool). MovesOnce t (phases_in old.book.state id ++ entering old.book.state command id) (phases_of id new.recent) (phases_in new.state id)) table
     (moves_by_step old.book.state command new.state answer new.recent id gives done kept.standing.numbered other)))
 
 -- what holds of the journal, the numbers and the shares, wherever the keepers are
-pub record Grounds (counts : Bool) (all : ℕ) (l : Inner) : Type 0 where
-  pub base : l.book.base ≡ first
+pub record Grounds (counts keeps_all : Bool) (all : ℕ) (l : Inner) : Type 0 where
+  pub journal : IsCut keeps_all l.book
   pub standing : IsStanding l.book.state
   pub numbers : l.next ≡ l.book.state.next.request
   pub agents : l.book.state.next.agent ≡ l.opened + 1
   pub counted : counts ≡ true → l.total ≡ l.book.total
   pub enough : counts ≡ true → 2 ^ 53 ≤ all
 
-pub grounds : (counts : Bool) (all : ℕ) (l : Inner) → IsKept counts all l → Grounds counts all l
-grounds counts all l kept = record { base = kept.base; standing = kept.standing; numbers = kept.numbers; agents = kept.agents; counted = kept.counted; enough = kept.enough }
+pub grounds : (counts keeps_all : Bool) (all : ℕ) (l : Inner) → IsKept counts keeps_all all l → Grounds counts keeps_all all l
+grounds counts keeps_all all l kept = record { journal = kept.journal; standing = kept.standing; numbers = kept.numbers; agents = kept.agents; counted = kept.counted; enough = kept.enough }
 
 -- a command that is done keeps what holds
-pub kept_on : (counts : Bool) (all : ℕ) (old new : Inner) (command : Command) (answer : Reply) → Grounds counts all old
+pub kept_on : (counts keeps_all : Bool) (all : ℕ) (old new : Inner) (command : Command) (answer : Reply) → Grounds counts keeps_all all old
     → Gives old.book.state command new.book.state answer new.book.recent → is_refused answer ≡ false → is_take command ≡ false → Appends old.book new.book (recorded command answer)
     → ((id : ℕ) → phases_at id new.kept ≡ after (phases_of id new.book.recent) (phases_in old.book.state id ++ entering old.book.state command id))
     → new.next ≡ old.next + askers command → new.opened ≡ old.opened + entrants command
     → (counts ≡ true → new.total ≡ old.total + length (recorded command answer)) → (counts ≡ true → new.parts + new.opened ≡ all + new.handed)
-    → IsKept counts all new
-kept_on counts all old new command answer kept gives done other appends follow next opened count share =
+    → IsKept counts keeps_all all new
+kept_on counts keeps_all all old new command answer kept gives done other appends follow next opened count share =
     let numbers = numbers_by_step old.book.state command new.book.state answer new.book.recent gives done in
     let moves : (id : ℕ) → MovesOnce (table_of command) (phases_in old.book.state id ++ entering old.book.state command id) (phases_of id new.book.recent) (phases_in new.book.state id) =
     λ id. moves_by_step old.book.state command new.book.state answer new.book.recent id gives done kept.standing.numbered other in
     record {
-      base = appends.base ∙ kept.base;
+      journal = still_cut keeps_all old.book new.book _ appends kept.journal;
       standing = standing_by_step old.book.state command new.book.state answer new.book.recent gives kept.standing;
       numbers = let a = kept.numbers in let b = numbers.1 in omega (arith, a, b, next);
       agents = let a = kept.agents in let b = numbers.0 in omega (arith, a, b, opened);
@@ -183,11 +184,11 @@ kept_on counts all old new command answer kept gives done other appends follow n
     }
 
 -- a command that is refused keeps it, without the keepers of ended requests
-pub kept_off : (counts : Bool) (all : ℕ) (old new : Inner) → IsKept counts all old → new.book.state ≡ old.book.state → new.book.recent ≡ [] → Appends old.book new.book []
+pub kept_off : (counts keeps_all : Bool) (all : ℕ) (old new : Inner) → IsKept counts keeps_all all old → new.book.state ≡ old.book.state → new.book.recent ≡ [] → Appends old.book new.book []
     → ((id : ℕ) → phases_at id new.kept ≡ phases_in old.book.state id) → new.next ≡ old.next → new.opened ≡ old.opened → new.total ≡ old.total → new.parts ≡ old.parts → new.handed ≡ old.handed
-    → IsKept counts all new
-kept_off counts all old new kept same quiet appends left next opened total parts handed = record {
-  base = appends.base ∙ kept.base;
+    → IsKept counts keeps_all all new
+kept_off counts keeps_all all old new kept same quiet appends left next opened total parts handed = record {
+  journal = still_cut keeps_all old.book new.book _ appends kept.journal;
   standing = rw same kept.standing;
   numbers = next ∙ (kept.numbers ∙ ap (λ (s : State). s.next.request) (sym same));
   agents = ap (λ (s : State). s.next.agent) same ∙ (kept.agents ∙ ap (λ (n : ℕ). n + 1) (sym opened));
@@ -206,14 +207,14 @@ let_go_by : (old : Inner) (mid : Kept) (changes : List Change) → LetGoBy old c
 let_go_by old mid changes left id = rw (← left.0) (left.1 id)
 
 -- a command that is refused
-pub kept_refused : (counts : Bool) (all : ℕ) (old new : Inner) (changes : List Change) → IsKept counts all old → LetGoBy old changes new.kept → new.book.state ≡ old.book.state → new.book.recent ≡ [] → Appends old.book new.book []
-    → new.next ≡ old.next → new.opened ≡ old.opened → new.total ≡ old.total → new.parts ≡ old.parts → new.handed ≡ old.handed → IsKept counts all new
-kept_refused counts all old new changes kept left same quiet appends =
-    kept_off counts all old new kept same quiet appends (λ id. left_phases old.book.state old.book.recent id (seat_at id old.kept) (seat_at id new.kept) (kept.settled id) (let_go_by old new.kept changes left id))
+pub kept_refused : (counts keeps_all : Bool) (all : ℕ) (old new : Inner) (changes : List Change) → IsKept counts keeps_all all old → LetGoBy old changes new.kept → new.book.state ≡ old.book.state → new.book.recent ≡ [] → Appends old.book new.book []
+    → new.next ≡ old.next → new.opened ≡ old.opened → new.total ≡ old.total → new.parts ≡ old.parts → new.handed ≡ old.handed → IsKept counts keeps_all all new
+kept_refused counts keeps_all all old new changes kept left same quiet appends =
+    kept_off counts keeps_all all old new kept same quiet appends (λ id. left_phases old.book.state old.book.recent id (seat_at id old.kept) (seat_at id new.kept) (kept.settled id) (let_go_by old new.kept changes left id))
 
-pub stays_refused : (counts : Bool) (all : ℕ) (old was new : Inner) (changes : List Change) → old ≡ was → IsKept counts all old → LetGoBy old changes new.kept → new.book.state ≡ old.book.state → Appends old.book new.book []
+pub stays_refused : (counts keeps_all : Bool) (all : ℕ) (old was new : Inner) (changes : List Change) → old ≡ was → IsKept counts keeps_all all old → LetGoBy old changes new.kept → new.book.state ≡ old.book.state → Appends old.book new.book []
     → new.next ≡ old.next → new.opened ≡ old.opened → new.handed ≡ old.handed → Stays was new
-stays_refused counts all old was new changes is kept left same appends next opened handed =
+stays_refused counts keeps_all all old was new changes is kept left same appends next opened handed =
     subst (λ (o : Inner). Stays o new) is (record {
       state = same;
       appends = appends;
@@ -224,25 +225,25 @@ stays_refused counts all old was new changes is kept left same appends next open
     })
 
 -- a command that asks for nothing new, and is done
-pub settles_done : (counts : Bool) (all : ℕ) (old : Inner) (mid : Kept) (new : Book) (command : Command) (answer : Reply) (before changes : List Change) → IsKept counts all old → LetGoBy old before mid → ((id : ℕ) → entering old.book.state command id ≡ [])
+pub settles_done : (counts keeps_all : Bool) (all : ℕ) (old : Inner) (mid : Kept) (new : Book) (command : Command) (answer : Reply) (before changes : List Change) → IsKept counts keeps_all all old → LetGoBy old before mid → ((id : ℕ) → entering old.book.state command id ≡ [])
     → Gives old.book.state command new.state answer new.recent → is_refused answer ≡ false → is_take command ≡ false → table_of command ≡ is_plain_move → changes ≡ new.recent → (id : ℕ) → MaySettle (phases_at id mid) (phases_of id changes)
-settles_done counts all old mid new command answer before changes kept left none gives done other table told =
-    may_all counts all old mid command new answer changes kept (ready_left counts all old mid command kept (let_go_by old mid before left) none) gives done other table told
+settles_done counts keeps_all all old mid new command answer before changes kept left none gives done other table told =
+    may_all counts keeps_all all old mid command new answer changes kept (ready_left counts keeps_all all old mid command kept (let_go_by old mid before left) none) gives done other table told
 
-pub kept_done : (counts : Bool) (all : ℕ) (old new : Inner) (mid : Kept) (command : Command) (answer : Reply) (before changes : List Change) → IsKept counts all old → LetGoBy old before mid → ((id : ℕ) → entering old.book.state command id ≡ [])
+pub kept_done : (counts keeps_all : Bool) (all : ℕ) (old new : Inner) (mid : Kept) (command : Command) (answer : Reply) (before changes : List Change) → IsKept counts keeps_all all old → LetGoBy old before mid → ((id : ℕ) → entering old.book.state command id ≡ [])
     → Gives old.book.state command new.book.state answer new.book.recent → is_refused answer ≡ false → is_take command ≡ false → Appends old.book new.book (recorded command answer) → changes ≡ new.book.recent
     → ((id : ℕ) → phases_at id new.kept ≡ after (phases_of id changes) (phases_at id mid))
     → new.next ≡ old.next + askers command → new.opened ≡ old.opened + entrants command
     → (counts ≡ true → new.total ≡ old.total + length (recorded command answer)) → (counts ≡ true → new.parts + new.opened ≡ all + new.handed)
-    → IsKept counts all new
-kept_done counts all old new mid command answer before changes kept left none gives done other appends told settles =
-    let ready = ready_left counts all old mid command kept (let_go_by old mid before left) none in
-    kept_on counts all old new command answer (grounds counts all old kept) gives done other appends (λ id. rw (← told, ← ready.phases id) (settles id))
+    → IsKept counts keeps_all all new
+kept_done counts keeps_all all old new mid command answer before changes kept left none gives done other appends told settles =
+    let ready = ready_left counts keeps_all all old mid command kept (let_go_by old mid before left) none in
+    kept_on counts keeps_all all old new command answer (grounds counts keeps_all all old kept) gives done other appends (λ id. rw (← told, ← ready.phases id) (settles id))
 
-pub does_done : (counts : Bool) (all : ℕ) (old was new : Inner) (mid : Kept) (command : Command) (answer : Reply) (before : List Change) → old ≡ was → IsKept counts all old → LetGoBy old before mid → ((id : ℕ) → entering old.book.state command id ≡ [])
+pub does_done : (counts keeps_all : Bool) (all : ℕ) (old was new : Inner) (mid : Kept) (command : Command) (answer : Reply) (before : List Change) → old ≡ was → IsKept counts keeps_all all old → LetGoBy old before mid → ((id : ℕ) → entering old.book.state command id ≡ [])
     → Gives old.book.state command new.book.state answer new.book.recent → Appends old.book new.book (recorded command answer) → ((id : ℕ) → cells_at id new.kept ≡ cells_at id mid) → Does was new command answer
-does_done counts all old was new mid command answer before is kept left none gives appends cells =
-    let ready = ready_left counts all old mid command kept (let_go_by old mid before left) none in
+does_done counts keeps_all all old was new mid command answer before is kept left none gives appends cells =
+    let ready = ready_left counts keeps_all all old mid command kept (let_go_by old mid before left) none in
     subst (λ (o : Inner). Does o new command answer) is (record { gives = gives; appends = appends; cells = λ id phase live. cells id ∙ ready.cells id phase live })
 
 -- a request's number is the next one
@@ -265,13 +266,13 @@ pub record Puts (old : Inner) (seat : KeeperSeat) (changes : List Change) (put m
   pub puts : (id : ℕ) → seat_at id put ≡ cond (id == old.next) (Some seat) (seat_at id old.kept)
   pub left : (id : ℕ) → seat_at id mid ≡ cond (ends_request id changes) None (seat_at id put)
 
-asked : (counts : Bool) (all : ℕ) (old : Inner) (seat : KeeperSeat) (changes : List Change) (put mid : Kept) (agent : ℕ) (ask : Ask) → IsKept counts all old → Puts old seat changes put mid → seat.phase ≡ Pending
+asked : (counts keeps_all : Bool) (all : ℕ) (old : Inner) (seat : KeeperSeat) (changes : List Change) (put mid : Kept) (agent : ℕ) (ask : Ask) → IsKept counts keeps_all all old → Puts old seat changes put mid → seat.phase ≡ Pending
     → Ready old (Request agent ask) mid × (cells_at old.next mid ≡ seat.cell ∷ [])
-asked counts all old seat changes put mid agent ask kept is = ready_put counts all old put mid seat agent ask kept is.puts (λ id. rw (← is.told) (is.left id))
+asked counts keeps_all all old seat changes put mid agent ask kept is = ready_put counts keeps_all all old put mid seat agent ask kept is.puts (λ id. rw (← is.told) (is.left id))
 
 -- once that keeper is removed, those of ended requests were let go, and nothing else
-pub undone : (counts : Bool) (all : ℕ) (old : Inner) (seat : KeeperSeat) (changes : List Change) (put mid removed : Kept) → IsKept counts all old → Puts old seat changes put mid → ((id : ℕ) → seat_at id removed ≡ cond (id == old.next) None (seat_at id mid)) → LetGoBy old changes removed
-undone counts all old seat changes put mid removed kept is removes = (is.told, at_number)
+pub undone : (counts keeps_all : Bool) (all : ℕ) (old : Inner) (seat : KeeperSeat) (changes : List Change) (put mid removed : Kept) → IsKept counts keeps_all all old → Puts old seat changes put mid → ((id : ℕ) → seat_at id removed ≡ cond (id == old.next) None (seat_at id mid)) → LetGoBy old changes removed
+undone counts keeps_all all old seat changes put mid removed kept is removes = (is.told, at_number)
   where
     no_seat : (seat : Option KeeperSeat) → phases_of_seat seat ≡ [] → seat ≡ None
     no_seat None none = refl
@@ -293,26 +294,26 @@ undone counts all old seat changes put mid removed kept is removes = (is.told, a
         (λ other. removes id ∙ rw (ne_eqb id old.next other) (is.left id ∙ ap (cond (ends_request id changes) None) (is.puts id ∙ rw (ne_eqb id old.next other) refl)))
 
 -- a request that is let in
-pub settles_asked : (counts : Bool) (all : ℕ) (old : Inner) (seat : KeeperSeat) (before : List Change) (put mid : Kept) (new : Book) (agent : ℕ) (ask : Ask) (id : ℕ) (changes : List Change) → IsKept counts all old → Puts old seat before put mid → seat.phase ≡ Pending
+pub settles_asked : (counts keeps_all : Bool) (all : ℕ) (old : Inner) (seat : KeeperSeat) (before : List Change) (put mid : Kept) (new : Book) (agent : ℕ) (ask : Ask) (id : ℕ) (changes : List Change) → IsKept counts keeps_all all old → Puts old seat before put mid → seat.phase ≡ Pending
     → Gives old.book.state (Request agent ask) new.state (reply.Request id) new.recent → changes ≡ new.recent → (other : ℕ) → MaySettle (phases_at other mid) (phases_of other changes)
-settles_asked counts all old seat before put mid new agent ask id changes kept is pending gives told =
-    may_all counts all old mid (Request agent ask) new (reply.Request id) changes kept (asked counts all old seat before put mid agent ask kept is pending).0 gives refl refl refl told
+settles_asked counts keeps_all all old seat before put mid new agent ask id changes kept is pending gives told =
+    may_all counts keeps_all all old mid (Request agent ask) new (reply.Request id) changes kept (asked counts keeps_all all old seat before put mid agent ask kept is pending).0 gives refl refl refl told
 
-pub kept_asked : (counts : Bool) (all : ℕ) (old new : Inner) (seat : KeeperSeat) (before : List Change) (put mid : Kept) (agent : ℕ) (ask : Ask) (id : ℕ) (changes : List Change) → IsKept counts all old → Puts old seat before put mid → seat.phase ≡ Pending
+pub kept_asked : (counts keeps_all : Bool) (all : ℕ) (old new : Inner) (seat : KeeperSeat) (before : List Change) (put mid : Kept) (agent : ℕ) (ask : Ask) (id : ℕ) (changes : List Change) → IsKept counts keeps_all all old → Puts old seat before put mid → seat.phase ≡ Pending
     → Gives old.book.state (Request agent ask) new.book.state (reply.Request id) new.book.recent → Appends old.book new.book (recorded (Request agent ask) (reply.Request id)) → changes ≡ new.book.recent
     → ((other : ℕ) → phases_at other new.kept ≡ after (phases_of other changes) (phases_at other mid)) → new.next ≡ id + 1 → new.opened ≡ old.opened
-    → (counts ≡ true → new.total ≡ old.total + 1) → (counts ≡ true → new.parts + new.opened ≡ all + new.handed) → IsKept counts all new
-kept_asked counts all old new seat before put mid agent ask id changes kept is pending gives appends told settles next opened count share =
-    let ready = (asked counts all old seat before put mid agent ask kept is pending).0 in
+    → (counts ≡ true → new.total ≡ old.total + 1) → (counts ≡ true → new.parts + new.opened ≡ all + new.handed) → IsKept counts keeps_all all new
+kept_asked counts keeps_all all old new seat before put mid agent ask id changes kept is pending gives appends told settles next opened count share =
+    let ready = (asked counts keeps_all all old seat before put mid agent ask kept is pending).0 in
     let number = request_number old.book.state agent ask new.book.state id new.book.recent gives in
-    kept_on counts all old new (Request agent ask) (reply.Request id) (grounds counts all old kept) gives refl refl appends (λ other. rw (← told, ← ready.phases other) (settles other))
+    kept_on counts keeps_all all old new (Request agent ask) (reply.Request id) (grounds counts keeps_all all old kept) gives refl refl appends (λ other. rw (← told, ← ready.phases other) (settles other))
     (let same = kept.numbers in omega (arith, number, same, next)) (omega (arith, opened)) count share
 
-pub does_asked : (counts : Bool) (all : ℕ) (old was new : Inner) (seat : KeeperSeat) (before : List Change) (put mid : Kept) (agent : ℕ) (ask : Ask) (id : ℕ) → old ≡ was → IsKept counts all old → Puts old seat before put mid → seat.phase ≡ Pending
+pub does_asked : (counts keeps_all : Bool) (all : ℕ) (old was new : Inner) (seat : KeeperSeat) (before : List Change) (put mid : Kept) (agent : ℕ) (ask : Ask) (id : ℕ) → old ≡ was → IsKept counts keeps_all all old → Puts old seat before put mid → seat.phase ≡ Pending
     → Gives old.book.state (Request agent ask) new.book.state (reply.Request id) new.book.recent → Appends old.book new.book (recorded (Request agent ask) (reply.Request id)) → ((other : ℕ) → cells_at other new.kept ≡ cells_at other mid)
     → Does was new (Request agent ask) (reply.Request id) × (cells_at id new.kept ≡ seat.cell ∷ [])
-does_asked counts all old was new seat before put mid agent ask id same kept is pending gives appends cells =
-    let ready = asked counts all old seat before put mid agent ask kept is pending in
+does_asked counts keeps_all all old was new seat before put mid agent ask id same kept is pending gives appends cells =
+    let ready = asked counts keeps_all all old seat before put mid agent ask kept is pending in
     let number : old.next ≡ id = kept.numbers ∙ request_number old.book.state agent ask new.book.state id new.book.recent gives in (
       subst (λ (o : Inner). Does o new (Request agent ask) (reply.Request id)) same (record { gives = gives; appends = appends; cells = λ other phase live. cells other ∙ ready.0.cells other phase live }),
       cells id ∙ subst (λ (n : ℕ). cells_at n mid ≡ seat.cell ∷ []) number ready.1,
@@ -323,5 +324,5 @@ pub on_err : {X Y : Type 0} (P : Type 0) (r : Result X Y) → P → OnErr r P
 on_err P (Ok x) is = tt
 on_err P (Err x) is = is
 
-pub ready_abort : (counts : Bool) (all : ℕ) (old : Inner) (mid : Kept) (agent signal : ℕ) (reason : Reason) (before : List Change) → IsKept counts all old → LetGoBy old before mid → Ready old (Abort agent signal reason) mid
-ready_abort counts all old mid agent signal reason before kept left = ready_left counts all old mid (Abort agent signal reason) kept (let_go_by old mid before left) (λ id. refl)
+pub ready_abort : (counts keeps_all : Bool) (all : ℕ) (old : Inner) (mid : Kept) (agent signal : ℕ) (reason : Reason) (before : List Change) → IsKept counts keeps_all all old → LetGoBy old before mid → Ready old (Abort agent signal reason) mid
+ready_abort counts keeps_all all old mid agent signal reason before kept left = ready_left counts keeps_all all old mid (Abort agent signal reason) kept (let_go_by old mid before left) (λ id. refl)

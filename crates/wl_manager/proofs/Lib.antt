@@ -1,4 +1,5 @@
 mod Settling
+mod Cutting
 pub mod Keeping
 mod Aborting
 pub mod Aborted

@@ -1,5 +1,5 @@
 -- What lies under a manager's lock, as contracts see it, and what holds of it whenever the lock is free (own).
-use Rattle.std.specs.Prelude.{◌≡◌, ℕ, ◌+◌, ◌^◌, ◌≤◌, Bool, true, List, [], ◌∷◌, ◌++◌, filter}
+use Rattle.std.specs.Prelude.{◌≡◌, ℕ, ◌+◌, ◌^◌, ◌≤◌, Bool, true, List, [], ◌∷◌, ◌++◌, length, filter}
 use Rattle.wl_types.specs.Phases.{is_end}
 use Rattle.wl_types.specs.declared.phases.Phase.{Phase}
 use Rattle.wl_types.specs.declared.phases.Change.{Change}
@@ -12,7 +12,8 @@ use Rattle.wl_machine.specs.OneMove.{phases_in}
 use Rattle.wl_machine.specs.Standing.{IsStanding}
 use Rattle.wl_core.specs.Realm.{all_ones}
 use Rattle.wl_journal.specs.Books.{Book, Appends}
-use Rattle.wl_journal.specs.History.{recorded}
+use Rattle.wl_journal.specs.History.{IsLegal, state_of, recorded}
+use Rattle.wl_journal.specs.declared.entry.Entry.{Entry}
 use Rattle.wl_manager.specs.Keepers.{Kept, phases_at, cells_at}
 
 -- the journal; the keepers; the number that the next request gets; how many agents opened, and how many Leavings were handed in;
@@ -31,16 +32,37 @@ pub record Inner : Type 0 where
 abbrev pub first : State
 first = opening all_ones
 
+-- the agents, signals and requests of a state
+abbrev pub rows_of : State → ℕ
+rows_of s = length s.agents + length s.signals + length s.held + length s.pending
+
+-- Entries that a journal has from this base on: with those that were cut before they are a legal history from the opening state.
+-- Where all are kept, none was cut
+pub record Shows (keeps_all : Bool) (base : State) (entries : List Entry) : Type 0 where
+  pub cut : List Entry
+  pub legal : IsLegal first (cut ++ entries)
+  pub leads : base ≡ state_of first cut
+  pub none : keeps_all ≡ true → cut ≡ []
+
+-- What was cut of a journal: a legal history from the opening state to the journal's base, and all that was recorded before.
+-- Where all entries are kept, nothing
+pub record IsCut (keeps_all : Bool) (book : Book) : Type 0 where
+  pub cut : List Entry
+  pub legal : IsLegal first cut
+  pub leads : book.base ≡ state_of first cut
+  pub count : book.total ≡ length cut + length book.entries
+  pub none : keeps_all ≡ true → cut ≡ []
+
 -- the ends that changes give the request of this number
 abbrev pub ends_in : ℕ → List Change → List Phase
 ends_in id changes = filter is_end (phases_of id changes)
 
--- Whenever the lock is free: the journal has all entries since the opening state (that they are legal and lead to the state is in
--- the book's own type). The keepers are those of the live requests, each at its request's phase, and those of the requests that
+-- Whenever the lock is free: the journal has all entries since the opening state, but those that were cut (that its entries are
+-- legal from its base and lead to the state is in the book's own type). The keepers are those of the live requests, each at its request's phase, and those of the requests that
 -- the last changes ended, each at that end; there are no others. Where shares are counted, the total of the ledger is the
 -- journal's, and each agent that opened has one part of the whole, until its Leaving is handed in
-pub record IsKept (counts : Bool) (all : ℕ) (l : Inner) : Type 0 where
-  pub base : l.book.base ≡ first
+pub record IsKept (counts keeps_all : Bool) (all : ℕ) (l : Inner) : Type 0 where
+  pub journal : IsCut keeps_all l.book
   pub standing : IsStanding l.book.state
   pub numbers : l.next ≡ l.book.state.next.request
   pub agents : l.book.state.next.agent ≡ l.opened + 1

@@ -1,6 +1,7 @@
 //! An agent of a manager.
 
-ghost use Rattle.std.specs.Prelude.{◌≡◌, ℕ, ◌+◌, ◌≤◌, true, ◌⊎◌, IfOk, IfErr, OnOk, OnErr, if◌then◌else◌};
+ghost use Rattle.std.specs.Prelude.{◌≡◌, ℕ, ◌+◌, ◌≤◌, true, ◌⊎◌, ◌==◌, not, IfOk, IfErr, OnOk, OnErr, if◌then◌else◌};
+ghost use Rattle.std.specs.List.{list_any};
 ghost use Rattle.wl_types.specs.declared.answers.AbortAnswer.TheVariants.{AlreadyAborted};
 ghost use Rattle.wl_types.specs.declared.refusal.Refusal.TheVariants.{NoSuchAgent, NoSuchSignal};
 ghost use Rattle.wl_manager.specs.Agents.{is_released, entries_of_abort};
@@ -12,7 +13,7 @@ use crate::ticket::Ticket;
 use std::sync::{Arc, Wait};
 use wl_core::LockCore;
 use wl_journal::Sight;
-use wl_types::{AbortAnswer, Ask, Reason, Refusal, ReleaseAnswer};
+use wl_types::{AbortAnswer, Ask, Change, Reason, Refusal, ReleaseAnswer};
 
 /// A window or worker that opened. Each call but `client` takes the manager's lock, and is one event of the machine.
 ///
@@ -43,12 +44,12 @@ impl<C: LockCore, T: Count> Agent<C, T> {
         let Ok(manager) = Arc::try_clone(&self.manager) else {
             return Err(Refusal::Memory);
         };
-        let (number, owner) = self
-            .manager
-            .locked
-            .lock(rt)
-            .request(self.number, ask, &mut self.share)?;
-        self.manager.settled.notify_all();
+        let mut locked = self.manager.locked.lock(rt);
+        let (number, owner) = locked.request(self.number, ask, &mut self.share)?;
+        let tells = tells_of_another(locked.changes(), number);
+        locked.trim();
+        drop(locked);
+        self.manager.wake(tells);
         Ok(Ticket {
             manager,
             owner,
@@ -64,12 +65,11 @@ impl<C: LockCore, T: Count> Agent<C, T> {
         ensures ticket { ticket.new ≡ ticket.old }
     {
         let id = ticket.number;
-        let answer = self
-            .manager
-            .locked
-            .lock(rt)
-            .release(self.number, id, &mut self.share);
-        self.manager.settled.notify_all();
+        let mut locked = self.manager.locked.lock(rt);
+        let answer = locked.release(self.number, id, &mut self.share);
+        let tells = tells_of_another(locked.changes(), id);
+        drop(locked);
+        self.manager.wake(tells);
         answer
     }
 
@@ -80,10 +80,10 @@ impl<C: LockCore, T: Count> Agent<C, T> {
         ensures err { OnErr result (T.COUNTS ≡ true → T.amount self.new.share ≡ T.amount self.old.share) }
         ensures client { self.new.number ≡ self.old.number }
     {
-        self.manager
-            .locked
-            .lock(rt)
-            .new_signal(self.number, &mut self.share)
+        let mut locked = self.manager.locked.lock(rt);
+        let signal = locked.new_signal(self.number, &mut self.share)?;
+        locked.trim();
+        Ok(signal)
     }
 
     /// Aborts a signal of this agent. Its requests that wait end, and so do its granted locks that weren't taken: of
@@ -99,12 +99,11 @@ impl<C: LockCore, T: Count> Agent<C, T> {
         ensures err { OnErr result (T.COUNTS ≡ true → T.amount self.new.share ≡ T.amount self.old.share) }
         ensures client { self.new.number ≡ self.old.number }
     {
-        let aborted = self
-            .manager
-            .locked
-            .lock(rt)
-            .abort(self.number, signal, reason, &mut self.share);
-        self.manager.settled.notify_all();
+        let mut locked = self.manager.locked.lock(rt);
+        let aborted = locked.abort(self.number, signal, reason, &mut self.share);
+        let tells = !locked.changes().is_empty();
+        drop(locked);
+        self.manager.wake(tells);
         aborted
     }
 
@@ -115,10 +114,10 @@ impl<C: LockCore, T: Count> Agent<C, T> {
         ensures err { OnErr result (T.COUNTS ≡ true → T.amount self.new.share ≡ T.amount self.old.share) }
         ensures client { self.new.number ≡ self.old.number }
     {
-        self.manager
-            .locked
-            .lock(rt)
-            .set_active(self.number, active, &mut self.share)
+        let mut locked = self.manager.locked.lock(rt);
+        locked.set_active(self.number, active, &mut self.share)?;
+        locked.trim();
+        Ok(())
     }
 
     /// What is held and what waits, after how many entries. Refused: `InvalidState`, `Memory`.
@@ -144,9 +143,19 @@ impl<C: LockCore, T: Count> Agent<C, T> {
             share,
         } = self;
         let mut share = share;
+        let mut locked = manager.locked.lock(rt);
         // Only this call ends the agent, so it is never refused.
-        let _ = manager.locked.lock(rt).terminate(number, &mut share);
-        manager.settled.notify_all();
+        let _ = locked.terminate(number, &mut share);
+        let tells = !locked.changes().is_empty();
+        drop(locked);
+        manager.wake(tells);
         Leaving { share }
     }
+}
+
+// Whether changes tell of a request other than this one. Nobody waits for one that was just made, or that is held.
+fn tells_of_another(changes: &[Change], id: u64) -> bool
+    ensures { result ≡ list_any (λ change. not (change.id == id)) changes.now }
+{
+    changes.iter().any(|change| change.id != id)
 }

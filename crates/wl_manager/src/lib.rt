@@ -17,7 +17,7 @@ mod tests;
 mod ticket;
 
 pub use crate::agent::Agent;
-pub use crate::count::{Count, Ledgered, Loose};
+pub use crate::count::{Count, Ledgered, Loose, Recent};
 pub use crate::locked::{Leaving, Locked, TallyFault};
 pub use crate::manager::{Manager, Visitor};
 pub use crate::ticket::Ticket;

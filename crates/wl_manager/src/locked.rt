@@ -16,6 +16,7 @@ use wl_types::{Kind, Numbers, Refusal};
 
 mod abort;
 mod commands;
+mod journal;
 mod tally;
 
 pub use tally::{Leaving, TallyFault};
@@ -46,7 +47,7 @@ impl<C: LockCore, T: Count> Model for Locked<C, T> {
 
     ghost view = { λ l. record { book = l.book; kept = l.keepers; next = l.next; opened = l.opened; handed = l.handed; total = T.total l.total; parts = T.parts l.share; amount = T.amount l.share } };
 
-    ghost invariant = { λ l. IsKept T.COUNTS T.all (record { book = l.book; kept = l.keepers; next = l.next; opened = l.opened; handed = l.handed; total = T.total l.total; parts = T.parts l.share; amount = T.amount l.share }) };
+    ghost invariant = { λ l. IsKept T.COUNTS T.KEEPS_ALL T.all (record { book = l.book; kept = l.keepers; next = l.next; opened = l.opened; handed = l.handed; total = T.total l.total; parts = T.parts l.share; amount = T.amount l.share }) };
 }
 
 impl<C: LockCore, T: Count> Locked<C, T> {

@@ -2,31 +2,35 @@
 
 ghost use Rattle.std.specs.Prelude.{◌≡◌, ◌≤◌, ◌^◌, true, IfOk, IfErr};
 ghost use Rattle.wl_journal.specs.History.{IsLegal};
-ghost use Rattle.wl_manager.specs.Locked.{first};
+ghost use Rattle.wl_manager.specs.Locked.{Shows, first};
 
 use crate::agent::Agent;
 use crate::count::Count;
 use crate::locked::{Leaving, Locked, TallyFault};
 use std::alloc::Global;
 use std::sync::{Arc, Condvar, Mutex, Wait};
-use wl_core::LockCore;
+use wl_core::{LockCore, PlainCore};
 use wl_journal::Entry;
 use wl_types::{Kind, Memory, Refusal};
 
-/// Who is shown a manager's journal.
-pub trait Visitor {
+/// Who is shown the journal of a manager that counts by T.
+pub trait Visitor<T: Count> {
     /// Called once by each `visit`, under the manager's lock: it should be short, and call nothing of that manager.
-    fn visit(&mut self, entries: &[Entry])
-        requires { IsLegal first entries.now };
+    /// The base is a core of the state before the entries.
+    fn visit(&mut self, base: &PlainCore, entries: &[Entry])
+        requires all { T.KEEPS_ALL ≡ true → IsLegal first entries.now }
+        requires since { IsLegal base.now.state entries.now }
+        requires shown { Shows T.KEEPS_ALL base.now.state entries.now };
 }
 
 /// A lock manager under one lock. Its agents and tickets hold it, and it lives until the last of them is dropped.
 ///
-/// A manager never cuts its journal, so that grows with each entry.
+/// Where the type of its counts keeps all entries, its journal grows with each. Else it is cut once it has outgrown
+/// what is live, so that a manager's memory grows with that alone.
 #[derive(Drop)]
 pub struct Manager<C: LockCore, T: Count> {
     pub(crate) locked: Mutex<Locked<C, T>>,
-    // Notified after each command, since it may have settled a request that somebody waits for.
+    // Notified after each command that changed a request for which somebody may wait.
     pub(crate) settled: Condvar,
 }
 
@@ -61,7 +65,10 @@ impl<C: LockCore, T: Count> Manager<C, T> {
         let Ok(manager) = Arc::try_clone(this) else {
             return Err(Refusal::Memory);
         };
-        let (number, share) = this.locked.lock(rt).open(kind)?;
+        let mut locked = this.locked.lock(rt);
+        let (number, share) = locked.open(kind)?;
+        locked.trim();
+        drop(locked);
         Ok(Agent {
             manager,
             number,
@@ -69,10 +76,17 @@ impl<C: LockCore, T: Count> Manager<C, T> {
         })
     }
 
-    /// Shows the entries since the opening state.
-    pub fn visit<R: Wait, V: Visitor>(&self, rt: &R, visitor: &mut V) {
+    /// Wakes those that wait, where there is something that they may wait for. Called without the lock.
+    pub(crate) fn wake(&self, tells: bool) {
+        if tells {
+            self.settled.notify_all();
+        }
+    }
+
+    /// Shows the entries: all of them, or where not all are kept those since the last cut.
+    pub fn visit<R: Wait, V: Visitor<T>>(&self, rt: &R, visitor: &mut V) {
         let locked = self.locked.lock(rt);
-        visitor.visit(locked.entries());
+        visitor.visit(locked.base(), locked.entries());
     }
 
     /// The number of entries, where at least as many Leavings were handed in, here and in tallies that succeeded, as

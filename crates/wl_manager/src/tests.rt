@@ -4,12 +4,12 @@
 mod agents;
 mod threads;
 
-use crate::{Agent, Loose, Manager, Visitor};
+use crate::{Agent, Count, Loose, Manager, Visitor};
 use std::alloc::Global;
 use std::sync::{Arc, Wait};
 use std::test::Fail;
 use wl_core::{Command, PlainCore};
-use wl_journal::Entry;
+use wl_journal::{Entry, audit};
 use wl_types::{Ask, Kind, Memory, Mode, Text};
 
 type Plain = Manager<PlainCore, Loose>;
@@ -42,12 +42,26 @@ struct Sum {
     takes: usize,
 }
 
-impl Visitor for Sum {
-    fn visit(&mut self, entries: &[Entry]) {
+impl<T: Count> Visitor<T> for Sum {
+    fn visit(&mut self, _base: &PlainCore, entries: &[Entry]) {
         self.entries = entries.len();
         self.takes = entries
             .iter()
             .filter(|entry| matches!(entry.command, Command::Take(_)))
             .count();
+    }
+}
+
+/// How many entries a journal shows, and whether they are legal from its base.
+#[derive(Drop)]
+struct Audit {
+    entries: usize,
+    is_legal: bool,
+}
+
+impl<T: Count> Visitor<T> for Audit {
+    fn visit(&mut self, base: &PlainCore, entries: &[Entry]) {
+        self.entries = entries.len();
+        self.is_legal = audit(base, entries).is_ok();
     }
 }

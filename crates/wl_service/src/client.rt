@@ -11,18 +11,18 @@ use crate::opaque::OpaqueAgent;
 use std::marker::Model;
 use std::sync::Wait;
 use wl_journal::Sight;
-use wl_manager::{Agent, Loose};
+use wl_manager::{Agent, Recent};
 use wl_types::{AbortAnswer, Ask, Kind, Reason, Refusal, ReleaseAnswer};
 
 /// What a client has of its request. It may move to another thread, and may outlive the client.
-pub type Ticket = wl_manager::Ticket<Core, Loose>;
+pub type Ticket = wl_manager::Ticket<Core, Recent>;
 
 /// What an ended client leaves. A service counts no shares, so it has no bytes.
-pub type Leaving = wl_manager::Leaving<Loose>;
+pub type Leaving = wl_manager::Leaving<Recent>;
 
 #[derive(Drop)]
 enum Side {
-    Managed(Agent<Core, Loose>),
+    Managed(Agent<Core, Recent>),
     Opaque(OpaqueAgent),
 }
 
@@ -44,7 +44,7 @@ impl Model for Client {
 }
 
 impl Client {
-    pub(crate) fn managed(agent: Agent<Core, Loose>) -> Client
+    pub(crate) fn managed(agent: Agent<Core, Recent>) -> Client
         ensures { result ≡ Managed agent.number }
     {
         Client {

@@ -11,7 +11,7 @@ use std::alloc::Global;
 use std::collections::BTreeMap;
 use std::sync::{Arc, Wait};
 use wl_core::PlainCore;
-use wl_manager::{Agent, Loose, Manager};
+use wl_manager::{Agent, Manager, Recent};
 use wl_origin::OriginKey;
 use wl_types::{Kind, Refusal};
 
@@ -19,7 +19,7 @@ use wl_types::{Kind, Refusal};
 pub type Core = PlainCore;
 
 /// A manager as the directory and its agents hold it.
-pub(crate) type Shared = Arc<Manager<Core, Loose>, Global>;
+pub(crate) type Shared = Arc<Manager<Core, Recent>, Global>;
 
 /// A manager for each origin at which somebody opened, in the order of their keys. It stays for the life of the
 /// service.
@@ -62,7 +62,7 @@ impl Directory {
         alloc: Global,
         key: OriginKey,
         kind: Kind,
-    ) -> Result<Agent<Core, Loose>, OpenFault>
+    ) -> Result<Agent<Core, Recent>, OpenFault>
         requires { kept_for self.old.managers.entries key ≡ None }
         ensures ok { OnOk result (Adds self.old.managers.entries self.new.managers.entries key) }
         ensures err { OnErr result (self.new.managers.entries ≡ self.old.managers.entries) }

@@ -9,7 +9,7 @@ use crate::directory::{Directory, fault_of};
 use crate::fault::OpenFault;
 use std::alloc::Global;
 use std::sync::{Arc, Mutex, Wait};
-use wl_manager::{Manager, Visitor};
+use wl_manager::{Manager, Recent, Visitor};
 use wl_origin::{KeyFault, OriginKey, Standing, key_of};
 use wl_types::{Kind, Memory};
 
@@ -58,9 +58,10 @@ impl Service {
         Ok(Client::managed(agent))
     }
 
-    /// Shows the entries of the key's manager, without the directory's lock, and answers true; or answers false and
-    /// calls nobody where the key has no manager. `Memory` comes only where the manager's count of owners is used up.
-    pub fn visit<R: Wait, V: Visitor>(
+    /// Shows the entries of the key's manager since its last cut, and the state before them, without the directory's
+    /// lock, and answers true; or answers false and calls nobody where the key has no manager. `Memory` comes only
+    /// where the manager's count of owners is used up.
+    pub fn visit<R: Wait, V: Visitor<Recent>>(
         &self,
         rt: &R,
         key: &OriginKey,

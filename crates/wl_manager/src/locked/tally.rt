@@ -1,13 +1,10 @@
-//! How many entries there are once all agents have left, and which.
+//! How many entries there are once all agents have left.
 
 ghost use Rattle.std.specs.Prelude.{◌≡◌, ◌+◌, ◌-◌, ◌<◌, ◌≤◌, ◌^◌, length, min, true, IfOk, IfErr, OnOk};
-ghost use Rattle.wl_journal.specs.History.{IsLegal};
-ghost use Rattle.wl_manager.specs.Locked.{first};
 
 use crate::count::Count;
 use crate::locked::Locked;
 use wl_core::LockCore;
-use wl_journal::Entry;
 
 /// What an agent that ended leaves: its share. A manager's tally takes it in.
 #[derive(Drop)]
@@ -24,14 +21,6 @@ pub enum TallyFault<T: Count> {
 }
 
 impl<C: LockCore, T: Count> Locked<C, T> {
-    /// The entries since the opening state.
-    pub fn entries(&self) -> &[Entry]
-        ensures entries { result.now ≡ self.now.book.entries }
-        ensures legal { IsLegal first result.now }
-    {
-        self.book.entries()
-    }
-
     /// The number of entries, where at least as many Leavings were handed in, here and in tallies that succeeded, as
     /// agents opened. Where shares are counted, the manager's share is then the whole, so every agent that ever
     /// opened has left, and what all agents' shares had adds up to this number.

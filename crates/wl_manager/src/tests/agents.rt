@@ -1,11 +1,12 @@
 //! Each call of an agent and of a ticket.
 
-use super::{Plain, Sum, ask, one_agent};
-use crate::{Manager, Visitor};
-use std::sync::Wait;
+use super::{Audit, Plain, Sum, ask, one_agent};
+use crate::{Count, Manager, Recent, Visitor};
+use std::alloc::Global;
+use std::sync::{Arc, Wait};
 use std::test::Fail;
 use wl_cell::Taking;
-use wl_core::{Command, ReleaseAnswer, Reply};
+use wl_core::{Command, PlainCore, ReleaseAnswer, Reply};
 use wl_journal::{Entry, Sight};
 use wl_types::{Kind, Mode, Phase, Refusal};
 
@@ -16,8 +17,8 @@ struct Course {
     released: bool,
 }
 
-impl Visitor for Course {
-    fn visit(&mut self, entries: &[Entry]) {
+impl<T: Count> Visitor<T> for Course {
+    fn visit(&mut self, _base: &PlainCore, entries: &[Entry]) {
         self.asked = is_asked(entries);
         self.released = entries.len() == 3 && is_released(&entries[2]);
     }
@@ -125,5 +126,25 @@ fn an_inactive_window_asks_for_nothing(rt: HostRuntime) -> Result<(), Fail> {
     };
     manager.visit(&rt, &mut sum);
     assert_eq!(rt; sum.entries, 3);
+    Ok(())
+}
+
+#[test]
+fn a_journal_that_is_cut_stays_short(rt: HostRuntime) -> Result<(), Fail> {
+    let alloc = rt.alloc();
+    let manager: Arc<Manager<PlainCore, Recent>, Global> = Manager::new(&rt, alloc, (), (), ())?;
+    let mut agent = Manager::open(&manager, &rt, Kind::Window)?;
+    let asked = ask(alloc, "db", Mode::Exclusive)?;
+    let mut audited = Audit {
+        entries: 0,
+        is_legal: false,
+    };
+    for _ in 0..1000 {
+        let mut ticket = agent.request(&rt, &asked)?;
+        assert_eq!(rt; agent.release(&rt, &mut ticket), ReleaseAnswer::Released);
+    }
+    manager.visit(&rt, &mut audited);
+    assert!(rt; audited.is_legal && audited.entries == 975);
+    assert_eq!(rt; agent.query(&rt)?.seen, 2001);
     Ok(())
 }

@@ -2,8 +2,8 @@
 
 ghost use Rattle.std.specs.Prelude.{◌≡◌, ◌≤◌, ◌^◌};
 
-use super::{Plain, Sum, ask, one_agent};
-use crate::{Agent, Count, Leaving, Ledgered, Loose, Manager, TallyFault, Ticket, Visitor};
+use super::{Audit, Plain, Sum, ask, one_agent};
+use crate::{Agent, Count, Leaving, Ledgered, Loose, Manager, TallyFault, Ticket};
 use std::alloc::Global;
 use std::marker::Brand;
 use std::process::Abort;
@@ -14,8 +14,7 @@ use std::thread;
 use std::thread::Threads;
 use wl_cell::{Taking, Watch};
 use wl_core::{LockCore, PlainCore, ReleaseAnswer};
-use wl_journal::{Entry, audit};
-use wl_types::{AbortAnswer, Ask, Kind, Mode, Numbers, Phase, Reason};
+use wl_types::{AbortAnswer, Ask, Kind, Mode, Phase, Reason};
 
 const ABORTED: Phase = Phase::Aborted(Reason::AbortError);
 
@@ -83,19 +82,6 @@ fn two_agents_take_turns_and_are_counted(rt: HostRuntime) -> Result<(), Fail> {
     two_agents::<Brand, _>(&rt, rt.alloc(), Blank::new(1 << 53))
 }
 
-/// Whether a journal is legal from the opening state.
-#[derive(Drop)]
-struct Audit {
-    base: PlainCore,
-    is_legal: bool,
-}
-
-impl Visitor for Audit {
-    fn visit(&mut self, entries: &[Entry]) {
-        self.is_legal = audit(&self.base, entries).is_ok();
-    }
-}
-
 type PlainAgent = Agent<PlainCore, Loose>;
 
 type PlainTicket = Ticket<PlainCore, Loose>;
@@ -140,13 +126,8 @@ fn a_take_and_an_abort_race_a_thousand_times(rt: HostRuntime) -> Result<(), Fail
         let ticket = agent.request(&rt, &asked)?;
         agent = race(&rt, agent, ticket, signal);
     }
-    let next = Numbers {
-        agent: 1,
-        request: 1,
-        signal: 1,
-    };
     let mut audited = Audit {
-        base: PlainCore::make(alloc, (), next),
+        entries: 0,
         is_legal: false,
     };
     manager.visit(&rt, &mut audited);

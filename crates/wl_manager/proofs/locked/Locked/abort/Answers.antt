@@ -5,11 +5,11 @@ use Rattle.wl_manager.proofs.Keeping.{ready_abort}
 use Rattle.wl_manager.proofs.locked.Locked.abort.Goals as goal
 
 pub abort_granted-taken-requires-clause-settled : goal.abort_granted-taken-requires-clause-settled
-abort_granted-taken-requires-clause-settled g c = λ id. (ready_abort _ _ _ c.let_go.new.self c.args.agent c.args.signal c.args.reason c.changes.result.now c.self.invariant (c.changes.ensures, c.let_go.ensures)).phases id ∙ append-nil _
+abort_granted-taken-requires-clause-settled g c = λ id. (ready_abort _ _ _ _ c.let_go.new.self c.args.agent c.args.signal c.args.reason c.changes.result.now c.self.invariant (c.changes.ensures, c.let_go.ensures)).phases id ∙ append-nil _
 
 pub invariant_of-self : goal.invariant_of-self
 invariant_of-self g c =
-    kept_unaborted _ _ _ _ c.let_go.new.self c.args.agent c.args.signal c.args.reason c.abort_granted-taken.new.book c.abort_granted-taken.ensures.0 c.in-Err.refusal c.self.invariant c.abort_granted-taken.ensures.1 c.in-Err.ensures.refused c.in-Err.ensures.unchanged c.in-Err.ensures.no_changes c.in-Err.ensures.nothing_added refl refl refl refl refl
+    kept_unaborted _ _ _ _ _ c.let_go.new.self c.args.agent c.args.signal c.args.reason c.abort_granted-taken.new.book c.abort_granted-taken.ensures.0 c.in-Err.refusal c.self.invariant c.abort_granted-taken.ensures.1 c.in-Err.ensures.refused c.in-Err.ensures.unchanged c.in-Err.ensures.no_changes c.in-Err.ensures.nothing_added refl refl refl refl refl
 
 pub returns-in-Err-clause-refused : goal.returns-in-Err-clause-refused
 returns-in-Err-clause-refused g c =
@@ -17,7 +17,7 @@ returns-in-Err-clause-refused g c =
 
 pub returns-in-Err-clause-unchanged : goal.returns-in-Err-clause-unchanged
 returns-in-Err-clause-unchanged g c = (
-  stays_unaborted _ _ _ c.args.self.now _ c.let_go.new.self c.args.agent c.args.signal c.args.reason c.abort_granted-taken.new.book c.abort_granted-taken.ensures.0 c.in-Err.refusal c.changes.result.now c.self.view_is c.self.invariant (c.changes.ensures, c.let_go.ensures) c.abort_granted-taken.ensures.1 c.in-Err.ensures.refused c.in-Err.ensures.unchanged c.in-Err.ensures.nothing_added refl refl refl,
+  stays_unaborted _ _ _ _ c.args.self.now _ c.let_go.new.self c.args.agent c.args.signal c.args.reason c.abort_granted-taken.new.book c.abort_granted-taken.ensures.0 c.in-Err.refusal c.changes.result.now c.self.view_is c.self.invariant (c.changes.ensures, c.let_go.ensures) c.abort_granted-taken.ensures.1 c.in-Err.ensures.refused c.in-Err.ensures.unchanged c.in-Err.ensures.nothing_added refl refl refl,
   refl,
 )
 
@@ -34,12 +34,12 @@ overflow_add-taken g c =
 
 pub invariant_of-self-2 : goal.invariant_of-self-2
 invariant_of-self-2 g c =
-    kept_aborted _ _ _ _ c.let_go.new.self c.args.agent c.args.signal c.args.reason c.abort_granted-taken.new.book c.abort_granted-taken.new.keepers c.abort_granted-taken.ensures.0 c.in-Ok.answer c.changes-2.result.now c.self.invariant c.abort_granted-taken.ensures.1 c.in-Ok.ensures.aborted c.in-Ok.ensures.added c.changes-2.ensures c.settle_all.ensures.phases refl refl
+    kept_aborted _ _ _ _ _ c.let_go.new.self c.args.agent c.args.signal c.args.reason c.abort_granted-taken.new.book c.abort_granted-taken.new.keepers c.abort_granted-taken.ensures.0 c.in-Ok.answer c.changes-2.result.now c.self.invariant c.abort_granted-taken.ensures.1 c.in-Ok.ensures.aborted c.in-Ok.ensures.added c.changes-2.ensures c.settle_all.ensures.phases refl refl
     (λ counts. let total = c.add.ensures.total counts in let count = c.abort_granted-taken.ensures.2 in let own = c.entries_of-own.ensures.count in omega (arith, total, count, own)) c.self.invariant.shared
 
 pub returns-clause-aborted : goal.returns-clause-aborted
 returns-clause-aborted g c = (
   c.abort_granted-taken.ensures.0,
-  does_aborted _ _ _ c.args.self.now _ c.let_go.new.self c.args.agent c.args.signal c.args.reason c.abort_granted-taken.new.book c.abort_granted-taken.new.keepers c.abort_granted-taken.ensures.0 c.in-Ok.answer c.changes.result.now c.self.view_is c.self.invariant (c.changes.ensures, c.let_go.ensures) c.abort_granted-taken.ensures.1 c.in-Ok.ensures.aborted c.in-Ok.ensures.added c.settle_all.ensures.cells,
+  does_aborted _ _ _ _ c.args.self.now _ c.let_go.new.self c.args.agent c.args.signal c.args.reason c.abort_granted-taken.new.book c.abort_granted-taken.new.keepers c.abort_granted-taken.ensures.0 c.in-Ok.answer c.changes.result.now c.self.view_is c.self.invariant (c.changes.ensures, c.let_go.ensures) c.abort_granted-taken.ensures.1 c.in-Ok.ensures.aborted c.in-Ok.ensures.added c.settle_all.ensures.cells,
   λ counts. let amount = c.add.ensures.amount counts in let count = c.abort_granted-taken.ensures.2 in let own = c.entries_of-own.ensures.count in omega (arith, amount, count, own),
 )

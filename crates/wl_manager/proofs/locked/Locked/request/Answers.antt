@@ -5,30 +5,30 @@ use Rattle.wl_manager.proofs.locked.Locked.request.Goals as goal
 
 pub invariant_of-self-in-Err : goal.invariant_of-self-in-Err
 invariant_of-self-in-Err g c =
-    kept_refused _ _ _ _ c.changes.result.now c.self.invariant (undone _ _ _ c.in-Ok.keeper c.changes.result.now c.put.new.self c.let_go.new.self _ c.self.invariant (record { told = c.changes.ensures; puts = c.in-Ok-put.ensures.put; left = c.let_go.ensures }) c.remove.ensures)
+    kept_refused _ _ _ _ _ c.changes.result.now c.self.invariant (undone _ _ _ _ c.in-Ok.keeper c.changes.result.now c.put.new.self c.let_go.new.self _ c.self.invariant (record { told = c.changes.ensures; puts = c.in-Ok-put.ensures.put; left = c.let_go.ensures }) c.remove.ensures)
     c.in-Err.ensures.unchanged c.in-Err.ensures.no_changes c.in-Err.ensures.nothing_added refl refl refl refl refl
 
 pub returns-in-Err-clause-unchanged : goal.returns-in-Err-clause-unchanged
 returns-in-Err-clause-unchanged g c = (
-  stays_refused _ _ _ c.args.self.now _ c.changes.result.now c.self.view_is c.self.invariant (undone _ _ _ c.in-Ok.keeper c.changes.result.now c.put.new.self c.let_go.new.self c.remove.new.self c.self.invariant (record { told = c.changes.ensures; puts = c.in-Ok-put.ensures.put; left = c.let_go.ensures }) c.remove.ensures)
+  stays_refused _ _ _ _ c.args.self.now _ c.changes.result.now c.self.view_is c.self.invariant (undone _ _ _ _ c.in-Ok.keeper c.changes.result.now c.put.new.self c.let_go.new.self c.remove.new.self c.self.invariant (record { told = c.changes.ensures; puts = c.in-Ok-put.ensures.put; left = c.let_go.ensures }) c.remove.ensures)
       c.in-Err.ensures.unchanged c.in-Err.ensures.nothing_added refl refl refl,
   refl,
 )
 
 pub settle_all-requires : goal.settle_all-requires
 settle_all-requires g c =
-    settles_asked _ _ _ c.in-Ok.keeper c.changes.result.now c.put.new.self c.let_go.new.self c.request.new.self c.args.agent c.args.ask.now c.in-Ok-request.id c.changes-2.result.now c.self.invariant (record { told = c.changes.ensures; puts = c.in-Ok-put.ensures.put; left = c.let_go.ensures }) c.in-Ok.ensures.keeper c.in-Ok-request.ensures.requested c.changes-2.ensures
+    settles_asked _ _ _ _ c.in-Ok.keeper c.changes.result.now c.put.new.self c.let_go.new.self c.request.new.self c.args.agent c.args.ask.now c.in-Ok-request.id c.changes-2.result.now c.self.invariant (record { told = c.changes.ensures; puts = c.in-Ok-put.ensures.put; left = c.let_go.ensures }) c.in-Ok.ensures.keeper c.in-Ok-request.ensures.requested c.changes-2.ensures
 
 pub invariant_of-self-2 : goal.invariant_of-self-2
 invariant_of-self-2 g c =
-    kept_asked _ _ _ _ c.in-Ok.keeper c.changes.result.now c.put.new.self c.let_go.new.self c.args.agent c.args.ask.now c.in-Ok-request.id c.changes-2.result.now c.self.invariant (record { told = c.changes.ensures; puts = c.in-Ok-put.ensures.put; left = c.let_go.ensures }) c.in-Ok.ensures.keeper c.in-Ok-request.ensures.requested c.in-Ok-request.ensures.added c.changes-2.ensures
+    kept_asked _ _ _ _ _ c.in-Ok.keeper c.changes.result.now c.put.new.self c.let_go.new.self c.args.agent c.args.ask.now c.in-Ok-request.id c.changes-2.result.now c.self.invariant (record { told = c.changes.ensures; puts = c.in-Ok-put.ensures.put; left = c.let_go.ensures }) c.in-Ok.ensures.keeper c.in-Ok-request.ensures.requested c.in-Ok-request.ensures.added c.changes-2.ensures
     c.settle_all.ensures.phases refl refl c.add.ensures.total c.self.invariant.shared
 
 pub returns-clause-requested : goal.returns-clause-requested
 returns-clause-requested g c =
-    (does_asked _ _ _ c.args.self.now _ c.in-Ok.keeper c.changes.result.now c.put.new.self c.let_go.new.self c.args.agent c.args.ask.now c.in-Ok-request.id c.self.view_is c.self.invariant (record { told = c.changes.ensures; puts = c.in-Ok-put.ensures.put; left = c.let_go.ensures }) c.in-Ok.ensures.keeper c.in-Ok-request.ensures.requested c.in-Ok-request.ensures.added c.settle_all.ensures.cells).0
+    (does_asked _ _ _ _ c.args.self.now _ c.in-Ok.keeper c.changes.result.now c.put.new.self c.let_go.new.self c.args.agent c.args.ask.now c.in-Ok-request.id c.self.view_is c.self.invariant (record { told = c.changes.ensures; puts = c.in-Ok-put.ensures.put; left = c.let_go.ensures }) c.in-Ok.ensures.keeper c.in-Ok-request.ensures.requested c.in-Ok-request.ensures.added c.settle_all.ensures.cells).0
 
 pub returns-clause-owner : goal.returns-clause-owner
 returns-clause-owner g c =
-    (does_asked _ _ _ c.args.self.now (record { book = c.request.new.self; kept = c.settle_all.new.self; next = 0; opened = 0; handed = 0; total = 0; parts = 0; amount = 0 }) c.in-Ok.keeper c.changes.result.now c.put.new.self c.let_go.new.self c.args.agent c.args.ask.now c.in-Ok-request.id c.self.view_is c.self.invariant (record { told = c.changes.ensures; puts = c.in-Ok-put.ensures.put; left = c.let_go.ensures }) c.in-Ok.ensures.keeper c.in-Ok-request.ensures.requested c.in-Ok-request.ensures.added c.settle_all.ensures.cells).1
+    (does_asked _ _ _ _ c.args.self.now (record { book = c.request.new.self; kept = c.settle_all.new.self; next = 0; opened = 0; handed = 0; total = 0; parts = 0; amount = 0 }) c.in-Ok.keeper c.changes.result.now c.put.new.self c.let_go.new.self c.args.agent c.args.ask.now c.in-Ok-request.id c.self.view_is c.self.invariant (record { told = c.changes.ensures; puts = c.in-Ok-put.ensures.put; left = c.let_go.ensures }) c.in-Ok.ensures.keeper c.in-Ok-request.ensures.requested c.in-Ok-request.ensures.added c.settle_all.ensures.cells).1
     ∙ ap (λ (cell : CellId). cell ∷ []) (sym c.in-Ok.ensures.one)
