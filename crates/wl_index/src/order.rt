@@ -88,6 +88,7 @@ fn untaken_place(number: u64, request: &Request, agent: u64, signal: u64) -> Opt
     }
 }
 
+/// Whether the request carries the signal.
 fn has_signal(request: &Request, signal: u64) -> bool
     ensures { result ≡ is_signal signal request.now.signal }
 {

@@ -81,3 +81,24 @@ fn a_steal_tells_the_same_on_both_cores(rt: HostRuntime) -> Result<(), Fail> {
     assert_eq!(rt; index.changes().len(), 3);
     Ok(())
 }
+
+/// The third lock waits for the first, so it is granted after the second.
+#[test]
+fn untaken_locks_are_told_in_the_order_of_grants(rt: HostRuntime) -> Result<(), Fail> {
+    let alloc = rt.alloc();
+    let mut core = opening(alloc);
+    assert_eq!(rt; core.open(Kind::Worker)?, 1);
+    assert_eq!(rt; core.new_signal(1)?, 1);
+    for name in ["a", "a", "b"] {
+        let mut wanted = ask(alloc, name, Mode::Exclusive)?;
+        wanted.signal = Some(1);
+        core.request(1, &wanted)?;
+    }
+    assert!(rt; core.release(1, 1) == ReleaseAnswer::Released);
+    assert!(rt; core.untaken(1, 1, 0) == Some(3));
+    assert!(rt; core.untaken(1, 1, 1) == Some(2));
+    assert!(rt; core.untaken(1, 1, 2) == None);
+    assert!(rt; core.take(3) == TakeAnswer::Taken);
+    assert!(rt; core.untaken(1, 1, 0) == Some(2));
+    Ok(())
+}
