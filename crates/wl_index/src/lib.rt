@@ -4,6 +4,7 @@
 pub mod index;
 pub mod line;
 pub mod names;
+mod order;
 pub mod owners;
 mod room;
 mod settle;
