@@ -3,17 +3,18 @@ ghost use Rattle.std.specs.Prelude.{◌≡◌, ℕ, ◌+◌, ◌≤◌, List, []
 ghost use Rattle.wl_types.specs.Refusals.{refused_or_memory};
 ghost use Rattle.wl_machine.specs.Refusals.{refusal};
 ghost use Rattle.wl_machine.specs.State.{opening, AreNumbers};
-ghost use Rattle.wl_machine.specs.Step.{Gives, available, new_request};
+ghost use Rattle.wl_machine.specs.Step.{step, Gives, available, new_request};
 
 use crate::names::Names;
 use crate::owners::Owners;
 use crate::room::push_in_room;
+use crate::snapshots::shown;
 use crate::table::Table;
 use std::alloc::Global;
 use std::marker::Model;
 use wl_machine::{Command, Reply};
 use wl_types::{
-    Ask, Change, Kind, Memory, Name, Numbers, Phase, Refusal, ReleaseAnswer, TakeAnswer,
+    Ask, Change, Kind, Memory, Name, Numbers, Phase, Refusal, ReleaseAnswer, Snapshot, TakeAnswer,
 };
 
 mod refusals;
@@ -262,6 +263,20 @@ impl IndexCore {
         ensures { result.now ≡ self.now.recent }
     {
         self.changes.as_slice()
+    }
+
+    /// What is held and what waits. Refused: `NoSuchAgent`, `InvalidState`.
+    pub fn snapshot(&self, agent: u64) -> Result<Snapshot, Refusal>
+        ensures seen { IfOk result (λ seen. step self.now.state (Command.Query agent) ≡ record { state = self.now.state; reply = Reply.Seen seen; changes = [] }) }
+        ensures refused { IfErr result (λ r. r ≡ refused_or_memory (refusal self.now.state (Command.Query agent))) }
+    {
+        if let Some(refusal) = self.query_refusal(agent) {
+            return Err(refusal);
+        }
+        match shown(self.alloc, &self.table, &self.names) {
+            Ok(snapshot) => Ok(snapshot),
+            Err(_) => Err(Refusal::Memory),
+        }
     }
 
     /// Whether an agent, of whatever kind, may open, memory aside.

@@ -8,6 +8,7 @@ mod order;
 pub mod owners;
 mod room;
 mod settle;
+mod snapshots;
 pub mod table;
 #[cfg(test)]
 mod tests;

@@ -92,7 +92,8 @@ impl Table {
 
     /// The numbers of the locks, in the order of their grants.
     pub fn locks_in_order(&self, alloc: Global) -> Result<Vec<u64>, Memory>
-        ensures { IfOk result (λ numbers. numbers.items ≡ map (λ (lock : HeldRow). lock.number) (held_of self.now.entries)) }
+        ensures numbers { IfOk result (λ numbers. numbers.items ≡ map (λ (lock : HeldRow). lock.number) (held_of self.now.entries)) }
+        ensures ordered { IsStrictlySortedBy nat_cmp (keys_of self.now.entries) }
     {
         let mut places = order::places(&self.requests, alloc)?;
         order::sort(&mut places);
