@@ -5,6 +5,7 @@ ghost use Rattle.wl_machine.specs.Refusals.{refusal};
 ghost use Rattle.wl_machine.specs.State.{opening, AreNumbers};
 ghost use Rattle.wl_machine.specs.Step.{step, Gives, available, new_request, untaken_numbers};
 
+use crate::copies::plain_copy;
 use crate::names::Names;
 use crate::owners::Owners;
 use crate::room::push_in_room;
@@ -12,6 +13,7 @@ use crate::snapshots::shown;
 use crate::table::Table;
 use std::alloc::Global;
 use std::marker::Model;
+use wl_core::PlainCore;
 use wl_machine::{Command, Reply};
 use wl_types::{
     Ask, Change, Kind, Memory, Name, Numbers, Phase, Refusal, ReleaseAnswer, Snapshot, TakeAnswer,
@@ -317,5 +319,13 @@ impl IndexCore {
         ensures refused { IfErr result (λ r. refusal self.now.state (Command.Request agent ask.now) ≡ Some r) }
     {
         refusals::unless_refused(self.request_refusal(agent, ask))
+    }
+
+    /// A plain core of the same state, with no changes.
+    pub fn copy_plain(&self) -> Result<PlainCore, Memory>
+        ensures state { IfOk result (λ copy. copy.state ≡ self.now.state) }
+        ensures recent { IfOk result (λ copy. copy.recent ≡ []) }
+    {
+        plain_copy(self.alloc, &self.owners, &self.names, &self.table)
     }
 }

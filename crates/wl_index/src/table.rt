@@ -16,6 +16,7 @@ ghost use Rattle.wl_index.specs.Rows.{Apart, holds, is_fresh, taken_stage, IsLoc
 use crate::order;
 use std::alloc::Global;
 use std::collections::BTreeMap;
+use std::collections::btree_map::Iter;
 use std::marker::Model;
 use wl_types::{Memory, Mode, Name};
 
@@ -88,6 +89,13 @@ impl Table {
         ensures { option_copied result ≡ lookup (is_at (nat_cmp number)) self.now.entries }
     {
         self.requests.get(&number)
+    }
+
+    /// The live requests by number.
+    pub fn iter(&self) -> Iter<'_, u64, Request>
+        ensures { result ≡ self.now.entries }
+    {
+        self.requests.iter()
     }
 
     /// The numbers of the locks, in the order of their grants.
