@@ -3,17 +3,20 @@ ghost use Rattle.std.specs.Prelude.{◌≡◌, ℕ, ◌+◌, ◌≤◌, List, []
 ghost use Rattle.wl_types.specs.Refusals.{refused_or_memory};
 ghost use Rattle.wl_machine.specs.Refusals.{refusal};
 ghost use Rattle.wl_machine.specs.State.{opening, AreNumbers};
-ghost use Rattle.wl_machine.specs.Step.{Gives, available, new_request, untaken_numbers};
+ghost use Rattle.wl_machine.specs.Step.{step, Gives, available, new_request, untaken_numbers};
 
+use crate::copies::plain_copy;
 use crate::names::Names;
 use crate::owners::Owners;
 use crate::room::push_in_room;
+use crate::snapshots::shown;
 use crate::table::Table;
 use std::alloc::Global;
 use std::marker::Model;
+use wl_core::PlainCore;
 use wl_machine::{Command, Reply};
 use wl_types::{
-    Ask, Change, Kind, Memory, Name, Numbers, Phase, Refusal, ReleaseAnswer, TakeAnswer,
+    Ask, Change, Kind, Memory, Name, Numbers, Phase, Refusal, ReleaseAnswer, Snapshot, TakeAnswer,
 };
 
 mod refusals;
@@ -264,6 +267,20 @@ impl IndexCore {
         self.changes.as_slice()
     }
 
+    /// What is held and what waits. Refused: `NoSuchAgent`, `InvalidState`.
+    pub fn snapshot(&self, agent: u64) -> Result<Snapshot, Refusal>
+        ensures seen { IfOk result (λ seen. step self.now.state (Command.Query agent) ≡ record { state = self.now.state; reply = Reply.Seen seen; changes = [] }) }
+        ensures refused { IfErr result (λ r. r ≡ refused_or_memory (refusal self.now.state (Command.Query agent))) }
+    {
+        if let Some(refusal) = self.query_refusal(agent) {
+            return Err(refusal);
+        }
+        match shown(self.alloc, &self.table, &self.names) {
+            Ok(snapshot) => Ok(snapshot),
+            Err(_) => Err(Refusal::Memory),
+        }
+    }
+
     /// The number of the `i`-th lock, from 0 in held order, that an abort of the agent's signal would end. It takes no
     /// memory, and goes over the live requests `i` + 1 times.
     pub fn untaken(&self, agent: u64, signal: u64, i: u64) -> Option<u64>
@@ -302,5 +319,13 @@ impl IndexCore {
         ensures refused { IfErr result (λ r. refusal self.now.state (Command.Request agent ask.now) ≡ Some r) }
     {
         refusals::unless_refused(self.request_refusal(agent, ask))
+    }
+
+    /// A plain core of the same state, with no changes.
+    pub fn copy_plain(&self) -> Result<PlainCore, Memory>
+        ensures state { IfOk result (λ copy. copy.state ≡ self.now.state) }
+        ensures recent { IfOk result (λ copy. copy.recent ≡ []) }
+    {
+        plain_copy(self.alloc, &self.owners, &self.names, &self.table)
     }
 }

@@ -1,6 +1,7 @@
 //! The lock machine over indexes: each event costs what it changes.
 #![tactic(auto)]
 
+mod copies;
 pub mod index;
 pub mod line;
 pub mod names;
@@ -8,6 +9,7 @@ mod order;
 pub mod owners;
 mod room;
 mod settle;
+mod snapshots;
 pub mod table;
 #[cfg(test)]
 mod tests;

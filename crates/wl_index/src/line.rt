@@ -1,12 +1,14 @@
 //! One name in use.
 ghost use Rattle.std.specs.Prelude.{map, ◌≡◌, ℕ, ◌<◌, List, [], ◌∷◌, OnOk, OnErr, slice_get, Some, None, false, true, ◌&&◌};
 ghost use Rattle.std.specs.List.{AllByRecursion};
+ghost use Rattle.std.specs.Map.{keys_of};
 ghost use Rattle.wl_types.specs.declared.words.Mode.TheVariants.{Exclusive};
 ghost use Rattle.wl_machine.specs.Grants.{is_empty};
 ghost use Rattle.wl_index.specs.Lines.{admits, excludes, next_grant, after_grant, is_busy, with_one_more, without, holder_without};
 
 use std::alloc::Global;
 use std::collections::BTreeMap;
+use std::collections::btree_map::Keys;
 use std::marker::Model;
 use wl_machine::exclusive;
 use wl_types::{Memory, Mode, Name};
@@ -57,6 +59,13 @@ impl Line {
         ensures { result.now ≡ self.now.name }
     {
         &self.name
+    }
+
+    /// The numbers of those that wait, in the order of the queue.
+    pub fn waiting(&self) -> Keys<'_, u64, Mode>
+        ensures { result ≡ keys_of self.now.waits }
+    {
+        self.queue.keys()
     }
 
     /// The first that waits.

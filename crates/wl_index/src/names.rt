@@ -21,6 +21,7 @@ use crate::settle::settle;
 use crate::table::{Request, Stage, Table};
 use std::alloc::Global;
 use std::collections::BTreeMap;
+use std::collections::btree_map::Iter;
 use std::marker::Model;
 use wl_types::{Ask, Change, Memory, Mode, Name, Phase};
 
@@ -51,6 +52,13 @@ impl Names {
             lines: BTreeMap::new(alloc),
             uses: BTreeMap::new(alloc),
         }
+    }
+
+    /// The lines with their places, in the order in which their names came into use.
+    pub fn lines(&self) -> Iter<'_, u64, Line>
+        ensures { result ≡ self.now }
+    {
+        self.lines.iter()
     }
 
     /// A request comes to the end of its name's queue. Answers the place of its line.

@@ -7,9 +7,11 @@ ghost use Rattle.std.specs.Ordering.{nat_cmp};
 ghost use Rattle.wl_index.specs.declared.owners.Member.{Member};
 ghost use Rattle.wl_machine.specs.Refusals.{is_window, reason_in, signals_of};
 ghost use Rattle.wl_machine.specs.Step.{with_active};
+ghost use Rattle.wl_index.specs.Roll.{agent_row, signal_row};
 
 use std::alloc::Global;
 use std::collections::BTreeMap;
+use std::collections::btree_map::Iter;
 use std::marker::Model;
 use wl_types::{Kind, Memory, Reason};
 
@@ -65,6 +67,20 @@ impl Owners {
             next_signal,
             alloc,
         }
+    }
+
+    /// The agents by number.
+    pub fn members(&self) -> Iter<'_, u64, Member>
+        ensures { map agent_row result ≡ self.now.agents }
+    {
+        self.members.iter()
+    }
+
+    /// The signals by number.
+    pub fn signals(&self) -> Iter<'_, u64, Signal>
+        ensures { map signal_row result ≡ self.now.signals }
+    {
+        self.signals.iter()
     }
 
     /// How many agents are live.

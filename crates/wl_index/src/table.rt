@@ -16,6 +16,7 @@ ghost use Rattle.wl_index.specs.Rows.{Apart, holds, is_fresh, taken_stage, IsLoc
 use crate::order;
 use std::alloc::Global;
 use std::collections::BTreeMap;
+use std::collections::btree_map::Iter;
 use std::marker::Model;
 use wl_types::{Memory, Mode, Name};
 
@@ -90,9 +91,17 @@ impl Table {
         self.requests.get(&number)
     }
 
+    /// The live requests by number.
+    pub fn iter(&self) -> Iter<'_, u64, Request>
+        ensures { result ≡ self.now.entries }
+    {
+        self.requests.iter()
+    }
+
     /// The numbers of the locks, in the order of their grants.
     pub fn locks_in_order(&self, alloc: Global) -> Result<Vec<u64>, Memory>
-        ensures { IfOk result (λ numbers. numbers.items ≡ map (λ (lock : HeldRow). lock.number) (held_of self.now.entries)) }
+        ensures numbers { IfOk result (λ numbers. numbers.items ≡ map (λ (lock : HeldRow). lock.number) (held_of self.now.entries)) }
+        ensures ordered { IsStrictlySortedBy nat_cmp (keys_of self.now.entries) }
     {
         let mut places = order::places(&self.requests, alloc)?;
         order::sort(&mut places);

@@ -2,6 +2,7 @@
 
 use crate::index::IndexCore;
 use std::alloc::Global;
+use std::process::Abort;
 use std::test::Fail;
 use wl_core::{LockCore, PlainCore};
 use wl_types::{
@@ -53,6 +54,8 @@ fn each_call_answers(rt: HostRuntime) -> Result<(), Fail> {
     assert!(rt; core.may_request(1, &wanted) == Ok(()));
     assert_eq!(rt; core.request(1, &wanted)?, 1);
     assert!(rt; core.take(1) == TakeAnswer::Taken);
+    assert_eq!(rt; core.snapshot(1)?.held.as_slice().len(), 1);
+    assert!(rt; core.copy_plain()?.release(1, 1) == ReleaseAnswer::Released);
     assert!(rt; core.release(1, 1) == ReleaseAnswer::Released);
     assert!(rt;
         core.changes()
@@ -62,6 +65,17 @@ fn each_call_answers(rt: HostRuntime) -> Result<(), Fail> {
             }]
             .as_slice()
     );
+    Ok(())
+}
+
+/// Compares what the cores show.
+fn compare<R: Abort>(rt: &R, index: &IndexCore, plain: &PlainCore) -> Result<(), Fail> {
+    let seen = index.snapshot(1)?;
+    let wanted = plain.snapshot(1)?;
+    assert!(rt; seen.held.as_slice() == wanted.held.as_slice());
+    assert!(rt; seen.pending.as_slice() == wanted.pending.as_slice());
+    let copy = index.copy_plain()?;
+    assert!(rt; copy == *plain);
     Ok(())
 }
 
@@ -79,7 +93,16 @@ fn a_steal_tells_the_same_on_both_cores(rt: HostRuntime) -> Result<(), Fail> {
     assert_eq!(rt; index.request(1, &stealing)?, plain.request(1, &stealing)?);
     assert!(rt; index.changes() == plain.changes());
     assert_eq!(rt; index.changes().len(), 3);
-    Ok(())
+    // Request 4 is granted after 5, and 6 waits.
+    let other = ask(alloc, "log", Mode::Shared)?;
+    let last = ask(alloc, "db", Mode::Exclusive)?;
+    assert_eq!(rt; index.new_signal(1)?, plain.new_signal(1)?);
+    assert_eq!(rt; index.request(1, &shared)?, plain.request(1, &shared)?);
+    assert_eq!(rt; index.request(1, &other)?, plain.request(1, &other)?);
+    assert!(rt; index.release(1, 3) == plain.release(1, 3));
+    assert_eq!(rt; index.request(1, &last)?, plain.request(1, &last)?);
+    assert!(rt; index.take(5) == plain.take(5));
+    compare(&rt, &index, &plain)
 }
 
 /// The third lock waits for the first, so it is granted after the second.

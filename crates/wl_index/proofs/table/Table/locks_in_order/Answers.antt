@@ -9,8 +9,8 @@ use Rattle.wl_index.proofs.table.Table.locks_in_order.Goals as goal
 pub sort-requires : goal.sort-requires
 sort-requires c = rw c.in_ok-places.ensures (places_distinct c.self.inside.requests.entries c.self.invariant.distinct)
 
-pub returns : goal.returns
-returns c =
+pub returns-clause-numbers : goal.returns-clause-numbers
+returns-clause-numbers c =
     let es = c.self.inside.requests.entries in
     let sorted : c.deref.result.now ≡ by_stamp (λ (p : Place). p.stamp) c.in_ok-places.places.items = c.deref.ensures.value ∙ c.sort.ensures.items in
     let numbers : map (λ (p : Place). p.number) c.deref.result.now ≡ map (λ (lock : HeldRow). lock.number) (held_of es) =

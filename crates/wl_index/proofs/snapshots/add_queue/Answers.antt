@@ -1,0 +1,21 @@
+use Rattle.std.proofs.Common.{◌∙◌, ◌++◌, ap, append-nil, subst, sym}
+use Rattle.std.specs.List.{AllByRecursion}
+use Rattle.std.specs.Map.{keys_of}
+use Rattle.wl_index.proofs.Views.{Stands, found_at, info, queue_stands, queue_shown}
+use Rattle.wl_index.proofs.snapshots.add_queue.Goals as goal
+
+pub loop-number-init : goal.loop-number-init
+loop-number-init c =
+    let es = c.args.table.now.entries in
+    let all = c.into_iter-number-iterator.ensures.into_iter_gives ∙ c.waiting-number-items.ensures in
+    record {
+      stand = subst (AllByRecursion (Stands es)) (sym (all ∙ ap keys_of c.requires.matched.waits)) (queue_stands c.args.line.now.name es c.requires.ordered);
+      shown = ap (λ numbers. c.args.infos.now ++ found_at info es numbers) all;
+    }
+
+pub returns : goal.returns
+returns c =
+    let es = c.args.table.now.entries in
+    let empty = c.in-None.ensures.steps.0 in
+    sym (append-nil c.loop-number.infos) ∙ ap (λ numbers. c.loop-number.infos ++ found_at info es numbers) (sym empty) ∙ c.loop-number.invariant.shown
+    ∙ ap (λ shown. c.args.infos.now ++ shown) (ap (λ waits. found_at info es (keys_of waits)) c.requires.matched.waits ∙ queue_shown c.args.line.now.name es c.requires.ordered)
