@@ -1,8 +1,7 @@
 -- Which looks are news, and that a notice of them may be written.
-use Rattle.std.proofs.Common.{◌≡◌, ℕ, ◌+◌, ◌<◌, List, [], ◌∷◌, ◌++◌, Bool, true, false, cond, All, map, length, get_or, take, refl, ap, ◌∙◌}
+use Rattle.std.proofs.Common.{◌≡◌, List, [], ◌∷◌, Bool, true, false, cond, All, map, refl}
 use Rattle.std.specs.List.{AllByRecursion}
-use Rattle.std.proofs.lemmas.List.{map-append}
-use Rattle.std.proofs.lemmas.List.Elements.{All-from_recursion, filter_more}
+use Rattle.std.proofs.lemmas.List.Elements.{All-from_recursion}
 use Rattle.wl_types.specs.declared.phases.Phase.{Phase}
 use Rattle.wl_types.specs.declared.phases.Phase.TheVariants.{Pending, Granted, Taken, Unavailable, Aborted, Released, Stolen}
 use Rattle.wl_codec.specs.declared.reply.Notice.{Notice}
@@ -13,10 +12,6 @@ use Rattle.wl_session.specs.Step.{notices, tells}
 
 abbrev pub is_due : Outcome → List Look → Look → Bool
 is_due o told l = is_news (phase_told o told l.0) l.1
-
-pub news_more : (o : Outcome) (told looks : List Look) (i : ℕ) (d : Look) → i < length looks
-    → news o told (take (i + 1) looks) ≡ news o told (take i looks) ++ map notice (cond (is_due o told (get_or looks i d)) (get_or looks i d ∷ []) [])
-news_more o told looks i d lt = ap (map notice) (filter_more (is_due o told) looks i d lt) ∙ map-append notice _ _
 
 -- ---- what is told may be written
 
