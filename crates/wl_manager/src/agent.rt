@@ -9,13 +9,16 @@ ghost use Rattle.wl_manager.specs.Agents.{is_released, entries_of_abort};
 use crate::count::Count;
 use crate::locked::Leaving;
 use crate::manager::Manager;
+use crate::news::News;
 use crate::ticket::Ticket;
+use std::alloc::Global;
 use std::sync::{Arc, Wait};
 use wl_core::LockCore;
 use wl_journal::Sight;
 use wl_types::{AbortAnswer, Ask, Change, Reason, Refusal, ReleaseAnswer};
 
-/// A window or worker that opened. Each call but `client` takes the manager's lock, and is one event of the machine.
+/// A window or worker that opened. Each call but `client` and `changed` takes the manager's
+/// lock, and is one event of the machine.
 ///
 /// Where shares are counted, an agent's share has as many entries as its calls recorded. An agent should end by
 /// `terminate`: one that is dropped stays in the manager, with its locks.
@@ -24,6 +27,7 @@ pub struct Agent<C: LockCore, T: Count> {
     pub(crate) manager: Arc<Manager<C, T>>,
     pub(crate) number: u64,
     pub(crate) share: T::Share,
+    pub(crate) news: Arc<News, Global>,
     ghost one: { T.COUNTS ≡ true → T.parts share ≡ 1 },
 }
 
@@ -33,6 +37,13 @@ impl<C: LockCore, T: Count> Agent<C, T> {
         ensures { result ≡ self.now.number }
     {
         self.number
+    }
+
+    /// Puts the numbers of the requests that changed since the last such call in place of those that the list has, in
+    /// no order and some more than once. Answers whether these are all: else any request may have changed. It takes no
+    /// lock of the manager, and waits for nobody.
+    pub fn changed(&self, numbers: &mut Vec<u64>) -> bool {
+        self.news.collect(numbers)
     }
 
     /// Asks for a lock. The ticket tells what becomes of it. Refused: as `LockCore::request`.
@@ -45,7 +56,7 @@ impl<C: LockCore, T: Count> Agent<C, T> {
             return Err(Refusal::Memory);
         };
         let mut locked = self.manager.locked.lock(rt);
-        let (number, owner) = locked.request(self.number, ask, &mut self.share)?;
+        let (number, owner) = locked.request(self.number, ask, &self.news, &mut self.share)?;
         let tells = tells_of_another(locked.changes(), number);
         locked.trim();
         drop(locked);
@@ -141,6 +152,7 @@ impl<C: LockCore, T: Count> Agent<C, T> {
             manager,
             number,
             share,
+            news: _news,
         } = self;
         let mut share = share;
         let mut locked = manager.locked.lock(rt);

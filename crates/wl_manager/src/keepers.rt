@@ -1,20 +1,61 @@
-//! The keepers of a manager, by the numbers of their requests.
+//! The keepers of a manager, by the numbers of their requests, and who is told of their changes.
 
-ghost use Rattle.std.specs.Prelude.{◌≡◌, ◌==◌, ℕ, [], ◌∷◌, Some, None, OnOk, OnErr, if◌then◌else◌};
+ghost use Rattle.std.specs.Prelude.{◌≡◌, ◌==◌, ◌⊎◌, ℕ, IsTrue, [], ◌∷◌, Some, None, OnOk, OnErr, if◌then◌else◌};
+ghost use Rattle.std.specs.Bool.{OnTrue, OnFalse};
 ghost use Rattle.wl_types.specs.declared.phases.Phase.TheVariants.{Granted, Taken, Aborted};
 ghost use Rattle.wl_machine.specs.Laws.{phases_of};
+ghost use Rattle.wl_cell.specs.Seats.{may_settle};
 ghost use Rattle.wl_manager.specs.Keepers.{seat_at, phases_at, cells_at, ends_request, MayBring, MaySettle, after};
 
+use crate::news::News;
 use std::alloc::Global;
 use std::collections::BTreeMap;
 use std::marker::Model;
+use std::sync::Arc;
 use wl_cell::Keeper;
 use wl_types::{Change, Memory, Phase, Reason};
+
+/// A keeper, and the news of its request's agent. Contracts see the keeper.
+#[derive(Drop)]
+struct Place {
+    keeper: Keeper,
+    news: Arc<News, Global>,
+}
+
+impl Model for Place {
+    ghost use Rattle.wl_cell.specs.Seats.{KeeperSeat};
+
+    ghost Value = { KeeperSeat };
+
+    ghost view = { λ p. p.keeper };
+}
+
+impl Place {
+    /// Settles the cell, if it isn't at the phase, and tells the agent.
+    fn bring(&mut self, id: u64, phase: Phase)
+        requires { (self.old.phase ≡ phase) ⊎ IsTrue (may_settle self.old.phase phase) }
+        ensures { self.new ≡ record self.old { phase = phase } }
+    {
+        if self.keeper.phase() != phase {
+            self.keeper.settle(phase);
+        }
+        self.news.note(id);
+    }
+
+    /// As the keeper's.
+    fn try_abort(&mut self, reason: Reason) -> bool
+        requires { self.old.phase ≡ Granted }
+        ensures aborted { OnTrue result (self.new ≡ record self.old { phase = Aborted reason }) }
+        ensures taken { OnFalse result (self.new ≡ record self.old { phase = Taken }) }
+    {
+        self.keeper.try_abort(reason)
+    }
+}
 
 /// Keepers by number. Contracts see the keeper of each number.
 #[derive(Drop)]
 pub(crate) struct Keepers {
-    kept: BTreeMap<u64, Keeper>,
+    kept: BTreeMap<u64, Place>,
 }
 
 impl Model for Keepers {
@@ -34,12 +75,17 @@ impl Keepers {
         }
     }
 
-    /// Keeps this keeper under this number.
-    pub(crate) fn put(&mut self, id: u64, keeper: Keeper) -> Result<(), Memory>
+    /// Keeps this keeper under this number, and tells these news of its changes.
+    pub(crate) fn put(
+        &mut self,
+        id: u64,
+        keeper: Keeper,
+        news: Arc<News, Global>,
+    ) -> Result<(), Memory>
         ensures put { OnOk result ((other : ℕ) → seat_at other self.new ≡ (if other == id then Some keeper else seat_at other self.old)) }
         ensures err { OnErr result (self.new ≡ self.old) }
     {
-        self.kept.insert(id, keeper)?;
+        self.kept.insert(id, Place { keeper, news })?;
         Ok(())
     }
 
@@ -63,16 +109,13 @@ impl Keepers {
         }
     }
 
-    /// Settles the cell of this number, if it isn't at the phase.
+    /// Settles the cell of this number, if it isn't at the phase, and tells its agent.
     pub(crate) fn bring(&mut self, id: u64, phase: Phase)
         requires { MayBring (phases_at id self.old) phase }
         ensures phases { (other : ℕ) → phases_at other self.new ≡ (if other == id then phase ∷ [] else phases_at other self.old) }
         ensures cells { (other : ℕ) → cells_at other self.new ≡ cells_at other self.old }
     {
-        let keeper = self.kept.get_mut(&id).unwrap();
-        if keeper.phase() != phase {
-            keeper.settle(phase);
-        }
+        self.kept.get_mut(&id).unwrap().bring(id, phase);
     }
 
     /// Settles the cells of all these changes, in their order.

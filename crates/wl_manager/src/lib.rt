@@ -12,6 +12,7 @@ mod count;
 mod keepers;
 mod locked;
 mod manager;
+mod news;
 #[cfg(test)]
 mod tests;
 mod ticket;
@@ -20,4 +21,5 @@ pub use crate::agent::Agent;
 pub use crate::count::{Count, Ledgered, Loose, Recent};
 pub use crate::locked::{Leaving, Locked, TallyFault};
 pub use crate::manager::{Manager, Visitor};
+pub use crate::news::News;
 pub use crate::ticket::Ticket;

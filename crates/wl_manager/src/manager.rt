@@ -7,6 +7,7 @@ ghost use Rattle.wl_manager.specs.Locked.{Shows, first};
 use crate::agent::Agent;
 use crate::count::Count;
 use crate::locked::{Leaving, Locked, TallyFault};
+use crate::news::News;
 use std::alloc::Global;
 use std::sync::{Arc, Condvar, Mutex, Wait};
 use wl_core::{LockCore, PlainCore};
@@ -29,6 +30,7 @@ pub trait Visitor<T: Count> {
 /// what is live, so that a manager's memory grows with that alone.
 #[derive(Drop)]
 pub struct Manager<C: LockCore, T: Count> {
+    alloc: Global,
     pub(crate) locked: Mutex<Locked<C, T>>,
     // Notified after each command that changed a request for which somebody may wait.
     pub(crate) settled: Condvar,
@@ -48,6 +50,7 @@ impl<C: LockCore, T: Count> Manager<C, T> {
         requires all { T.COUNTS ≡ true → (T.parts share ≡ T.all) × (2 ^ 53 ≤ T.all) }
     {
         let manager = Manager {
+            alloc,
             locked: Mutex::new(Locked::new(alloc, seed, total, share)),
             settled: Condvar::new(),
         };
@@ -65,6 +68,9 @@ impl<C: LockCore, T: Count> Manager<C, T> {
         let Ok(manager) = Arc::try_clone(this) else {
             return Err(Refusal::Memory);
         };
+        let Ok(news) = Arc::new(this.alloc, News::new(this.alloc)) else {
+            return Err(Refusal::Memory);
+        };
         let mut locked = this.locked.lock(rt);
         let (number, share) = locked.open(kind)?;
         locked.trim();
@@ -73,6 +79,7 @@ impl<C: LockCore, T: Count> Manager<C, T> {
             manager,
             number,
             share,
+            news,
         })
     }
 

@@ -1,6 +1,6 @@
 //! A client of the service.
 
-ghost use Rattle.std.specs.Prelude.{◌≡◌, ◌⊎◌, true, Err, IfErr, is_some};
+ghost use Rattle.std.specs.Prelude.{◌≡◌, ◌⊎◌, [], true, Err, IfErr, is_some};
 ghost use Rattle.wl_types.specs.declared.refusal.Refusal.TheVariants.{NoSuchAgent, NoSuchSignal, Security};
 ghost use Rattle.wl_types.specs.declared.answers.ReleaseAnswer.TheVariants.{NotHeld};
 ghost use Rattle.wl_machine.specs.Refusals.{no_storage};
@@ -28,7 +28,7 @@ enum Side {
 
 /// A window or worker that opened: an agent of its origin's manager, or one of an opaque origin, which is refused.
 ///
-/// Each call of a managed client but `client` is its agent's, and takes its manager's lock; an opaque one takes none.
+/// Each call of a managed client but `client` and `changed` is its agent's, and takes its manager's lock; an opaque one takes none.
 /// A client should end by `terminate`: one that is dropped stays in its manager, with its locks.
 #[derive(Drop)]
 pub struct Client {
@@ -68,6 +68,21 @@ impl Client {
         match &self.side {
             Side::Managed(agent) => Some(agent.client()),
             Side::Opaque(_) => None,
+        }
+    }
+
+    /// Puts the numbers of the requests that changed since the last such call in place of those that the list has, in
+    /// no order and some more than once. Answers whether these are all: else any request may have changed. It takes no
+    /// lock of the manager, and waits for nobody. An opaque client has no requests.
+    pub fn changed(&self, numbers: &mut Vec<u64>) -> bool
+        ensures opaque { IfOpaque self.now (λ kind active. (result ≡ true) × (numbers.new.items ≡ [])) }
+    {
+        match &self.side {
+            Side::Managed(agent) => agent.changed(numbers),
+            Side::Opaque(_) => {
+                numbers.clear();
+                true
+            }
         }
     }
 

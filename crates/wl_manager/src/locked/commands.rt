@@ -9,6 +9,9 @@ ghost use Rattle.wl_manager.specs.Locked.{Does, Stays};
 
 use crate::count::Count;
 use crate::locked::Locked;
+use crate::news::News;
+use std::alloc::Global;
+use std::sync::Arc;
 use wl_cell::{Owner, cell};
 use wl_core::{Command, LockCore, ReleaseAnswer, Reply};
 use wl_types::{Ask, Refusal};
@@ -86,11 +89,12 @@ impl<C: LockCore, T: Count> Locked<C, T> {
     }
 
     /// Asks for a lock. The owner is of the cell whose keeper is kept under the number, also where the request is
-    /// unavailable at once.
+    /// unavailable at once. These news are told of its changes.
     pub fn request(
         &mut self,
         agent: u64,
         ask: &Ask,
+        news: &Arc<News, Global>,
         share: &mut T::Share,
     ) -> Result<(u64, Owner), Refusal>
         requires { T.COUNTS ≡ true → 0 < T.parts share.old }
@@ -106,7 +110,10 @@ impl<C: LockCore, T: Count> Locked<C, T> {
         let Ok((keeper, owner)) = cell(self.alloc) else {
             return Err(Refusal::Memory);
         };
-        let Ok(_) = self.keepers.put(self.next, keeper) else {
+        let Ok(news) = Arc::try_clone(news) else {
+            return Err(Refusal::Memory);
+        };
+        let Ok(_) = self.keepers.put(self.next, keeper, news) else {
             return Err(Refusal::Memory);
         };
         self.keepers.let_go(self.book.changes());
