@@ -11,7 +11,7 @@ use Rattle.wl_journal.specs.declared.entry.Entry.{Entry}
 use Rattle.wl_journal.specs.Books.{Book, Appends, cut_off}
 use Rattle.wl_journal.specs.History.{IsLegal, state_of, commands_of}
 use Rattle.wl_journal.proofs.Legal.{replies_of-append}
-use Rattle.wl_manager.specs.Locked.{Inner, IsKept, IsCut, Shows, first}
+use Rattle.wl_manager.specs.Locked.{Inner, IsKept, IsCut, WasCut, first}
 
 both : (xs ys zs ws : List Reply) → xs ≡ zs → ys ≡ ws → xs ++ ys ≡ zs ++ ws
 both xs ys zs ws one two = rw (one, two) refl
@@ -33,20 +33,19 @@ still_cut keeps_all old new added appends was = record {
   legal = was.legal;
   leads = appends.base ∙ was.leads;
   count =
-    let a = appends.total in
-    let b = was.count in
-    let l = ap length appends.entries ∙ length-append old.entries added in
-    omega (arith, a, b, l);
+      let a = appends.total in
+      let b = was.count in
+      let l = ap length appends.entries ∙ length-append old.entries added in
+      omega (arith, a, b, l);
   none = was.none;
 }
 
 -- what is shown of the journal
-pub shown : (keeps_all : Bool) (inside seen : Inner) (entries : List Entry) → inside ≡ seen → IsCut keeps_all inside.book → IsLegal inside.book.base entries → Shows keeps_all seen.book.base entries
-shown keeps_all inside seen entries is was legal = subst (λ (l : Inner). Shows keeps_all l.book.base entries) is (record {
+pub shown : (keeps_all : Bool) (inside seen : Inner) (entries : List Entry) → inside ≡ seen → IsCut keeps_all inside.book → IsLegal inside.book.base entries → WasCut seen.book.base entries
+shown keeps_all inside seen entries is was legal = subst (λ (l : Inner). WasCut l.book.base entries) is (record {
   cut = was.cut;
   legal = legal_after first was.cut entries was.legal (subst (λ (s : State). IsLegal s entries) was.leads legal);
   leads = was.leads;
-  none = was.none;
 })
 
 -- where all entries are kept, they are those since the opening state

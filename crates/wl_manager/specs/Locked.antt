@@ -36,13 +36,11 @@ first = opening all_ones
 abbrev pub rows_of : State → ℕ
 rows_of s = length s.agents + length s.signals + length s.held + length s.pending
 
--- Entries that a journal has from this base on: with those that were cut before they are a legal history from the opening state.
--- Where all are kept, none was cut
-pub record Shows (keeps_all : Bool) (base : State) (entries : List Entry) : Type 0 where
+-- with those that were cut before, entries that a journal has from this base on are a legal history from the opening state
+pub record WasCut (base : State) (entries : List Entry) : Type 0 where
   pub cut : List Entry
   pub legal : IsLegal first (cut ++ entries)
   pub leads : base ≡ state_of first cut
-  pub none : keeps_all ≡ true → cut ≡ []
 
 -- What was cut of a journal: a legal history from the opening state to the journal's base, and all that was recorded before.
 -- Where all entries are kept, nothing

@@ -2,7 +2,7 @@
 
 ghost use Rattle.std.specs.Prelude.{◌≡◌, ◌≤◌, ◌^◌, true, IfOk, IfErr};
 ghost use Rattle.wl_journal.specs.History.{IsLegal};
-ghost use Rattle.wl_manager.specs.Locked.{Shows, first};
+ghost use Rattle.wl_manager.specs.Locked.{WasCut, first};
 
 use crate::agent::Agent;
 use crate::count::Count;
@@ -14,14 +14,19 @@ use wl_core::{LockCore, PlainCore};
 use wl_journal::Entry;
 use wl_types::{Kind, Memory, Refusal};
 
-/// Who is shown the journal of a manager that counts by T.
-pub trait Visitor<T: Count> {
-    /// Called once by each `visit`, under the manager's lock: it should be short, and call nothing of that manager.
-    /// The base is a core of the state before the entries.
-    fn visit(&mut self, base: &PlainCore, entries: &[Entry])
-        requires all { T.KEEPS_ALL ≡ true → IsLegal first entries.now }
+/// Who is shown a manager's journal. It is called under the manager's lock: it should be short, and call nothing of
+/// that manager.
+pub trait Visitor {
+    /// Shown all entries since the opening state.
+    fn visit(&mut self, entries: &[Entry])
+        requires { IsLegal first entries.now };
+
+    /// Shown, in the place of `visit`, the entries since the last cut of a journal that was cut, and a core of the
+    /// state before them. A visitor of managers that keep all entries needs no body of its own: this one does nothing.
+    fn visit_since(&mut self, base: &PlainCore, entries: &[Entry])
         requires since { IsLegal base.now.state entries.now }
-        requires shown { Shows T.KEEPS_ALL base.now.state entries.now };
+        requires cut { WasCut base.now.state entries.now }
+    {}
 }
 
 /// A lock manager under one lock. Its agents and tickets hold it, and it lives until the last of them is dropped.
@@ -90,10 +95,14 @@ impl<C: LockCore, T: Count> Manager<C, T> {
         }
     }
 
-    /// Shows the entries: all of them, or where not all are kept those since the last cut.
-    pub fn visit<R: Wait, V: Visitor<T>>(&self, rt: &R, visitor: &mut V) {
+    /// Shows the entries: all of them, or of a journal that was cut those since then.
+    pub fn visit<R: Wait, V: Visitor>(&self, rt: &R, visitor: &mut V) {
         let locked = self.locked.lock(rt);
-        visitor.visit(locked.base(), locked.entries());
+        if locked.is_whole() {
+            visitor.visit(locked.entries());
+        } else {
+            visitor.visit_since(locked.base(), locked.entries());
+        }
     }
 
     /// The number of entries, where at least as many Leavings were handed in, here and in tallies that succeeded, as

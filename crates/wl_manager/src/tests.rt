@@ -4,13 +4,13 @@
 mod agents;
 mod threads;
 
-use crate::{Agent, Count, Loose, Manager, Visitor};
+use crate::{Agent, Loose, Manager, Visitor};
 use std::alloc::Global;
 use std::sync::{Arc, Wait};
 use std::test::Fail;
-use wl_core::{Command, PlainCore};
+use wl_core::{Command, LockCore, PlainCore};
 use wl_journal::{Entry, audit};
-use wl_types::{Ask, Kind, Memory, Mode, Text};
+use wl_types::{Ask, Kind, Memory, Mode, Numbers, Text};
 
 type Plain = Manager<PlainCore, Loose>;
 
@@ -42,8 +42,8 @@ struct Sum {
     takes: usize,
 }
 
-impl<T: Count> Visitor<T> for Sum {
-    fn visit(&mut self, _base: &PlainCore, entries: &[Entry]) {
+impl Visitor for Sum {
+    fn visit(&mut self, entries: &[Entry]) {
         self.entries = entries.len();
         self.takes = entries
             .iter()
@@ -52,15 +52,35 @@ impl<T: Count> Visitor<T> for Sum {
     }
 }
 
-/// How many entries a journal shows, and whether they are legal from its base.
+/// How many entries a journal shows, and whether they are legal from the opening state, or from where it was cut.
 #[derive(Drop)]
 struct Audit {
+    opening: PlainCore,
     entries: usize,
     is_legal: bool,
 }
 
-impl<T: Count> Visitor<T> for Audit {
-    fn visit(&mut self, base: &PlainCore, entries: &[Entry]) {
+/// An audit that was shown nothing yet.
+fn no_audit(alloc: Global) -> Audit {
+    let next = Numbers {
+        agent: 1,
+        request: 1,
+        signal: 1,
+    };
+    Audit {
+        opening: PlainCore::make(alloc, (), next),
+        entries: 0,
+        is_legal: false,
+    }
+}
+
+impl Visitor for Audit {
+    fn visit(&mut self, entries: &[Entry]) {
+        self.entries = entries.len();
+        self.is_legal = audit(&self.opening, entries).is_ok();
+    }
+
+    fn visit_since(&mut self, base: &PlainCore, entries: &[Entry]) {
         self.entries = entries.len();
         self.is_legal = audit(base, entries).is_ok();
     }

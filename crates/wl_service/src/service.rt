@@ -58,10 +58,10 @@ impl Service {
         Ok(Client::managed(agent))
     }
 
-    /// Shows the entries of the key's manager since its last cut, and the state before them, without the directory's
-    /// lock, and answers true; or answers false and calls nobody where the key has no manager. `Memory` comes only
-    /// where the manager's count of owners is used up.
-    pub fn visit<R: Wait, V: Visitor<Recent>>(
+    /// Shows the entries of the key's manager without the directory's lock, and answers true: all of them, or where
+    /// its journal was cut those since then. It answers false and calls nobody where the key has no manager. `Memory`
+    /// comes only where the manager's count of owners is used up.
+    pub fn visit<R: Wait, V: Visitor>(
         &self,
         rt: &R,
         key: &OriginKey,

@@ -3,7 +3,7 @@
 ghost use Rattle.std.specs.Prelude.{◌≡◌, ◌⊎◌, ◌^◌, ◌-◌, min, true, false};
 ghost use Rattle.wl_journal.specs.Books.{cut_off};
 ghost use Rattle.wl_journal.specs.History.{IsLegal};
-ghost use Rattle.wl_manager.specs.Locked.{Shows, first, rows_of};
+ghost use Rattle.wl_manager.specs.Locked.{WasCut, first, rows_of};
 
 use crate::count::Count;
 use crate::locked::Locked;
@@ -15,12 +15,20 @@ use wl_types::Change;
 const FEW: usize = 1024;
 
 impl<C: LockCore, T: Count> Locked<C, T> {
+    /// Whether no entry was cut.
+    pub fn is_whole(&self) -> bool
+        ensures whole { result ≡ true → IsLegal first self.now.book.entries }
+        ensures kept { T.KEEPS_ALL ≡ true → result ≡ true }
+    {
+        self.book.total() == self.book.entries().len() as u64
+    }
+
     /// The entries since the last cut: where all are kept, since the opening state.
     pub fn entries(&self) -> &[Entry]
         ensures entries { result.now ≡ self.now.book.entries }
         ensures legal { T.KEEPS_ALL ≡ true → IsLegal first result.now }
         ensures since { IsLegal self.now.book.base result.now }
-        ensures shown { Shows T.KEEPS_ALL self.now.book.base result.now }
+        ensures cut { WasCut self.now.book.base result.now }
     {
         self.book.entries()
     }

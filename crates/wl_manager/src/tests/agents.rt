@@ -1,7 +1,7 @@
 //! Each call of an agent and of a ticket.
 
-use super::{Audit, Plain, Sum, ask, one_agent};
-use crate::{Count, Manager, Recent, Visitor};
+use super::{Plain, Sum, ask, no_audit, one_agent};
+use crate::{Manager, Recent, Visitor};
 use std::alloc::Global;
 use std::sync::{Arc, Wait};
 use std::test::Fail;
@@ -17,8 +17,8 @@ struct Course {
     released: bool,
 }
 
-impl<T: Count> Visitor<T> for Course {
-    fn visit(&mut self, _base: &PlainCore, entries: &[Entry]) {
+impl Visitor for Course {
+    fn visit(&mut self, entries: &[Entry]) {
         self.asked = is_asked(entries);
         self.released = entries.len() == 3 && is_released(&entries[2]);
     }
@@ -135,10 +135,7 @@ fn a_journal_that_is_cut_stays_short(rt: HostRuntime) -> Result<(), Fail> {
     let manager: Arc<Manager<PlainCore, Recent>, Global> = Manager::new(&rt, alloc, (), (), ())?;
     let mut agent = Manager::open(&manager, &rt, Kind::Window)?;
     let asked = ask(alloc, "db", Mode::Exclusive)?;
-    let mut audited = Audit {
-        entries: 0,
-        is_legal: false,
-    };
+    let mut audited = no_audit(alloc);
     for _ in 0..1000 {
         let mut ticket = agent.request(&rt, &asked)?;
         assert_eq!(rt; agent.release(&rt, &mut ticket), ReleaseAnswer::Released);

@@ -2,7 +2,7 @@
 
 ghost use Rattle.std.specs.Prelude.{◌≡◌, ◌≤◌, ◌^◌};
 
-use super::{Audit, Plain, Sum, ask, one_agent};
+use super::{Plain, Sum, ask, no_audit, one_agent};
 use crate::{Agent, Count, Leaving, Ledgered, Loose, Manager, TallyFault, Ticket};
 use std::alloc::Global;
 use std::marker::Brand;
@@ -126,10 +126,7 @@ fn a_take_and_an_abort_race_a_thousand_times(rt: HostRuntime) -> Result<(), Fail
         let ticket = agent.request(&rt, &asked)?;
         agent = race(&rt, agent, ticket, signal);
     }
-    let mut audited = Audit {
-        entries: 0,
-        is_legal: false,
-    };
+    let mut audited = no_audit(alloc);
     manager.visit(&rt, &mut audited);
     assert!(rt; audited.is_legal);
     Ok(())

@@ -3,9 +3,8 @@
 use super::{ELSEWHERE, HERE, first_client, key, open_twice};
 use crate::{OpenFault, Service};
 use std::test::Fail;
-use wl_core::PlainCore;
 use wl_journal::Entry;
-use wl_manager::{Recent, Visitor};
+use wl_manager::Visitor;
 use wl_types::Kind;
 
 #[test]
@@ -70,8 +69,8 @@ struct Shown {
     entries: Option<usize>,
 }
 
-impl Visitor<Recent> for Shown {
-    fn visit(&mut self, _base: &PlainCore, entries: &[Entry]) {
+impl Visitor for Shown {
+    fn visit(&mut self, entries: &[Entry]) {
         self.entries = Some(entries.len());
     }
 }

@@ -7,9 +7,8 @@ use std::sync::Wait;
 use std::sync::atomic::{AtomicBool, Ordering};
 use std::test::Fail;
 use std::thread;
-use wl_core::PlainCore;
 use wl_journal::Entry;
-use wl_manager::{Recent, Visitor};
+use wl_manager::Visitor;
 use wl_origin::OriginKey;
 use wl_types::{Ask, Kind, Phase};
 
@@ -23,8 +22,8 @@ struct Waiting<'a> {
     in_time: bool,
 }
 
-impl<'a> Visitor<Recent> for Waiting<'a> {
-    fn visit(&mut self, _base: &PlainCore, _entries: &[Entry]) {
+impl<'a> Visitor for Waiting<'a> {
+    fn visit(&mut self, _entries: &[Entry]) {
         self.entered.store(true, Ordering::SeqCst);
         self.in_time = comes(self.answered);
     }

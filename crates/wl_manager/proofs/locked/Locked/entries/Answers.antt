@@ -4,5 +4,5 @@ use Rattle.wl_manager.proofs.locked.Locked.entries.Goals as goal
 pub returns-clause-legal : goal.returns-clause-legal
 returns-clause-legal g c = all_shown _ c.self.inside.book c.entries.result.now c.self.invariant.journal c.entries.ensures.legal
 
-pub returns-clause-shown : goal.returns-clause-shown
-returns-clause-shown g c = shown _ _ c.args.self.now c.entries.result.now c.self.view_is c.self.invariant.journal c.entries.ensures.legal
+pub returns-clause-cut : goal.returns-clause-cut
+returns-clause-cut g c = shown _ _ c.args.self.now c.entries.result.now c.self.view_is c.self.invariant.journal c.entries.ensures.legal
