@@ -5,8 +5,8 @@ use std::alloc::AllocError;
 use wl_machine::{HeldRow, PendingRow};
 use wl_types::Change;
 
-/// Puts a value into room that is there.
-pub(crate) fn push_in_room<T: Drop>(items: &mut Vec<T>, item: T)
+/// Puts a value into room that was made before, where an event may no longer fail.
+pub fn push_in_room<T: Drop>(items: &mut Vec<T>, item: T)
     requires { vec_len items.old < vec_capacity items.old }
     ensures items { items.new.items ≡ items.old.items ++ item ∷ [] }
     ensures len { vec_len items.new ≡ vec_len items.old + 1 }
