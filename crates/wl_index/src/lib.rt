@@ -1,6 +1,7 @@
 //! The lock machine over indexes: each event costs what it changes.
 #![tactic(auto)]
 
+pub mod groups;
 pub mod index;
 pub mod line;
 pub mod names;
