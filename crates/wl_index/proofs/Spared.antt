@@ -53,20 +53,17 @@ none_named {X} p k (e ∷ es) apart = by (p e) (none_named p k es apart.1)
 -- the numbers of those that pass name just those
 pub named : {X : Type 0} (p : ℕ × X → Bool) (es : List (ℕ × X)) → IsStrictlySortedBy nat_cmp (keys_of es) → AllByRecursion (λ (e : ℕ × X). list_any (λ n. n == e.0) (keys_of (filter p es)) ≡ p e) es
 named p [] sorted = tt
-named {X} p (e ∷ es) sorted = by (p e) refl
+named {X} p (e ∷ es) sorted = by (p e) refl (named p es (sorted_tail nat_cmp e.0 (keys_of es) sorted))
   where
     apart : AllByRecursion (λ (x : ℕ × X). (x.0 == e.0) ≡ false) es
     apart = above_apart e.0 e.0 es (number_same e.0) (sorted_head nat_cmp e.0 (keys_of es) sorted)
 
-    rest : AllByRecursion (λ (x : ℕ × X). list_any (λ n. n == x.0) (keys_of (filter p es)) ≡ p x) es
-    rest = named p es (sorted_tail nat_cmp e.0 (keys_of es) sorted)
-
     flip : (a b : ℕ) → (a == b) ≡ false → (b == a) ≡ false
     flip a b h = grind (arith, nat_tests, h)
 
-    by : (b : Bool) → p e ≡ b → (list_any (λ n. n == e.0) (keys_of (cond (p e) (e ∷ filter p es) (filter p es))) ≡ p e) × AllByRecursion (λ (x : ℕ × X). list_any (λ n. n == x.0) (keys_of (cond (p e) (e ∷ filter p es) (filter p es))) ≡ p x) es
-    by true h = rw h (rw (number_same e.0) refl, all_both (λ (x : ℕ × X). (x.0 == e.0) ≡ false) (λ (x : ℕ × X). list_any (λ n. n == x.0) (keys_of (filter p es)) ≡ p x) (λ (x : ℕ × X). ((e.0 == x.0) || list_any (λ n. n == x.0) (keys_of (filter p es))) ≡ p x) es (λ x no is. rw (flip x.0 e.0 no) is) apart rest)
-    by false h = rw h (none_named p e.0 es apart, rest)
+    by : (b : Bool) → p e ≡ b → AllByRecursion (λ (x : ℕ × X). list_any (λ n. n == x.0) (keys_of (filter p es)) ≡ p x) es → (list_any (λ n. n == e.0) (keys_of (cond (p e) (e ∷ filter p es) (filter p es))) ≡ p e) × AllByRecursion (λ (x : ℕ × X). list_any (λ n. n == x.0) (keys_of (cond (p e) (e ∷ filter p es) (filter p es))) ≡ p x) es
+    by true h rest = rw h (rw (number_same e.0) refl, all_both (λ (x : ℕ × X). (x.0 == e.0) ≡ false) (λ (x : ℕ × X). list_any (λ n. n == x.0) (keys_of (filter p es)) ≡ p x) (λ (x : ℕ × X). ((e.0 == x.0) || list_any (λ n. n == x.0) (keys_of (filter p es))) ≡ p x) es (λ x no is. rw (flip x.0 e.0 no) is) apart rest)
+    by false h rest = rw h (none_named p e.0 es apart, rest)
 
 -- those that pass are named, and the others are spared
 pub spared_fail : {X : Type 0} (p : ℕ × X → Bool) (es : List (ℕ × X)) → IsStrictlySortedBy nat_cmp (keys_of es) → filter (spared (keys_of (filter p es))) es ≡ filter (λ e. not (p e)) es
