@@ -25,8 +25,9 @@ use Rattle.wl_machine.specs.Step.{is_untaken, with_taken, is_lock_of}
 use Rattle.wl_index.specs.declared.table.Request.{Request}
 use Rattle.wl_index.specs.declared.table.Stage.{Stage}
 use Rattle.wl_index.specs.declared.table.Stage.TheVariants.{Pending, Held}
-use Rattle.wl_index.specs.Stamps.{place, by_stamp, by_stamp_last, by_stamp_all, filter_by_stamp}
+use Rattle.wl_index.specs.Stamps.{Distinct, place, by_stamp, by_stamp_last, by_stamp_all, filter_by_stamp}
 use Rattle.wl_index.specs.Rows.{Entry, Apart, tag, tags_of, other, is_fresh, taken_stage, waits, holds, stamp, waiting, holding, stamp_of, request_row, lock_row, pending_of, held_of, IsTable, IsLock}
+use Rattle.wl_index.proofs.Distinct.{distinct_filter, distinct_map, distinct_last_come}
 use Rattle.wl_index.proofs.Lists.{filter_map, filter_like, filter_swap, filter_whole, filter_none, filter_passed, all_filter, all_weaker, all_append, all_front, all_back, any_map, any_by_stamp, map_by_stamp}
 
 pub same_number : (id k : ℕ) → is_at (nat_cmp id) k ≡ (k == id)
@@ -88,6 +89,10 @@ length_fewer p (e ∷ es) = by (p e) (length_fewer p es)
     by true rest = omega (arith, rest)
     by false rest = omega (arith, rest)
 
+-- stamps differ without an entry
+distinct_others : (id : ℕ) (es : List Entry) → Distinct stamp_of (filter holding es) → Distinct stamp_of (filter holding (filter (other id) es))
+distinct_others id es distinct = rw (filter_swap holding (other id) es) (distinct_filter stamp_of (other id) (filter holding es) distinct)
+
 -- without an entry it stays a table
 pub ended_table : (id : ℕ) (es : List Entry) (next_stamp next : ℕ) → IsTable es next_stamp next → IsStrictlySortedBy nat_cmp (keys_of (remove_entry (is_at (nat_cmp id)) es)) → IsTable (remove_entry (is_at (nat_cmp id)) es) next_stamp next
 ended_table id es next_stamp next table sorted =
@@ -97,6 +102,7 @@ ended_table id es next_stamp next table sorted =
       ordered = sorted;
       below = rw (removed id es table.ordered) (all_filter (λ (e : Entry). e.0 < next) (other id) es table.below);
       stamped = rw (removed id es table.ordered) (all_filter (λ (e : Entry). stamp_of e < next_stamp) (other id) es table.stamped);
+      distinct = rw (removed id es table.ordered) (distinct_others id es table.distinct);
       first = table.first;
       room = rw (removed id es table.ordered, filter_swap waiting (other id) es) (omega (arith, fewer, room));
       high = table.high;
@@ -123,10 +129,13 @@ pub pending_more : (es : List Entry) (k : ℕ) (r : Request) → waits r.stage �
 pending_more es k r waiting_now =
     ap (map request_row) (filter-append waiting es ((k, r) ∷ []) ∙ rw waiting_now refl) ∙ map-append request_row (filter waiting es) ((k, r) ∷ [])
 
-pub held_more : (es : List Entry) (k : ℕ) (r : Request) → holds r.stage ≡ false → held_of (es ++ (k, r) ∷ []) ≡ held_of es
-held_more es k r free =
+locks_same : (es : List Entry) (k : ℕ) (r : Request) → holds r.stage ≡ false → filter holding (es ++ (k, r) ∷ []) ≡ filter holding es
+locks_same es k r free =
     let same : filter holding es ++ filter holding ((k, r) ∷ []) ≡ filter holding es = rw free (append-nil (filter holding es)) in
-    ap (λ l. map lock_row (by_stamp stamp_of l)) (filter-append holding es ((k, r) ∷ []) ∙ same)
+    filter-append holding es ((k, r) ∷ []) ∙ same
+
+pub held_more : (es : List Entry) (k : ℕ) (r : Request) → holds r.stage ≡ false → held_of (es ++ (k, r) ∷ []) ≡ held_of es
+held_more es k r free = ap (λ l. map lock_row (by_stamp stamp_of l)) (locks_same es k r free)
 
 pub more_table : (es : List Entry) (next_stamp next : ℕ) (r : Request) → r.stage ≡ Pending → next < 9007199254740992 → IsTable es next_stamp next
     → IsStrictlySortedBy nat_cmp (keys_of (insert_entry nat_cmp es next r)) → IsTable (insert_entry nat_cmp es next r) next_stamp (next + 1)
@@ -139,6 +148,7 @@ more_table es next_stamp next r waits_now low table sorted =
       ordered = sorted;
       below = rw last (all_append (λ (e : Entry). e.0 < next + 1) es ((next, r) ∷ []) (all_weaker (λ (e : Entry). e.0 < next) (λ e. e.0 < next + 1) es (λ e less. omega (arith, less)) table.below) (omega arith, tt));
       stamped = rw last (all_append (λ (e : Entry). stamp_of e < next_stamp) es ((next, r) ∷ []) table.stamped (rw waits_now (omega (arith, first)), tt));
+      distinct = rw (last, locks_same es next r (rw waits_now refl)) table.distinct;
       first = first;
       room = rw last (omega (arith, count, room));
       high = omega (arith, low);
@@ -202,6 +212,19 @@ apart_kept id es apart =
 pending_append : (front back : List Entry) → pending_of (front ++ back) ≡ pending_of front ++ pending_of back
 pending_append front back = ap (map request_row) (filter-append waiting front back) ∙ map-append request_row (filter waiting front) (filter waiting back)
 
+-- a request that waits is no lock
+locks_without : (front back : List Entry) (id : ℕ) (r : Request) → r.stage ≡ Pending → filter holding (front ++ (id, r) ∷ back) ≡ filter holding front ++ filter holding back
+locks_without front back id r free = filter-append holding front ((id, r) ∷ back) ∙ ap (λ s. filter holding front ++ cond (holds s) ((id, r) ∷ filter holding back) (filter holding back)) free
+
+-- stamps differ with one that is above all
+distinct_granted : (front back : List Entry) (id at : ℕ) (r : Request) → r.stage ≡ Pending
+    → AllByRecursion (λ (e : Entry). stamp_of e < at) front → AllByRecursion (λ (e : Entry). stamp_of e < at) back
+    → Distinct stamp_of (filter holding (front ++ (id, r) ∷ back)) → Distinct stamp_of (filter holding (front ++ (id, granted_now at r) ∷ back))
+distinct_granted front back id at r free low high distinct =
+    let now : Request = granted_now at r in
+    let fresh : filter holding (front ++ (id, now) ∷ back) ≡ filter holding front ++ (id, now) ∷ filter holding back = filter-append holding front ((id, now) ∷ back) in
+    rw fresh (distinct_last_come stamp_of (id, now) (filter holding front) (filter holding back) (all_filter (λ (e : Entry). stamp_of e < at) holding front low) (all_filter (λ (e : Entry). stamp_of e < at) holding back high) (subst (Distinct stamp_of) (locks_without front back id r free) distinct))
+
 -- a request that waited and holds with the greatest stamp is the last lock
 pub held_granted : (front back : List Entry) (id at : ℕ) (r : Request) → r.stage ≡ Pending
     → AllByRecursion (λ (e : Entry). stamp_of e < at) front → AllByRecursion (λ (e : Entry). stamp_of e < at) back
@@ -209,7 +232,7 @@ pub held_granted : (front back : List Entry) (id at : ℕ) (r : Request) → r.s
 held_granted front back id at r free low high =
     let now : Request = granted_now at r in
     let fresh : filter holding (front ++ (id, now) ∷ back) ≡ filter holding front ++ (id, now) ∷ filter holding back = filter-append holding front ((id, now) ∷ back) in
-    let old : filter holding (front ++ (id, r) ∷ back) ≡ filter holding front ++ filter holding back = filter-append holding front ((id, r) ∷ back) ∙ ap (λ s. filter holding front ++ cond (holds s) ((id, r) ∷ filter holding back) (filter holding back)) free in
+    let old = locks_without front back id r free in
     ap (λ l. map lock_row (by_stamp stamp_of l)) fresh
     ∙ ap (map lock_row) (by_stamp_last stamp_of (filter holding front) (filter holding back) (id, now) (all_filter (λ (e : Entry). stamp_of e < at) holding front low) (all_filter (λ (e : Entry). stamp_of e < at) holding back high))
     ∙ map-append lock_row (by_stamp stamp_of (filter holding front ++ filter holding back)) ((id, now) ∷ [])
@@ -312,6 +335,7 @@ granted_meets id es r next_stamp next table there wait =
         ordered = rw (keys-set_value (is_at (nat_cmp id)) es now) table.ordered;
         below = rw (f.set now) (all_append (λ (e : Entry). e.0 < next) f.front ((id, now) ∷ f.back) low_numbers (high_numbers.0, high_numbers.1));
         stamped = rw (f.set now) (all_append (λ (e : Entry). stamp_of e < next_stamp + 1) f.front ((id, now) ∷ f.back) (all_weaker (λ (e : Entry). stamp_of e < next_stamp) (λ e. stamp_of e < next_stamp + 1) f.front more low_stamps) (omega arith, all_weaker (λ (e : Entry). stamp_of e < next_stamp) (λ e. stamp_of e < next_stamp + 1) f.back more high_stamps));
+        distinct = rw (f.set now) (distinct_granted f.front f.back id next_stamp r free low_stamps high_stamps (subst (λ l. Distinct stamp_of (filter holding l)) f.whole table.distinct));
         first = omega arith;
         room = rw (f.set now) (omega (arith, fewer, count, room));
         high = table.high;
@@ -404,7 +428,7 @@ marked_rows id (e ∷ l) all = rw (marked_row id e.0 e.1 e.1.stage (e.0 == id) r
 pub held_marked : (id : ℕ) (es : List Entry) → held_of (map (mark id) es) ≡ map (with_taken id) (held_of es)
 held_marked id es =
     ap (λ l. map lock_row (by_stamp stamp_of l)) (filter_map holding (mark id) es ∙ ap (map (mark id)) (filter_like (λ e. holding (mark id e)) holding (same_holding id) es))
-    ∙ ap (map lock_row) (sym (map_by_stamp stamp_of (mark id) (same_stamp id) (filter holding es)))
+    ∙ ap (map lock_row) (sym (map_by_stamp stamp_of stamp_of (mark id) (same_stamp id) (filter holding es)))
     ∙ marked_rows id (by_stamp stamp_of (filter holding es)) (by_stamp_all stamp_of (λ (e : Entry). holding e ≡ true) (filter holding es) (filter_passed holding es))
 
 marked_request : (id : ℕ) (e : Entry) (b : Bool) → request_row (e.0, cond b (marked e.1) e.1) ≡ request_row e
@@ -426,6 +450,7 @@ marked_table id es next_stamp next table =
       ordered = rw (keys_marked es) table.ordered;
       below = below_marked es table.below;
       stamped = stamped_marked es table.stamped;
+      distinct = rw (filter_map holding (mark id) es, filter_like (λ e. holding (mark id e)) holding (same_holding id) es) (distinct_map stamp_of stamp_of (mark id) (same_stamp id) (filter holding es) table.distinct);
       first = table.first;
       room = rw (ap length (filter_map waiting (mark id) es ∙ ap (map (mark id)) (filter_like (λ e. waiting (mark id e)) waiting (same_waiting id) es)) ∙ marked_length (filter waiting es)) table.room;
       high = table.high;
@@ -668,6 +693,7 @@ retracted_at number r es next_stamp next f table waits_now last sorted =
       ordered = sorted;
       below = below_number es table.below;
       stamped = all_filter (λ (e : Entry). stamp_of e < next_stamp) (other number) es table.stamped;
+      distinct = distinct_others number es table.distinct;
       first = table.first;
       room = omega (arith, many, few, room, last);
       high = omega (arith, high, last);

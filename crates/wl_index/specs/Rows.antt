@@ -11,7 +11,7 @@ use Rattle.wl_machine.specs.declared.rows.PendingRow.{PendingRow}
 use Rattle.wl_index.specs.declared.table.Request.{Request}
 use Rattle.wl_index.specs.declared.table.Stage.{Stage}
 use Rattle.wl_index.specs.declared.table.Stage.TheVariants.{Pending, Held}
-use Rattle.wl_index.specs.Stamps.{by_stamp}
+use Rattle.wl_index.specs.Stamps.{by_stamp, Distinct}
 
 -- a live request with its number
 abbrev pub Entry : Type 0
@@ -91,11 +91,12 @@ abbrev pub Apart : List PendingRow → Type 0
 Apart [] = Unit {0}
 Apart (request ∷ requests) = AllByRecursion (λ (other : PendingRow). (other.number == request.number) ≡ false) requests × Apart requests
 
--- numbers rise and are below the next; stamps are below the next, which stays within the numbers after one grant for each that waits
+-- numbers rise and are below the next; no two locks have one stamp, and stamps are below the next, which stays within the numbers after one grant for each that waits
 pub record IsTable (es : List Entry) (next_stamp next : ℕ) : Type 0 where
   pub ordered : IsStrictlySortedBy nat_cmp (keys_of es)
   pub below : AllByRecursion (λ e. e.0 < next) es
   pub stamped : AllByRecursion (λ e. stamp_of e < next_stamp) es
+  pub distinct : Distinct stamp_of (filter holding es)
   pub first : 1 ≤ next_stamp
   pub room : next_stamp + length (filter waiting es) ≤ next
   pub high : next ≤ 9007199254740992

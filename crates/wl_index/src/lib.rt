@@ -5,6 +5,7 @@ pub mod groups;
 pub mod index;
 pub mod line;
 pub mod names;
+mod order;
 pub mod owners;
 mod room;
 mod settle;

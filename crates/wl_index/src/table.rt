@@ -6,12 +6,14 @@ ghost use Rattle.std.specs.Map.{keys_of, lookup};
 ghost use Rattle.std.specs.BTreeMap.{is_at};
 ghost use Rattle.std.specs.Option.{option_copied};
 ghost use Rattle.std.specs.Ordering.{nat_cmp};
+ghost use Rattle.wl_machine.specs.declared.rows.HeldRow.{HeldRow};
 ghost use Rattle.wl_machine.specs.declared.rows.PendingRow.{PendingRow};
 ghost use Rattle.wl_machine.specs.Grants.{granted_lock};
 ghost use Rattle.wl_index.specs.declared.table.Request.{Request};
 ghost use Rattle.wl_machine.specs.Step.{is_lock_of, is_untaken, with_taken};
 ghost use Rattle.wl_index.specs.Rows.{Apart, holds, is_fresh, taken_stage, IsLock, held_of, pending_of, tags_of, other, stamp};
 
+use crate::order;
 use std::alloc::Global;
 use std::collections::BTreeMap;
 use std::marker::Model;
@@ -86,6 +88,15 @@ impl Table {
         ensures { option_copied result ≡ lookup (is_at (nat_cmp number)) self.now.entries }
     {
         self.requests.get(&number)
+    }
+
+    /// The numbers of the locks, in the order of their grants.
+    pub fn locks_in_order(&self, alloc: Global) -> Result<Vec<u64>, Memory>
+        ensures { IfOk result (λ numbers. numbers.items ≡ map (λ (lock : HeldRow). lock.number) (held_of self.now.entries)) }
+    {
+        let mut places = order::places(&self.requests, alloc)?;
+        order::sort(&mut places);
+        order::numbers(&places, alloc)
     }
 
     /// A request that waits, after all others.

@@ -1,0 +1,26 @@
+-- The places of locks, and the order of grants.
+use Rattle.std.proofs.Common.{◌≡◌, Bool, true, false, cond, List, [], ◌∷◌, ◌++◌, refl, sym, ap, ◌∙◌, map, filter}
+use Rattle.wl_machine.specs.declared.rows.HeldRow.{HeldRow}
+use Rattle.wl_index.specs.declared.order.Place.{Place}
+use Rattle.wl_index.specs.Stamps.{by_stamp, Distinct}
+use Rattle.wl_index.specs.Rows.{Entry, holding, stamp_of, lock_row, held_of}
+use Rattle.wl_index.specs.Order.{place_of, places_of}
+use Rattle.wl_index.proofs.Lists.{map_map, map_by_stamp}
+use Rattle.wl_index.proofs.Distinct.{distinct_map}
+
+pub places_first : (e : Entry) (es : List Entry) → places_of (e ∷ es) ≡ places_of (e ∷ []) ++ places_of es
+places_first e es = by (holding e)
+  where
+    by : (b : Bool) → map place_of (cond b (e ∷ filter holding es) (filter holding es)) ≡ map place_of (cond b (e ∷ []) []) ++ places_of es
+    by true = refl
+    by false = refl
+
+pub places_distinct : (es : List Entry) → Distinct stamp_of (filter holding es) → Distinct (λ (p : Place). p.stamp) (places_of es)
+places_distinct es distinct = distinct_map stamp_of (λ (p : Place). p.stamp) place_of (λ e. refl) (filter holding es) distinct
+
+-- places by stamp are the locks in the order of their grants
+pub places_in_order : (es : List Entry) → map (λ (p : Place). p.number) (by_stamp (λ (p : Place). p.stamp) (places_of es)) ≡ map (λ (lock : HeldRow). lock.number) (held_of es)
+places_in_order es =
+    ap (map (λ (p : Place). p.number)) (sym (map_by_stamp stamp_of (λ (p : Place). p.stamp) place_of (λ e. refl) (filter holding es)))
+    ∙ map_map (λ (p : Place). p.number) place_of (by_stamp stamp_of (filter holding es))
+    ∙ sym (map_map (λ (lock : HeldRow). lock.number) lock_row (by_stamp stamp_of (filter holding es)))
