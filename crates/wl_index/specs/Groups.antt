@@ -59,3 +59,11 @@ of_signal signal tags = map (λ t. t.number) (filter (λ t. is_signal signal t.s
 pub record IsGrouped (tags : List Tag) (agents signals : List Group) : Type 0 where
   pub by_agent : (agent : ℕ) → numbers_at agent agents ≡ of_agent agent tags
   pub by_signal : (signal : ℕ) → numbers_at signal signals ≡ of_signal signal tags
+
+-- whatever has the number is of this agent and this signal
+abbrev pub IsTagged : ℕ → ℕ → Option ℕ → List Tag → Type 0
+IsTagged number agent signal tags = AllByRecursion (λ t. (t.number == number) ≡ true → (t.agent ≡ agent) × (t.signal ≡ signal)) tags
+
+-- without what has the number
+abbrev pub without_tag : ℕ → List Tag → List Tag
+without_tag number tags = filter (λ t. not (t.number == number)) tags

@@ -1,8 +1,10 @@
 //! Numbers by owner.
-ghost use Rattle.std.specs.Prelude.{◌≡◌, ℕ, ◌<◌, ◌==◌, [], ◌∷◌, ◌++◌, OnOk, OnErr, if◌then◌else◌};
+ghost use Rattle.std.specs.Prelude.{◌≡◌, ℕ, ◌<◌, ◌==◌, List, [], ◌∷◌, ◌++◌, OnOk, OnErr, if◌then◌else◌};
 ghost use Rattle.std.specs.List.{AllByRecursion};
 ghost use Rattle.std.specs.Option.{option_copied};
-ghost use Rattle.wl_index.specs.Groups.{numbers_at, numbers_in, without_number};
+ghost use Rattle.wl_index.specs.Groups.{numbers_at, numbers_in, without_number, IsGrouped, IsTagged, without_tag};
+ghost use Rattle.wl_index.specs.Rows.{Tag};
+ghost use Rattle.wl_machine.specs.Step.{is_signal};
 
 use std::alloc::Global;
 use std::collections::BTreeMap;
@@ -67,10 +69,66 @@ impl Groups {
         }
     }
 
+    /// One more number of an owner, above all numbers, if there is an owner.
+    pub fn add_if(&mut self, owner: Option<u64>, number: u64) -> Result<(), Memory>
+        requires { (of : ℕ) → AllByRecursion (λ n. n < number) (numbers_at of self.old) }
+        ensures ok { OnOk result ((of : ℕ) → numbers_at of self.new ≡ (if is_signal of owner then numbers_at of self.old ++ number ∷ [] else numbers_at of self.old)) }
+        ensures err { OnErr result ((of : ℕ) → numbers_at of self.new ≡ numbers_at of self.old) }
+    {
+        match owner {
+            Some(owner) => self.add(owner, number),
+            None => Ok(()),
+        }
+    }
+
+    /// An owner loses a number, if there is an owner.
+    pub fn remove_if(&mut self, owner: Option<u64>, number: u64)
+        ensures { (of : ℕ) → numbers_at of self.new ≡ (if is_signal of owner then without_number number (numbers_at of self.old) else numbers_at of self.old) }
+    {
+        if let Some(owner) = owner {
+            self.remove(owner, number);
+        }
+    }
+
     /// The numbers of an owner, rising. None: it has none.
     pub fn of(&self, owner: u64) -> Option<&BTreeMap<u64, ()>>
         ensures { numbers_in (option_copied result) ≡ numbers_at owner self.now }
     {
         self.by_owner.get(&owner)
     }
+}
+
+/// A request, of the greatest number, comes to its agent's list and to its signal's.
+pub(crate) fn list(
+    of_agents: &mut Groups,
+    of_signals: &mut Groups,
+    agent: u64,
+    signal: Option<u64>,
+    number: u64,
+) -> Result<(), Memory>
+    requires agents { (of : ℕ) → AllByRecursion (λ n. n < number) (numbers_at of of_agents.old) }
+    requires signals { (of : ℕ) → AllByRecursion (λ n. n < number) (numbers_at of of_signals.old) }
+    ensures ok { OnOk result ((tags : List Tag) → IsGrouped tags of_agents.old of_signals.old → IsGrouped (tags ++ record { number = number; agent = agent; signal = signal } ∷ []) of_agents.new of_signals.new) }
+    ensures err { OnErr result ((tags : List Tag) → IsGrouped tags of_agents.old of_signals.old → IsGrouped tags of_agents.new of_signals.new) }
+{
+    of_agents.add(agent, number)?;
+    let Ok(_) = of_signals.add_if(signal, number) else {
+        of_agents.remove(agent, number);
+        return Err(Memory);
+    };
+    Ok(())
+}
+
+/// A request leaves its agent's list and its signal's.
+pub(crate) fn unlist(
+    of_agents: &mut Groups,
+    of_signals: &mut Groups,
+    agent: u64,
+    signal: Option<u64>,
+    number: u64,
+)
+    ensures { (tags : List Tag) → IsTagged number agent signal tags → IsGrouped tags of_agents.old of_signals.old → IsGrouped (without_tag number tags) of_agents.new of_signals.new }
+{
+    of_agents.remove(agent, number);
+    of_signals.remove_if(signal, number);
 }

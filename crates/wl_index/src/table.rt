@@ -14,6 +14,7 @@ ghost use Rattle.wl_machine.specs.Step.{is_lock_of, is_untaken, with_taken};
 ghost use Rattle.wl_index.specs.Rows.{Apart, holds, is_fresh, taken_stage, IsLock, held_of, pending_of, tags_of, other, stamp};
 
 use crate::order;
+use crate::groups::{Groups, list, unlist};
 use std::alloc::Global;
 use std::collections::BTreeMap;
 use std::marker::Model;
@@ -36,22 +37,25 @@ pub struct Request {
     pub stage: Stage,
 }
 
-/// The live requests by number, the next stamp and the next number.
+/// The live requests by number, those of each agent and of each signal, the next stamp and the next number.
 #[derive(Drop)]
 pub struct Table {
     requests: BTreeMap<u64, Request>,
+    of_agents: Groups,
+    of_signals: Groups,
     stamp: u64,
     next: u64,
 }
 
 impl Model for Table {
-    ghost use Rattle.wl_index.specs.Rows.{Rows, IsTable};
+    ghost use Rattle.wl_index.specs.Rows.{Rows, IsTable, tags_of};
+    ghost use Rattle.wl_index.specs.Groups.{IsGrouped};
 
     ghost Value = { Rows };
 
     ghost view = { λ t. record { entries = t.requests.entries; next = t.next } };
 
-    ghost invariant = { λ t. IsTable t.requests.entries t.stamp t.next };
+    ghost invariant = { λ t. IsTable t.requests.entries t.stamp t.next × IsGrouped (tags_of t.requests.entries) t.of_agents t.of_signals };
 }
 
 impl Table {
@@ -62,6 +66,8 @@ impl Table {
     {
         Table {
             requests: BTreeMap::new(alloc),
+            of_agents: Groups::new(alloc),
+            of_signals: Groups::new(alloc),
             stamp: 1,
             next,
         }
@@ -116,6 +122,13 @@ impl Table {
         ensures err { OnErr result (self.new ≡ self.old) }
     {
         let number = self.next;
+        list(
+            &mut self.of_agents,
+            &mut self.of_signals,
+            agent,
+            signal,
+            number,
+        )?;
         let request = Request {
             agent,
             name,
@@ -123,7 +136,16 @@ impl Table {
             signal,
             stage: Stage::Pending,
         };
-        self.requests.insert(number, request)?;
+        let Ok(_) = self.requests.insert(number, request) else {
+            unlist(
+                &mut self.of_agents,
+                &mut self.of_signals,
+                agent,
+                signal,
+                number,
+            );
+            return Err(Memory);
+        };
         self.next = number + 1;
         Ok(number)
     }
@@ -145,7 +167,14 @@ impl Table {
         requires waits { (r : Request) × (lookup (is_at (nat_cmp number)) self.old.entries ≡ Some r) × (r.stage ≡ Stage.Pending) }
         ensures { self.new ≡ record { entries = filter (other number) self.old.entries; next = number } }
     {
-        self.requests.remove(&number);
+        let request = self.requests.remove(&number).unwrap();
+        unlist(
+            &mut self.of_agents,
+            &mut self.of_signals,
+            request.agent,
+            request.signal,
+            number,
+        );
         self.next = number;
     }
 
@@ -157,7 +186,15 @@ impl Table {
         ensures still_ordered { IsStrictlySortedBy nat_cmp (keys_of self.new.entries) }
         ensures next { self.new.next ≡ self.old.next }
     {
-        self.requests.remove(&number)
+        let request = self.requests.remove(&number)?;
+        unlist(
+            &mut self.of_agents,
+            &mut self.of_signals,
+            request.agent,
+            request.signal,
+            number,
+        );
+        Some(request)
     }
 
     /// Whether an agent has the lock of this number.
