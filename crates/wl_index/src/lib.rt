@@ -1,6 +1,7 @@
 //! The lock machine over indexes: each event costs what it changes.
 #![tactic(auto)]
 
+mod ending;
 pub mod groups;
 pub mod index;
 pub mod line;

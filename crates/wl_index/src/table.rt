@@ -11,9 +11,13 @@ ghost use Rattle.wl_machine.specs.declared.rows.PendingRow.{PendingRow};
 ghost use Rattle.wl_machine.specs.Grants.{granted_lock};
 ghost use Rattle.wl_index.specs.declared.table.Request.{Request};
 ghost use Rattle.wl_machine.specs.Step.{is_lock_of, is_untaken, with_taken};
-ghost use Rattle.wl_index.specs.Rows.{Apart, holds, is_fresh, taken_stage, IsLock, held_of, pending_of, tags_of, other, stamp};
+ghost use Rattle.wl_index.specs.Rows.{Apart, holds, is_fresh, taken_stage, IsLock, held_of, pending_of, tags_of, other, stamp, stamp_of, holding};
+ghost use Rattle.wl_index.specs.Ends.{owned_by};
+ghost use Rattle.wl_index.specs.Groups.{numbers_in};
+ghost use Rattle.wl_index.specs.Stamps.{Distinct};
 
 use crate::order;
+use crate::ending::Owner;
 use crate::groups::{Groups, list, unlist};
 use std::alloc::Global;
 use std::collections::BTreeMap;
@@ -103,6 +107,18 @@ impl Table {
         let mut places = order::places(&self.requests, alloc)?;
         order::sort(&mut places);
         order::numbers(&places, alloc)
+    }
+
+    /// The numbers of an owner's live requests, rising. None: it has none.
+    pub(crate) fn owned(&self, owner: Owner) -> Option<&BTreeMap<u64, ()>>
+        ensures numbers { numbers_in (option_copied result) ≡ owned_by owner (tags_of self.now.entries) }
+        ensures ordered { IsStrictlySortedBy nat_cmp (keys_of self.now.entries) }
+        ensures distinct { Distinct stamp_of (filter holding self.now.entries) }
+    {
+        match owner {
+            Owner::Signal(_, signal) => self.of_signals.of(signal),
+            Owner::Agent(agent) => self.of_agents.of(agent),
+        }
     }
 
     /// A request that waits, after all others.
