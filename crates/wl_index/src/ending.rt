@@ -170,3 +170,74 @@ fn end_all(
         names.end(place.number, phase, table, changes, touched);
     }
 }
+
+/// The owner's requests that wait end, in the order of their numbers.
+pub(crate) fn end_requests(
+    names: &mut Names,
+    owner: Owner,
+    phase: Phase,
+    table: &mut Table,
+    changes: &mut Vec<Change>,
+    touched: &mut Vec<u64>,
+    ending: &mut Vec<Place>,
+)
+    requires none { ending.old.items ≡ [] }
+    requires ready { Ready names.old (held_of table.old.entries) (pending_of table.old.entries) touched.old.items }
+    requires changes_room { vec_len changes.old + length table.old.entries ≤ vec_capacity changes.old }
+    requires touched_room { vec_len touched.old + length table.old.entries ≤ vec_capacity touched.old }
+    requires ending_room { length table.old.entries ≤ vec_capacity ending.old }
+    ensures pending { pending_of table.new.entries ≡ filter (λ request. not (ends_request owner request)) (pending_of table.old.entries) }
+    ensures held { held_of table.new.entries ≡ held_of table.old.entries }
+    ensures changes { changes.new.items ≡ changes.old.items ++ request_ends phase (filter (ends_request owner) (pending_of table.old.entries)) }
+    ensures ready { Ready names.new (held_of table.new.entries) (pending_of table.new.entries) touched.new.items }
+    ensures names { names_of names.new ≡ names_of names.old }
+    ensures places { (n : ℕ) → AllByRecursion (λ e. e.0 < n) names.old → AllByRecursion (λ e. e.0 < n) names.new }
+    ensures next { table.new.next ≡ table.old.next }
+    ensures fewer { length table.new.entries ≤ length table.old.entries }
+    ensures changes_sum { vec_len changes.new + length table.new.entries ≡ vec_len changes.old + length table.old.entries }
+    ensures touched_sum { vec_len touched.new + length table.new.entries ≡ vec_len touched.old + length table.old.entries }
+    ensures changes_capacity { vec_capacity changes.old ≤ vec_capacity changes.new }
+    ensures touched_capacity { vec_capacity touched.old ≤ vec_capacity touched.new }
+    ensures emptied { ending.new.items ≡ [] }
+    ensures ending_capacity { vec_capacity ending.old ≤ vec_capacity ending.new }
+{
+    gather(table, owner, Standing::Waits, ending);
+    end_all(names, ending, phase, table, changes, touched);
+    ending.clear();
+}
+
+/// The owner's locks end, in the order of their grants.
+pub(crate) fn end_locks(
+    names: &mut Names,
+    owner: Owner,
+    phase: Phase,
+    table: &mut Table,
+    changes: &mut Vec<Change>,
+    touched: &mut Vec<u64>,
+    ending: &mut Vec<Place>,
+)
+    requires none { ending.old.items ≡ [] }
+    requires ready { Ready names.old (held_of table.old.entries) (pending_of table.old.entries) touched.old.items }
+    requires changes_room { vec_len changes.old + length table.old.entries ≤ vec_capacity changes.old }
+    requires touched_room { vec_len touched.old + length table.old.entries ≤ vec_capacity touched.old }
+    requires ending_room { length table.old.entries ≤ vec_capacity ending.old }
+    ensures pending { pending_of table.new.entries ≡ pending_of table.old.entries }
+    ensures held { held_of table.new.entries ≡ filter (λ lock. not (ends_lock owner lock)) (held_of table.old.entries) }
+    ensures changes { changes.new.items ≡ changes.old.items ++ lock_ends phase (filter (ends_lock owner) (held_of table.old.entries)) }
+    ensures ready { Ready names.new (held_of table.new.entries) (pending_of table.new.entries) touched.new.items }
+    ensures names { names_of names.new ≡ names_of names.old }
+    ensures places { (n : ℕ) → AllByRecursion (λ e. e.0 < n) names.old → AllByRecursion (λ e. e.0 < n) names.new }
+    ensures next { table.new.next ≡ table.old.next }
+    ensures fewer { length table.new.entries ≤ length table.old.entries }
+    ensures changes_sum { vec_len changes.new + length table.new.entries ≡ vec_len changes.old + length table.old.entries }
+    ensures touched_sum { vec_len touched.new + length table.new.entries ≡ vec_len touched.old + length table.old.entries }
+    ensures changes_capacity { vec_capacity changes.old ≤ vec_capacity changes.new }
+    ensures touched_capacity { vec_capacity touched.old ≤ vec_capacity touched.new }
+    ensures emptied { ending.new.items ≡ [] }
+    ensures ending_capacity { vec_capacity ending.old ≤ vec_capacity ending.new }
+{
+    gather(table, owner, Standing::Holds, ending);
+    sort(ending);
+    end_all(names, ending, phase, table, changes, touched);
+    ending.clear();
+}
