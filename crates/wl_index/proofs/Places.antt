@@ -3,7 +3,7 @@ use Rattle.std.proofs.Common.{◌≡◌, Bool, true, false, cond, List, [], ◌�
 use Rattle.wl_machine.specs.declared.rows.HeldRow.{HeldRow}
 use Rattle.wl_index.specs.declared.order.Place.{Place}
 use Rattle.wl_index.specs.Stamps.{by_stamp, Distinct}
-use Rattle.wl_index.specs.Rows.{Entry, holding, stamp_of, lock_row, held_of}
+use Rattle.wl_index.specs.Rows.{Entry, holding, stamp_of, lock_row}
 use Rattle.wl_index.specs.Order.{place_of, places_of}
 use Rattle.wl_index.proofs.Lists.{map_map, map_by_stamp}
 use Rattle.wl_index.proofs.Distinct.{distinct_map}
@@ -19,8 +19,8 @@ pub places_distinct : (es : List Entry) → Distinct stamp_of (filter holding es
 places_distinct es distinct = distinct_map stamp_of (λ (p : Place). p.stamp) place_of (λ e. refl) (filter holding es) distinct
 
 -- places by stamp are the locks in the order of their grants
-pub places_in_order : (es : List Entry) → map (λ (p : Place). p.number) (by_stamp (λ (p : Place). p.stamp) (places_of es)) ≡ map (λ (lock : HeldRow). lock.number) (held_of es)
-places_in_order es =
-    ap (map (λ (p : Place). p.number)) (sym (map_by_stamp stamp_of (λ (p : Place). p.stamp) place_of (λ e. refl) (filter holding es)))
-    ∙ map_map (λ (p : Place). p.number) place_of (by_stamp stamp_of (filter holding es))
-    ∙ sym (map_map (λ (lock : HeldRow). lock.number) lock_row (by_stamp stamp_of (filter holding es)))
+pub numbers_in_order : (locks : List Entry) → map (λ (p : Place). p.number) (by_stamp (λ (p : Place). p.stamp) (map place_of locks)) ≡ map (λ (lock : HeldRow). lock.number) (map lock_row (by_stamp stamp_of locks))
+numbers_in_order locks =
+    ap (map (λ (p : Place). p.number)) (sym (map_by_stamp stamp_of (λ (p : Place). p.stamp) place_of (λ e. refl) locks))
+    ∙ map_map (λ (p : Place). p.number) place_of (by_stamp stamp_of locks)
+    ∙ sym (map_map (λ (lock : HeldRow). lock.number) lock_row (by_stamp stamp_of locks))

@@ -1,10 +1,10 @@
 -- A list whose stamps differ has one order by stamp, whatever sorts it.
-use Rattle.std.proofs.Common.{◌≡◌, ℕ, zero, suc, ◌<◌, ◌≤◌, List, [], ◌∷◌, refl, sym, ap, ◌∙◌, length, get_or, set, arith}
+use Rattle.std.proofs.Common.{◌≡◌, ℕ, zero, suc, ◌<◌, ◌≤◌, List, [], ◌∷◌, refl, sym, ap, ◌∙◌, length, get_or, set, arith, Bool, true, false, nat_lt, if◌then◌else◌}
 use Rattle.std.specs.List.{AllByRecursion, swap}
 use Rattle.std.specs.List.Sorted.{IsPermutation, IsNonDecreasingBy}
 use Rattle.std.proofs.lemmas.List.Elements.{recursion_from_All}
-use Rattle.std.proofs.lemmas.List.Sorted.{IsPermutation-keeps}
-use Rattle.wl_index.specs.Stamps.{Distinct, Rising, place, by_stamp, place_apart, place_first}
+use Rattle.std.proofs.lemmas.List.Sorted.{IsPermutation-keeps, IsPermutation-refl, IsPermutation-sym, IsPermutation-trans, IsPermutation-cons, IsPermutation-middle}
+use Rattle.wl_index.specs.Stamps.{Distinct, Rising, place, by_stamp, place_apart, place_first, by_stamp_rising}
 
 -- A relation holds along each permutation if it is reflexive and transitive, and goes under a head and over an exchange of two heads.
 module _ {X : Type 0} (R : List X → List X → Type 0) (same : (xs : List X) → R xs xs)
@@ -74,14 +74,39 @@ module _ {X : Type 0} (f : X → ℕ) where
   pub permuted : (xs ys : List X) → IsPermutation xs ys → Distinct f xs → Kept f xs ys
   permuted = along_permutation Keeps keeps_itself keeps_under keeps_turned keeps_on
 
-  -- a list that rises is in order already
-  pub in_order : (l : List X) → Rising f l → Distinct f l → by_stamp f l ≡ l
-  in_order [] rising distinct = refl
-  in_order (x ∷ l) rising distinct = ap (place f x) (in_order l rising.1 distinct.1) ∙ place_first f x l (above l rising.0 distinct.0)
+  -- each is below all after it
+  abbrev pub Climbing : List X → Type 0
+  Climbing [] = Unit {0}
+  Climbing (x ∷ l) = AllByRecursion (λ y. f x < f y) l × Climbing l
+
+  pub climbs : (l : List X) → Rising f l → Distinct f l → Climbing l
+  climbs [] rising distinct = tt
+  climbs (x ∷ l) rising distinct = (above l rising.0 distinct.0, climbs l rising.1 distinct.1)
     where
       above : (l : List X) → AllByRecursion (λ y. f x ≤ f y) l → AllByRecursion (λ y. f x ≡ f y → ⊥) l → AllByRecursion (λ y. f x < f y) l
       above [] all apart = tt
       above (y ∷ l) all apart = let low = all.0 in let differs = apart.0 in (omega (arith, low, differs), above l all.1 apart.1)
+
+  -- a list that climbs is in order already
+  pub in_order : (l : List X) → Climbing l → by_stamp f l ≡ l
+  in_order [] climbing = refl
+  in_order (x ∷ l) climbing = ap (place f x) (in_order l climbing.1) ∙ place_first f x l climbing.0
+
+  -- by_stamp moves elements alone
+  moves : (x : X) (l : List X) → IsPermutation (x ∷ l) (place f x l)
+  moves x [] = IsPermutation-refl (x ∷ [])
+  moves x (y ∷ l) = by (nat_lt (f x) (f y)) (moves x l)
+    where
+      by : (b : Bool) → IsPermutation (x ∷ l) (place f x l) → IsPermutation (x ∷ y ∷ l) (if b then x ∷ y ∷ l else y ∷ place f x l)
+      by true rest = IsPermutation-refl (x ∷ y ∷ l)
+      by false rest = IsPermutation-trans (x ∷ y ∷ l) (y ∷ x ∷ l) (y ∷ place f x l) (IsPermutation-sym (y ∷ x ∷ l) (x ∷ y ∷ l) (IsPermutation-middle (y ∷ []) x l)) (IsPermutation-cons y (x ∷ l) (place f x l) rest)
+
+  pub by_stamp_moves : (l : List X) → IsPermutation l (by_stamp f l)
+  by_stamp_moves [] = IsPermutation-refl []
+  by_stamp_moves (x ∷ l) = IsPermutation-trans (x ∷ l) (x ∷ by_stamp f l) (place f x (by_stamp f l)) (IsPermutation-cons x l (by_stamp f l) (by_stamp_moves l)) (moves x (by_stamp f l))
+
+  pub by_stamp_climbs : (l : List X) → Distinct f l → Climbing (by_stamp f l)
+  by_stamp_climbs l distinct = climbs (by_stamp f l) (by_stamp_rising f l) (permuted l (by_stamp f l) (by_stamp_moves l) distinct).distinct
 
   rises : (l : List X) → IsNonDecreasingBy f l → Rising f l
   rises [] sorted = tt
@@ -92,4 +117,4 @@ module _ {X : Type 0} (f : X → ℕ) where
   pub sorted_by_stamp : (xs ys : List X) → Distinct f xs → IsPermutation xs ys → IsNonDecreasingBy f ys → ys ≡ by_stamp f xs
   sorted_by_stamp xs ys distinct moved sorted =
       let kept = permuted xs ys moved distinct in
-      sym (in_order ys (rises ys sorted) kept.distinct) ∙ kept.same
+      sym (in_order ys (climbs ys (rises ys sorted) kept.distinct)) ∙ kept.same

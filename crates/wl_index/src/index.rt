@@ -1,9 +1,9 @@
 //! The machine over indexes.
-ghost use Rattle.std.specs.Prelude.{◌≡◌, ℕ, ◌+◌, ◌≤◌, List, [], ◌∷◌, IfOk, IfErr, OnErr, OnOk, Option, Some, None, true, false, not, ◌&&◌};
+ghost use Rattle.std.specs.Prelude.{◌≡◌, ℕ, ◌+◌, ◌≤◌, List, [], ◌∷◌, IfOk, IfErr, OnErr, OnOk, Option, Some, None, true, false, not, ◌&&◌, slice_get};
 ghost use Rattle.wl_types.specs.Refusals.{refused_or_memory};
 ghost use Rattle.wl_machine.specs.Refusals.{refusal};
 ghost use Rattle.wl_machine.specs.State.{opening, AreNumbers};
-ghost use Rattle.wl_machine.specs.Step.{Gives, available, new_request};
+ghost use Rattle.wl_machine.specs.Step.{Gives, available, new_request, untaken_numbers};
 
 use crate::names::Names;
 use crate::owners::Owners;
@@ -262,6 +262,14 @@ impl IndexCore {
         ensures { result.now ≡ self.now.recent }
     {
         self.changes.as_slice()
+    }
+
+    /// The number of the `i`-th lock, from 0 in held order, that an abort of the agent's signal would end. It takes no
+    /// memory, and goes over the live requests `i` + 1 times.
+    pub fn untaken(&self, agent: u64, signal: u64, i: u64) -> Option<u64>
+        ensures { result ≡ slice_get (untaken_numbers self.now.state agent signal) i }
+    {
+        self.table.nth_untaken(agent, signal, i)
     }
 
     /// Whether an agent, of whatever kind, may open, memory aside.

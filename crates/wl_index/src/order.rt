@@ -1,7 +1,9 @@
 //! The locks in the order of their grants.
-ghost use Rattle.std.specs.Prelude.{◌≡◌, vec_len, vec_capacity, OnOk, IfOk, ◌∷◌, [], ◌++◌, map};
+ghost use Rattle.std.specs.Prelude.{◌≡◌, vec_len, vec_capacity, OnOk, IfOk, Some, ◌∷◌, [], ◌++◌, map};
+ghost use Rattle.std.specs.Option.{option_to_list};
+ghost use Rattle.wl_machine.specs.Step.{is_signal};
 ghost use Rattle.wl_index.specs.Stamps.{by_stamp, Distinct};
-ghost use Rattle.wl_index.specs.Order.{places_of};
+ghost use Rattle.wl_index.specs.Order.{places_of, untaken_places, from_stamp, first_of};
 ghost use Rattle.wl_index.specs.declared.order.Place.{Place};
 
 use crate::table::{Request, Stage};
@@ -52,4 +54,76 @@ pub(crate) fn numbers(places: &[Place], alloc: Global) -> Result<Vec<u64>, Memor
     ensures { IfOk result (λ numbers. numbers.items ≡ map (λ (p : Place). p.number) places.now) }
 {
     Ok(places.iter().map(|place| place.number).collect(alloc)?)
+}
+
+/// The first place from a stamp on, of the locks that an abort of the agent's signal would end.
+pub(crate) fn first_untaken(
+    requests: &BTreeMap<u64, Request>,
+    agent: u64,
+    signal: u64,
+    low: u64,
+) -> Option<Place>
+    ensures { result ≡ first_of (from_stamp low (untaken_places agent signal requests.now.entries)) }
+{
+    let mut first = None;
+    for (number, request) in requests {
+        first = earlier(first, untaken_place(*number, request, agent, signal), low);
+    }
+    first
+}
+
+/// The place of a lock that an abort of the agent's signal would end.
+fn untaken_place(number: u64, request: &Request, agent: u64, signal: u64) -> Option<Place>
+    ensures { option_to_list result ≡ untaken_places agent signal ((number, request.now) ∷ []) }
+{
+    match request.stage {
+        Stage::Held(stamp, false) => {
+            if request.agent == agent && has_signal(request, signal) {
+                Some(Place { stamp, number })
+            } else {
+                None
+            }
+        }
+        _ => None,
+    }
+}
+
+fn has_signal(request: &Request, signal: u64) -> bool
+    ensures { result ≡ is_signal signal request.now.signal }
+{
+    match request.signal {
+        Some(number) => number == signal,
+        None => false,
+    }
+}
+
+/// The first of two places, of which the second counts from a stamp on.
+fn earlier(first: Option<Place>, other: Option<Place>, low: u64) -> Option<Place>
+    ensures { result ≡ first_of (option_to_list first ++ from_stamp low (option_to_list other)) }
+{
+    match other {
+        Some(place) => {
+            if place.stamp >= low {
+                Some(first_of_two(first, place))
+            } else {
+                first
+            }
+        }
+        None => first,
+    }
+}
+
+fn first_of_two(first: Option<Place>, place: Place) -> Place
+    ensures { Some result ≡ first_of (option_to_list first ++ place ∷ []) }
+{
+    match first {
+        Some(found) => {
+            if found.stamp < place.stamp {
+                found
+            } else {
+                place
+            }
+        }
+        None => place,
+    }
 }

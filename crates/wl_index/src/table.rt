@@ -1,5 +1,5 @@
 //! The live requests by number. A lock keeps its place in the order of grants as a stamp, so a grant writes in place.
-ghost use Rattle.std.specs.Prelude.{◌≡◌, ◌+◌, ◌≤◌, ◌<◌, ◌^◌, ◌==◌, true, List, [], ◌∷◌, ◌++◌, map, filter, not, length, IfOk, OnOk, OnErr, Some, false, ◌&&◌};
+ghost use Rattle.std.specs.Prelude.{◌≡◌, ◌+◌, ◌≤◌, ◌<◌, ◌^◌, ◌==◌, true, List, [], ◌∷◌, ◌++◌, map, filter, not, length, slice_get, IfOk, OnOk, OnErr, Some, false, ◌&&◌};
 ghost use Rattle.std.specs.List.{list_any, AllByRecursion};
 ghost use Rattle.std.specs.List.Sorted.{IsStrictlySortedBy};
 ghost use Rattle.std.specs.Map.{keys_of, lookup};
@@ -10,7 +10,7 @@ ghost use Rattle.wl_machine.specs.declared.rows.HeldRow.{HeldRow};
 ghost use Rattle.wl_machine.specs.declared.rows.PendingRow.{PendingRow};
 ghost use Rattle.wl_machine.specs.Grants.{granted_lock};
 ghost use Rattle.wl_index.specs.declared.table.Request.{Request};
-ghost use Rattle.wl_machine.specs.Step.{is_lock_of, is_untaken, with_taken};
+ghost use Rattle.wl_machine.specs.Step.{is_abortable, is_lock_of, is_untaken, with_taken};
 ghost use Rattle.wl_index.specs.Rows.{Apart, holds, is_fresh, taken_stage, IsLock, held_of, pending_of, tags_of, other, stamp, stamp_of, holding};
 ghost use Rattle.wl_index.specs.Ends.{owned_by};
 ghost use Rattle.wl_index.specs.Groups.{numbers_in};
@@ -107,6 +107,17 @@ impl Table {
         let mut places = order::places(&self.requests, alloc)?;
         order::sort(&mut places);
         order::numbers(&places, alloc)
+    }
+
+    /// The number of the `i`-th lock, from 0 in the order of grants, that an abort of the agent's signal would end.
+    pub fn nth_untaken(&self, agent: u64, signal: u64, i: u64) -> Option<u64>
+        ensures { result ≡ slice_get (map (λ (lock : HeldRow). lock.number) (filter (is_abortable agent signal) (held_of self.now.entries))) i }
+    {
+        let mut low = 0;
+        for passed in 0..i {
+            low = order::first_untaken(&self.requests, agent, signal, low)?.stamp + 1;
+        }
+        Some(order::first_untaken(&self.requests, agent, signal, low)?.number)
     }
 
     /// The numbers of an owner's live requests, rising. None: it has none.

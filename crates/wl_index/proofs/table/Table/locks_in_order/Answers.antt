@@ -1,9 +1,9 @@
-use Rattle.std.proofs.Common.{◌≡◌, ℕ, List, ap, ◌∙◌, subst, map, IfOk}
+use Rattle.std.proofs.Common.{◌≡◌, ℕ, List, ap, ◌∙◌, subst, map, filter, IfOk}
 use Rattle.wl_machine.specs.declared.rows.HeldRow.{HeldRow}
 use Rattle.wl_index.specs.declared.order.Place.{Place}
 use Rattle.wl_index.specs.Stamps.{by_stamp}
-use Rattle.wl_index.specs.Rows.{Rows, held_of}
-use Rattle.wl_index.proofs.Places.{places_distinct, places_in_order}
+use Rattle.wl_index.specs.Rows.{Rows, held_of, holding}
+use Rattle.wl_index.proofs.Places.{places_distinct, numbers_in_order}
 use Rattle.wl_index.proofs.table.Table.locks_in_order.Goals as goal
 
 pub sort-requires : goal.sort-requires
@@ -14,5 +14,5 @@ returns c =
     let es = c.self.inside.requests.entries in
     let sorted : c.deref.result.now ≡ by_stamp (λ (p : Place). p.stamp) c.in_ok-places.places.items = c.deref.ensures.value ∙ c.sort.ensures.items in
     let numbers : map (λ (p : Place). p.number) c.deref.result.now ≡ map (λ (lock : HeldRow). lock.number) (held_of es) =
-    ap (map (λ (p : Place). p.number)) (sorted ∙ ap (by_stamp (λ (p : Place). p.stamp)) c.in_ok-places.ensures) ∙ places_in_order es in
+    ap (map (λ (p : Place). p.number)) (sorted ∙ ap (by_stamp (λ (p : Place). p.stamp)) c.in_ok-places.ensures) ∙ numbers_in_order (filter holding es) in
     rw (← c.self.view_is) (subst (λ (l : List ℕ). IfOk c.numbers.result (λ ns. ns.items ≡ l)) numbers c.numbers.ensures)
