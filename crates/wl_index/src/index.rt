@@ -3,9 +3,12 @@ ghost use Rattle.std.specs.Prelude.{◌≡◌, ℕ, ◌+◌, ◌≤◌, List, []
 ghost use Rattle.wl_types.specs.Refusals.{refused_or_memory};
 ghost use Rattle.wl_machine.specs.Refusals.{refusal};
 ghost use Rattle.wl_machine.specs.State.{opening, AreNumbers};
-ghost use Rattle.wl_machine.specs.Step.{Gives, available, new_request, untaken_numbers};
+ghost use Rattle.wl_machine.specs.Step.{Gives, settled, available, new_request, untaken_numbers};
+ghost use Rattle.wl_index.specs.Ends.{without_owned, owned_ends};
 
+use crate::ending::{Owner, end_locks, end_requests};
 use crate::names::Names;
+use crate::order::Place;
 use crate::owners::Owners;
 use crate::room::push_in_room;
 use crate::table::Table;
@@ -13,7 +16,8 @@ use std::alloc::Global;
 use std::marker::Model;
 use wl_machine::{Command, Reply};
 use wl_types::{
-    Ask, Change, Kind, Memory, Name, Numbers, Phase, Refusal, ReleaseAnswer, TakeAnswer,
+    AbortAnswer, Ask, Change, Kind, Memory, Name, Numbers, Phase, Reason, Refusal, ReleaseAnswer,
+    TakeAnswer,
 };
 
 mod refusals;
@@ -27,6 +31,7 @@ pub struct IndexCore {
     table: Table,
     changes: Vec<Change>,
     touched: Vec<u64>,
+    ending: Vec<Place>,
     alloc: Global,
 }
 
@@ -51,7 +56,7 @@ impl Model for IndexCore {
       recent = c.changes.items;
     } };
 
-    ghost invariant = { λ c. IsCore c.names c.table.entries c.table.next (vec_capacity c.changes) (vec_capacity c.touched) × (c.touched.items ≡ []) };
+    ghost invariant = { λ c. IsCore c.names c.table.entries c.table.next (vec_capacity c.changes) (vec_capacity c.touched) (vec_capacity c.ending) × (c.touched.items ≡ []) × (c.ending.items ≡ []) };
 }
 
 impl IndexCore {
@@ -67,6 +72,7 @@ impl IndexCore {
             table: Table::new(alloc, next.request),
             changes: Vec::new(alloc),
             touched: Vec::new(alloc),
+            ending: Vec::new(alloc),
             alloc,
         }
     }
@@ -153,6 +159,78 @@ impl IndexCore {
         ReleaseAnswer::Released
     }
 
+    /// Ends what an owner has: its requests, in order, and then its locks, in the order of their grants. Then the queues
+    /// of their names are processed.
+    fn end_owned(&mut self, owner: Owner, waiting: Phase, held: Phase)
+        requires { self.old.recent ≡ [] }
+        ensures { (reply : Reply) → settled (without_owned owner self.old.state) (owned_ends owner waiting held self.old.state) reply ≡ record { state = self.new.state; reply = reply; changes = self.new.recent } }
+    {
+        end_requests(
+            &mut self.names,
+            owner,
+            waiting,
+            &mut self.table,
+            &mut self.changes,
+            &mut self.touched,
+            &mut self.ending,
+        );
+        end_locks(
+            &mut self.names,
+            owner,
+            held,
+            &mut self.table,
+            &mut self.changes,
+            &mut self.touched,
+            &mut self.ending,
+        );
+        self.names
+            .settle(&mut self.table, &mut self.changes, &mut self.touched);
+    }
+
+    /// Aborts the agent's signal for this reason, once. Its requests that wait and its locks that weren't taken end;
+    /// then the queues are processed. It takes no memory. Refused: `NoSuchAgent`, `NoSuchSignal`.
+    pub fn abort(
+        &mut self,
+        agent: u64,
+        signal: u64,
+        reason: Reason,
+    ) -> Result<AbortAnswer, Refusal>
+        ensures aborted { IfOk result (λ answer. Gives self.old.state (Command.Abort agent signal reason) self.new.state (Reply.Aborted answer) self.new.recent) }
+        ensures refused { IfErr result (λ r. refusal self.old.state (Command.Abort agent signal reason) ≡ Some r) }
+        ensures unchanged { OnErr result (self.new.state ≡ self.old.state) }
+        ensures no_changes { OnErr result (self.new.recent ≡ []) }
+    {
+        self.changes.clear();
+        if let Some(refusal) = self.abort_refusal(agent, signal) {
+            return Err(refusal);
+        }
+        if self.owners.reason(agent, signal).is_some() {
+            return Ok(AbortAnswer::AlreadyAborted);
+        }
+        self.owners.set_reason(agent, signal, reason);
+        let phase = Phase::Aborted(reason);
+        self.end_owned(Owner::Signal(agent, signal), phase, phase);
+        Ok(AbortAnswer::Done)
+    }
+
+    /// Ends the agent with its requests, locks and signals; then the queues are processed. It takes no memory. Refused:
+    /// `NoSuchAgent`.
+    pub fn terminate(&mut self, agent: u64) -> Result<(), Refusal>
+        ensures ended { OnOk result (Gives self.old.state (Command.Terminate agent) self.new.state Reply.Done self.new.recent) }
+        ensures refused { IfErr result (λ r. refusal self.old.state (Command.Terminate agent) ≡ Some r) }
+        ensures unchanged { OnErr result (self.new.state ≡ self.old.state) }
+        ensures no_changes { OnErr result (self.new.recent ≡ []) }
+    {
+        self.changes.clear();
+        if let Some(refusal) = self.terminate_refusal(agent) {
+            return Err(refusal);
+        }
+        self.owners.leave(agent);
+        let phase = Phase::Aborted(Reason::AbortError);
+        self.end_owned(Owner::Agent(agent), phase, Phase::Released);
+        Ok(())
+    }
+
     /// Whether a request is to be granted at once or not at all, and can't be granted.
     fn is_unavailable(&self, name: &Name, ask: &Ask) -> bool
         requires { name.now ≡ ask.now.name }
@@ -177,6 +255,7 @@ impl IndexCore {
         let live = self.table.len();
         self.changes.reserve(live + 1)?;
         self.touched.reserve(live + 1)?;
+        self.ending.reserve(live + 1)?;
         if unavailable {
             let number = self.table.skip();
             let phase = Phase::Unavailable;
@@ -211,6 +290,7 @@ impl IndexCore {
         let live = self.table.len();
         self.changes.reserve(live + 1)?;
         self.touched.reserve(live + 2)?;
+        self.ending.reserve(live + 1)?;
         let number = self.names.enter(
             self.alloc,
             agent,

@@ -57,6 +57,7 @@ invariant_of-self-2 c =
     let fewer = c.end.ensures.fewer in
     let changes = is.changes_room in
     let touched = is.touched_room in
+    let ending = is.ending_room in
     let capacity = c.clear.ensures.capacity in
     let more = c.end.ensures.changes_capacity in
     let wide = c.settle.ensures.capacity in
@@ -67,6 +68,8 @@ invariant_of-self-2 c =
         ready = c.settle.ensures.ready;
         changes_room = omega (arith, same, fewer, changes, capacity, more, wide);
         touched_room = omega (arith, same, fewer, touched, t, t2);
+        ending_room = omega (arith, same, fewer, ending);
       },
       c.settle.ensures.none,
+      c.self.invariant.2,
     )

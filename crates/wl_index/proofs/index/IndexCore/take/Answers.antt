@@ -18,8 +18,10 @@ invariant_of-self c =
         ready = rw (c.take.ensures.held, c.take.ensures.pending) (ready_taken c.args.id i.names (held_of i.table.entries) (pending_of i.table.entries) is.ready);
         changes_room = rw (same, c.clear.ensures.capacity) is.changes_room;
         touched_room = rw same is.touched_room;
+        ending_room = rw same is.ending_room;
       },
       c.self.invariant.1,
+      c.self.invariant.2,
     )
 
 pub returns-then-not-take : goal.returns-then-not-take
@@ -47,6 +49,8 @@ invariant_of-self-2 c =
         ready = rw (c.take.ensures.held, c.take.ensures.pending) (ready_taken c.args.id i.names (held_of i.table.entries) (pending_of i.table.entries) is.ready);
         changes_room = rw (same, c.clear.ensures.capacity) is.changes_room;
         touched_room = rw same is.touched_room;
+        ending_room = rw same is.ending_room;
       },
       c.self.invariant.1,
+      c.self.invariant.2,
     )
