@@ -1,5 +1,5 @@
 -- Lists whose stamps differ, and a list sorted by stamp.
-use Rattle.std.proofs.Common.{◌≡◌, ℕ, ◌<◌, ◌≤◌, Bool, true, false, cond, List, [], ◌∷◌, ◌++◌, sym, subst, ◌∙◌, map, filter, arith}
+use Rattle.std.proofs.Common.{◌≡◌, ℕ, ◌<◌, Bool, true, false, cond, List, [], ◌∷◌, ◌++◌, sym, ◌∙◌, map, filter, arith}
 use Rattle.std.specs.List.{AllByRecursion}
 use Rattle.wl_index.specs.Stamps.{Distinct}
 use Rattle.wl_index.proofs.Lists.{all_filter, all_weaker, all_append, all_front, all_back}

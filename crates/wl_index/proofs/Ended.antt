@@ -1,5 +1,5 @@
 -- The machine's steps where an owner's requests and locks end.
-use Rattle.std.proofs.Common.{◌≡◌, ℕ, ◌==◌, true, false, List, [], map, refl, subst}
+use Rattle.std.proofs.Common.{◌≡◌, ℕ, ◌==◌, false, List, map, subst}
 use Rattle.std.specs.Prelude.{filter, not, None, is_some}
 use Rattle.wl_types.specs.declared.words.Reason.{Reason}
 use Rattle.wl_types.specs.declared.words.Reason.TheVariants.{AbortError}

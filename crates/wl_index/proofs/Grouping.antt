@@ -1,6 +1,6 @@
 -- Numbers by owner: what one number more or less means for each owner's list.
 use Rattle.std.proofs.Common.{◌≡◌, ℕ, ◌<◌, ◌==◌, Bool, true, false, cond, List, [], ◌∷◌, ◌++◌, length, map, refl, ap, subst, sym, ◌∙◌, arith}
-use Rattle.std.specs.Prelude.{filter, not, Option, Some, None, if◌then◌else◌, IsTrue, ◌↔◌}
+use Rattle.std.specs.Prelude.{not, Option, Some, None, if◌then◌else◌, IsTrue, ◌↔◌}
 use Rattle.std.specs.List.{AllByRecursion}
 use Rattle.std.specs.List.Sorted.{IsStrictlySortedBy}
 use Rattle.std.specs.Result.{OnErr}
@@ -100,7 +100,7 @@ entered owner es new now is set sorted listed = record {
         by Equal rest = (listed, all.1)
         by Greater rest = (all.0, rest)
 
-pub left : (owner : ℕ) (es new : List Owned) → AllByRecursion (λ (e : Group). IsListed e.1 ) (map group_of (remove_entry (is_at (nat_cmp owner)) es)) → new ≡ remove_entry (is_at (nat_cmp owner)) es → IsStrictlySortedBy nat_cmp (keys_of new) → IsGroups (map group_of new)
+pub left : (owner : ℕ) (es new : List Owned) → AllByRecursion (λ (e : Group). IsListed e.1) (map group_of (remove_entry (is_at (nat_cmp owner)) es)) → new ≡ remove_entry (is_at (nat_cmp owner)) es → IsStrictlySortedBy nat_cmp (keys_of new) → IsGroups (map group_of new)
 left owner es new all set sorted = record {
   ordered = subst (IsStrictlySortedBy nat_cmp) (sym (shown_keys new)) sorted;
   listed = rw set all;

@@ -1,6 +1,6 @@
 -- A signal gets its reason, or an agent leaves with its signals: what the machine's lists then say.
 use Rattle.std.proofs.Common.{◌≡◌, ℕ, ◌<◌, ◌==◌, Bool, true, false, cond, List, [], ◌∷◌, ◌++◌, map, refl, ap, subst, sym, ◌∙◌, arith}
-use Rattle.std.specs.Prelude.{not, ◌&&◌, filter, Option, Some, None, if◌then◌else◌}
+use Rattle.std.specs.Prelude.{not, ◌&&◌, filter, Some, None, if◌then◌else◌}
 use Rattle.std.specs.List.{AllByRecursion}
 use Rattle.std.specs.List.Sorted.{IsStrictlySortedBy}
 use Rattle.std.specs.Map.{keys_of, lookup, set_value, remove_entry}
@@ -19,7 +19,7 @@ use Rattle.wl_index.specs.declared.owners.Signal.{Signal}
 use Rattle.wl_index.specs.Roll.{agent_row, signal_row, made_by, IsRoll, aborted}
 use Rattle.wl_index.specs.Groups.{spared}
 use Rattle.wl_index.proofs.Lists.{filter_map, map_map, all_append, all_front, all_back, all_weaker, all_filter}
-use Rattle.wl_index.proofs.Entries.{Found, found, same_number, number_same, removed_at}
+use Rattle.wl_index.proofs.Entries.{Found, same_number, number_same, removed_at}
 use Rattle.wl_index.proofs.Spared.{spared_fail}
 
 and_false : (b : Bool) → (b && false) ≡ false
@@ -41,7 +41,7 @@ reason_set agent signal reason es s f =
     let now : Signal = aborted agent reason s in
     ap (map signal_row) (f.set now) ∙ map-append signal_row f.front ((signal, now) ∷ f.back)
     ∙ sym (ap (λ l. map (with_reason agent signal reason) (map signal_row l)) f.whole ∙ ap (map (with_reason agent signal reason)) (map-append signal_row f.front ((signal, s) ∷ f.back)) ∙ map-append (with_reason agent signal reason) (map signal_row f.front) (signal_row (signal, s) ∷ map signal_row f.back)
-        ∙ rw (reason_apart agent signal reason f.front f.low, reason_apart agent signal reason f.back f.high) (ap (λ r. map signal_row f.front ++ r ∷ map signal_row f.back) (reason_one signal reason s (s.agent == agent))))
+    ∙ rw (reason_apart agent signal reason f.front f.low, reason_apart agent signal reason f.back f.high) (ap (λ r. map signal_row f.front ++ r ∷ map signal_row f.back) (reason_one signal reason s (s.agent == agent))))
 
 pub reason_none : (agent signal : ℕ) (reason : Reason) (es : List (ℕ × Signal)) → lookup (is_at (nat_cmp signal)) es ≡ None → map (with_reason agent signal reason) (map signal_row es) ≡ map signal_row es
 reason_none agent signal reason [] none = refl

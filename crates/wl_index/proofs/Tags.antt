@@ -1,17 +1,14 @@
 -- The live requests of each agent and of each signal: one more, one less.
 use Rattle.std.proofs.Common.{◌≡◌, ℕ, ◌<◌, ◌==◌, Bool, true, false, cond, List, [], ◌∷◌, ◌++◌, map, refl, ap, subst, sym, ◌∙◌, arith, append-nil}
-use Rattle.std.specs.Prelude.{not, filter, Option, Some, None, if◌then◌else◌}
+use Rattle.std.specs.Prelude.{not, filter, Option, Some, if◌then◌else◌}
 use Rattle.std.specs.List.{AllByRecursion}
-use Rattle.std.specs.Map.{lookup}
-use Rattle.std.specs.BTreeMap.{is_at}
-use Rattle.std.specs.Ordering.{nat_cmp}
 use Rattle.std.proofs.lemmas.Bool.Decides.{nat_tests}
 use Rattle.std.proofs.lemmas.List.{map-append}
 use Rattle.std.proofs.lemmas.List.Elements.{filter-append}
 use Rattle.wl_machine.specs.Step.{is_signal}
 use Rattle.wl_index.specs.declared.table.Request.{Request}
 use Rattle.wl_index.specs.Rows.{Entry, Tag, tag, tags_of, other}
-use Rattle.wl_index.specs.Groups.{Group, numbers_at, without_number, without_tag, of_agent, of_signal, IsGrouped, IsTagged}
+use Rattle.wl_index.specs.Groups.{Group, numbers_at, without_number, without_tag, of_agent, IsGrouped, IsTagged}
 use Rattle.wl_index.proofs.Lists.{filter_map, all_append, all_weaker, filter_swap}
 use Rattle.wl_index.proofs.Entries.{Found, number_same}
 

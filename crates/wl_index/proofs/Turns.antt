@@ -1,6 +1,6 @@
 -- Requests and locks that end one after the other.
-use Rattle.std.proofs.Common.{◌≡◌, ℕ, suc, zero, ◌+◌, ◌<◌, ◌==◌, Bool, true, false, cond, List, [], ◌∷◌, ◌++◌, length, map, refl, ap, subst, sym, ◌∙◌, arith, drop, get_or, nat_lt, add-one, drop-cons}
-use Rattle.std.specs.Prelude.{not, ◌||◌, filter, Option, Some, None, if◌then◌else◌}
+use Rattle.std.proofs.Common.{◌≡◌, ℕ, ◌+◌, ◌<◌, ◌==◌, Bool, true, false, cond, List, [], ◌∷◌, length, refl, ap, sym, ◌∙◌, arith, drop, get_or, nat_lt, add-one, drop-cons}
+use Rattle.std.specs.Prelude.{not, ◌||◌, filter, Some, if◌then◌else◌}
 use Rattle.std.specs.Option.{IsSome}
 use Rattle.std.specs.List.{list_any, AllByRecursion}
 use Rattle.std.specs.List.Sorted.{IsStrictlySortedBy}
@@ -9,7 +9,6 @@ use Rattle.std.specs.BTreeMap.{is_at}
 use Rattle.std.specs.Ordering.{nat_cmp}
 use Rattle.std.proofs.lemmas.Bool.Decides.{nat_tests}
 use Rattle.std.proofs.lemmas.Map.Keys.{sorted_head, sorted_tail}
-use Rattle.wl_index.specs.declared.order.Place.{Place}
 use Rattle.wl_index.specs.Stamps.{Distinct, place, by_stamp, by_stamp_all, place_all}
 use Rattle.wl_index.specs.Rows.{Entry, other}
 use Rattle.wl_index.specs.Ends.{AreLive}

@@ -65,7 +65,7 @@ impl Groups {
         };
         numbers.remove(&number);
         if numbers.is_empty() {
-            self.by_owner.remove(&owner);
+            self.by_owner.remove(&owner).unwrap();
         }
     }
 

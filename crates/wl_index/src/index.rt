@@ -189,12 +189,7 @@ impl IndexCore {
 
     /// Aborts the agent's signal for this reason, once. Its requests that wait and its locks that weren't taken end;
     /// then the queues are processed. It takes no memory. Refused: `NoSuchAgent`, `NoSuchSignal`.
-    pub fn abort(
-        &mut self,
-        agent: u64,
-        signal: u64,
-        reason: Reason,
-    ) -> Result<AbortAnswer, Refusal>
+    pub fn abort(&mut self, agent: u64, signal: u64, reason: Reason) -> Result<AbortAnswer, Refusal>
         ensures aborted { IfOk result (λ answer. Gives self.old.state (Command.Abort agent signal reason) self.new.state (Reply.Aborted answer) self.new.recent) }
         ensures refused { IfErr result (λ r. refusal self.old.state (Command.Abort agent signal reason) ≡ Some r) }
         ensures unchanged { OnErr result (self.new.state ≡ self.old.state) }

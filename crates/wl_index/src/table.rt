@@ -16,9 +16,9 @@ ghost use Rattle.wl_index.specs.Ends.{owned_by};
 ghost use Rattle.wl_index.specs.Groups.{numbers_in};
 ghost use Rattle.wl_index.specs.Stamps.{Distinct};
 
-use crate::order;
 use crate::ending::Owner;
 use crate::groups::{Groups, list, unlist};
+use crate::order;
 use std::alloc::Global;
 use std::collections::BTreeMap;
 use std::marker::Model;

@@ -5,7 +5,8 @@ use std::alloc::Global;
 use std::test::Fail;
 use wl_core::{LockCore, PlainCore};
 use wl_types::{
-    Ask, Change, Kind, Memory, Mode, Numbers, Phase, Refusal, ReleaseAnswer, TakeAnswer, Text,
+    AbortAnswer, Ask, Change, Kind, Memory, Mode, Numbers, Phase, Reason, Refusal, ReleaseAnswer,
+    TakeAnswer, Text,
 };
 
 fn opening(alloc: Global) -> IndexCore {
@@ -62,11 +63,22 @@ fn each_call_answers(rt: HostRuntime) -> Result<(), Fail> {
             }]
             .as_slice()
     );
+    let mut signalled = ask(alloc, "db", Mode::Exclusive)?;
+    signalled.signal = Some(1);
+    assert_eq!(rt; core.request(1, &signalled)?, 2);
+    assert_eq!(rt; core.request(1, &wanted)?, 3);
+    assert!(rt; core.abort(1, 1, Reason::TimeoutError) == Ok(AbortAnswer::Done));
+    assert_eq!(rt; core.changes().len(), 2);
+    assert!(rt; core.abort(1, 1, Reason::AbortError) == Ok(AbortAnswer::AlreadyAborted));
+    assert!(rt; core.abort(1, 2, Reason::AbortError) == Err(Refusal::NoSuchSignal));
+    assert!(rt; core.terminate(1) == Ok(()));
+    assert_eq!(rt; core.changes().len(), 1);
+    assert!(rt; core.terminate(1) == Err(Refusal::NoSuchAgent));
     Ok(())
 }
 
 #[test]
-fn a_steal_tells_the_same_on_both_cores(rt: HostRuntime) -> Result<(), Fail> {
+fn ends_tell_the_same_on_both_cores(rt: HostRuntime) -> Result<(), Fail> {
     let alloc = rt.alloc();
     let mut index = opening(alloc);
     let mut plain = plain_opening(alloc);
@@ -79,5 +91,25 @@ fn a_steal_tells_the_same_on_both_cores(rt: HostRuntime) -> Result<(), Fail> {
     assert_eq!(rt; index.request(1, &stealing)?, plain.request(1, &stealing)?);
     assert!(rt; index.changes() == plain.changes());
     assert_eq!(rt; index.changes().len(), 3);
+    assert_eq!(rt; index.new_signal(1)?, plain.new_signal(1)?);
+    let mut signalled = ask(alloc, "log", Mode::Shared)?;
+    signalled.signal = Some(1);
+    assert_eq!(rt;
+        index.request(1, &signalled)?,
+        plain.request(1, &signalled)?
+    );
+    signalled.mode = Mode::Exclusive;
+    assert_eq!(rt;
+        index.request(1, &signalled)?,
+        plain.request(1, &signalled)?
+    );
+    assert_eq!(rt; index.request(1, &shared)?, plain.request(1, &shared)?);
+    let reason = Reason::AbortError;
+    assert!(rt; index.abort(1, 1, reason) == plain.abort(1, 1, reason));
+    assert!(rt; index.changes() == plain.changes());
+    assert_eq!(rt; index.changes().len(), 2);
+    assert!(rt; index.terminate(1) == plain.terminate(1));
+    assert!(rt; index.changes() == plain.changes());
+    assert_eq!(rt; index.changes().len(), 2);
     Ok(())
 }

@@ -1,8 +1,7 @@
-use Rattle.std.proofs.Common.{List, ◌≡◌, ◌∙◌, ◌∷◌, ◌++◌, [], ◌+◌, ap, subst, sym, refl, arith, append_assoc, append-nil, get_or, drop, length}
+use Rattle.std.proofs.Common.{List, ◌≡◌, ◌∙◌, ◌∷◌, ◌++◌, [], ◌+◌, ap, subst, sym, arith, append_assoc, get_or, drop}
 use Rattle.std.specs.Prelude.{filter}
 use Rattle.std.proofs.lemmas.List.{drop_all}
 use Rattle.wl_index.specs.declared.order.Place.{Place}
-use Rattle.wl_index.specs.Rows.{other}
 use Rattle.wl_index.specs.Groups.{spared}
 use Rattle.wl_index.specs.Ends.{numbers_of, place_ends, AreLive}
 use Rattle.wl_index.proofs.Spared.{spared_all, spared_next}

@@ -1,11 +1,9 @@
-use Rattle.std.proofs.Common.{◌≡◌, ◌∙◌, ◌++◌, ap, subst, sym, arith, map, filter}
+use Rattle.std.proofs.Common.{◌∙◌, ◌++◌, ap, subst, sym, filter}
 use Rattle.wl_index.specs.declared.order.Place.{Place}
-use Rattle.wl_index.specs.declared.ending.Standing.TheVariants.{Holds}
-use Rattle.wl_index.specs.Stamps.{Distinct, by_stamp}
+use Rattle.wl_index.specs.Stamps.{by_stamp}
 use Rattle.wl_index.specs.Rows.{pending_of, held_of}
 use Rattle.wl_index.specs.Groups.{spared}
-use Rattle.wl_index.specs.Order.{place_of}
-use Rattle.wl_index.specs.Ends.{ends_entry, numbers_of, place_ends, AreLive}
+use Rattle.wl_index.specs.Ends.{numbers_of, place_ends, AreLive}
 use Rattle.wl_index.proofs.Owned.{locks_distinct, locks_live, locks_pending, locks_held, locks_told}
 use Rattle.wl_index.proofs.ending.end_locks.Goals as goal
 

@@ -1,10 +1,7 @@
-use Rattle.std.proofs.Common.{◌≡◌, ◌∙◌, ◌++◌, ap, subst, sym, arith, map, filter}
-use Rattle.wl_index.specs.declared.order.Place.{Place}
-use Rattle.wl_index.specs.declared.ending.Standing.TheVariants.{Waits}
+use Rattle.std.proofs.Common.{◌∙◌, ◌++◌, ap, subst, sym, filter}
 use Rattle.wl_index.specs.Rows.{pending_of, held_of}
 use Rattle.wl_index.specs.Groups.{spared}
-use Rattle.wl_index.specs.Order.{place_of}
-use Rattle.wl_index.specs.Ends.{ends_entry, numbers_of, place_ends, AreLive}
+use Rattle.wl_index.specs.Ends.{numbers_of, place_ends, AreLive}
 use Rattle.wl_index.proofs.Owned.{requests_live, requests_pending, requests_held, requests_told}
 use Rattle.wl_index.proofs.ending.end_requests.Goals as goal
 

@@ -1,4 +1,4 @@
-use Rattle.std.proofs.Common.{◌≡◌, ◌++◌, ◌∷◌, ◌+◌, ◌≤◌, [], ap, sym, ◌∙◌, length, append_assoc, append-nil, arith, nat_cmp}
+use Rattle.std.proofs.Common.{◌≡◌, ◌++◌, ap, sym, ◌∙◌, length, append_assoc, append-nil, arith, nat_cmp}
 use Rattle.std.specs.Option.{option_to_list}
 use Rattle.std.specs.Map.{lookup}
 use Rattle.std.specs.BTreeMap.{is_at}

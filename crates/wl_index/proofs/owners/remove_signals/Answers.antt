@@ -1,4 +1,4 @@
-use Rattle.std.proofs.Common.{◌≡◌, ◌∙◌, ap, sym, filter}
+use Rattle.std.proofs.Common.{◌∙◌, ap, sym, filter}
 use Rattle.wl_index.specs.Groups.{spared}
 use Rattle.wl_index.proofs.Entries.{removed_at}
 use Rattle.wl_index.proofs.Spared.{spared_all, spared_next}

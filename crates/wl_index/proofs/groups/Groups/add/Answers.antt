@@ -1,11 +1,10 @@
-use Rattle.std.proofs.Common.{◌≡◌, ℕ, ◌<◌, ◌==◌, ◌++◌, map, cond, ◌∷◌, [], ◌∙◌, ap, sym, subst, nat_cmp, Some, None, refl, List}
+use Rattle.std.proofs.Common.{◌≡◌, ℕ, ◌<◌, ◌==◌, ◌++◌, map, cond, ◌∷◌, [], ◌∙◌, ap, sym, subst, nat_cmp, Some, refl}
 use Rattle.std.specs.Option.{option_copied_mut, IsSome}
 use Rattle.std.specs.List.{AllByRecursion}
-use Rattle.std.specs.List.Sorted.{IsStrictlySortedBy}
 use Rattle.std.specs.BTreeMap.{is_at, insert_entry}
 use Rattle.std.specs.Map.{keys_of, lookup}
 use Rattle.wl_machine.specs.Grants.{is_empty}
-use Rattle.wl_index.specs.Groups.{Group, group_of, numbers_at, numbers_in, IsListed}
+use Rattle.wl_index.specs.Groups.{group_of, numbers_at, numbers_in, IsListed}
 use Rattle.wl_index.proofs.Grouping.{at_err, shown_at, one_changed, either, listed_in, written, entered, one_more, last_filled}
 use Rattle.wl_index.proofs.groups.Groups.add.Goals as goal
 

@@ -1,7 +1,6 @@
 use Rattle.std.proofs.Common.{◌≡◌, ◌∙◌, ◌<◌, ◌++◌, [], ap, sym, subst, refl, arith, length}
 use Rattle.std.specs.List.{AllByRecursion}
 use Rattle.std.specs.Prelude.{filter, not}
-use Rattle.wl_types.specs.declared.phases.Change.{Change}
 use Rattle.wl_machine.specs.State.{State, Content}
 use Rattle.wl_machine.specs.Grants.{Lists, lists_of, settle_names}
 use Rattle.wl_machine.specs.Step.{request_ends, lock_ends}
@@ -89,7 +88,7 @@ returns c reply =
     let held_is = c.end_locks.ensures.held ∙ ap (filter (λ lock. not (ends_lock c.args.owner lock))) c.end_requests.ensures.held in
     let pending_is = c.end_locks.ensures.pending ∙ c.end_requests.ensures.pending in
     let told = c.end_locks.ensures.changes ∙ ap (λ held. c.end_requests.new.changes.items ++ lock_ends c.args.held (filter (ends_lock c.args.owner) held)) c.end_requests.ensures.held
-        ∙ ap (λ cs. cs ++ lock_ends c.args.held (filter (ends_lock c.args.owner) s.held)) (c.end_requests.ensures.changes ∙ ap (λ cs. cs ++ request_ends c.args.waiting (filter (ends_request c.args.owner) s.pending)) none) in
+    ∙ ap (λ cs. cs ++ lock_ends c.args.held (filter (ends_lock c.args.owner) s.held)) (c.end_requests.ensures.changes ∙ ap (λ cs. cs ++ request_ends c.args.waiting (filter (ends_request c.args.owner) s.pending)) none) in
     let names_are = c.end_locks.ensures.names ∙ c.end_requests.ensures.names in
     let is : after ≡ settle_names (lists_of (without_owned c.args.owner s).held (without_owned c.args.owner s).pending (owned_ends c.args.owner c.args.waiting c.args.held s)) s.names =
     c.settle.ensures.settled ∙ rw (held_is, pending_is, told, names_are) refl in

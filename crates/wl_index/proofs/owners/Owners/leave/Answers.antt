@@ -6,7 +6,7 @@ use Rattle.std.specs.BTreeMap.{is_at}
 use Rattle.wl_index.specs.Roll.{Roll}
 use Rattle.wl_index.specs.Groups.{spared}
 use Rattle.wl_index.proofs.Rolls.{agent_there, listed_at, some_is}
-use Rattle.wl_index.proofs.Leaves.{of_another, own_spared, left_agents, left_signals, left_roll}
+use Rattle.wl_index.proofs.Leaves.{own_spared, left_agents, left_signals, left_roll}
 use Rattle.wl_index.proofs.owners.Owners.leave.Goals as goal
 
 pub unwrap-member-requires : goal.unwrap-member-requires

@@ -2,7 +2,7 @@ use Rattle.std.proofs.Common.{◌≡◌, ℕ, List, ap, ◌∙◌, subst, map, f
 use Rattle.wl_machine.specs.declared.rows.HeldRow.{HeldRow}
 use Rattle.wl_index.specs.declared.order.Place.{Place}
 use Rattle.wl_index.specs.Stamps.{by_stamp}
-use Rattle.wl_index.specs.Rows.{Rows, held_of, holding}
+use Rattle.wl_index.specs.Rows.{held_of, holding}
 use Rattle.wl_index.proofs.Places.{places_distinct, numbers_in_order}
 use Rattle.wl_index.proofs.table.Table.locks_in_order.Goals as goal
 

@@ -1,4 +1,4 @@
-use Rattle.std.proofs.Common.{◌≡◌, ◌∙◌, sym, ◌<◌, ◌-◌, arith}
+use Rattle.std.proofs.Common.{◌≡◌, ◌∙◌, sym, ◌-◌, arith}
 use Rattle.wl_index.proofs.Untaken.{none_passed, one_passed, all_passed, reached, first_stamped}
 use Rattle.wl_index.proofs.table.Table.nth_untaken.Goals as goal
 

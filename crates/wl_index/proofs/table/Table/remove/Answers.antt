@@ -17,8 +17,7 @@ invariant_of-self-2 c =
     let es = i.requests.entries in
     let r = c.in_ok-request.request in
     let there : lookup (is_at (nat_cmp c.args.number)) es ≡ Some r = sym c.remove.ensures.value ∙ c.in_ok-request.was in
-    let less : tags_of c.remove.new.self.entries ≡ without_tag c.args.number (tags_of es) = ap tags_of (c.remove.ensures.entries ∙ removed c.args.number es c.self.invariant.0.ordered) ∙ tags_less c.args.number es in
-    (
+    let less : tags_of c.remove.new.self.entries ≡ without_tag c.args.number (tags_of es) = ap tags_of (c.remove.ensures.entries ∙ removed c.args.number es c.self.invariant.0.ordered) ∙ tags_less c.args.number es in (
       rw c.remove.ensures.entries (ended_table c.args.number es i.stamp i.next c.self.invariant.0 (subst (λ es. IsStrictlySortedBy nat_cmp (keys_of es)) c.remove.ensures.entries c.remove.ensures.ordered)),
       subst (λ tags. IsGrouped tags c.unlist.new.of_agents c.unlist.new.of_signals) (sym less) (c.unlist.ensures (tags_of es) (tagged c.args.number r es (found c.args.number es r c.self.invariant.0.ordered there)) c.self.invariant.1),
     )

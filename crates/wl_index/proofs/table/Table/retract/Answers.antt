@@ -25,8 +25,7 @@ invariant_of-self c =
     let same : lookup (is_at (nat_cmp c.args.number)) es ≡ Some r = sym c.remove.ensures.value ∙ c.unwrap-request.ensures in
     let last : i.next ≡ c.args.number + 1 = ap (λ (v : Rows). v.next) c.self.view_is ∙ c.requires.last in
     let gone = c.remove.ensures.entries ∙ removed c.args.number es c.self.invariant.0.ordered in
-    let less : tags_of c.remove.new.self.entries ≡ without_tag c.args.number (tags_of es) = ap tags_of gone ∙ tags_less c.args.number es in
-    (
+    let less : tags_of c.remove.new.self.entries ≡ without_tag c.args.number (tags_of es) = ap tags_of gone ∙ tags_less c.args.number es in (
       rw gone (retracted c.args.number w.0 es i.stamp i.next c.self.invariant.0 there w.2 last (subst (λ es. IsStrictlySortedBy nat_cmp (keys_of es)) gone c.remove.ensures.ordered)),
       subst (λ tags. IsGrouped tags c.unlist.new.of_agents c.unlist.new.of_signals) (sym less) (c.unlist.ensures (tags_of es) (tagged c.args.number r es (found c.args.number es r c.self.invariant.0.ordered same)) c.self.invariant.1),
     )
