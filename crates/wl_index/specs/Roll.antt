@@ -46,3 +46,7 @@ at_some q (Some x) = q x
 abbrev pub reason_at : ℕ → Option Signal → Option Reason
 reason_at agent None = None
 reason_at agent (Some s) = if s.agent == agent then s.reason else None
+
+-- a signal with a reason, if it is the agent's
+abbrev pub aborted : ℕ → Reason → Signal → Signal
+aborted agent reason s = if s.agent == agent then record s { reason = Some reason } else s

@@ -2,6 +2,8 @@
 #![tactic(auto)]
 
 mod copies;
+mod ending;
+pub mod groups;
 pub mod index;
 pub mod line;
 pub mod names;

@@ -1,13 +1,15 @@
 //! Agents and their signals, by number.
-ghost use Rattle.std.specs.Prelude.{◌≡◌, ℕ, ◌+◌, ◌≤◌, ◌<◌, ◌==◌, ◌&&◌, true, not, List, [], ◌∷◌, ◌++◌, map, length, OnOk, OnErr, IfOk, IfSome, IsSome, None, if◌then◌else◌};
+ghost use Rattle.std.specs.Prelude.{◌≡◌, ℕ, ◌+◌, ◌≤◌, ◌<◌, ◌==◌, ◌&&◌, true, not, List, [], ◌∷◌, ◌++◌, map, filter, length, OnOk, OnErr, IfOk, IfSome, IsSome, None, if◌then◌else◌};
 ghost use Rattle.std.specs.List.{list_any};
-ghost use Rattle.std.specs.Map.{lookup, set_value};
+ghost use Rattle.std.specs.Map.{keys_of, lookup, set_value};
+ghost use Rattle.std.specs.List.Sorted.{IsStrictlySortedBy};
 ghost use Rattle.std.specs.BTreeMap.{is_at, insert_entry};
 ghost use Rattle.std.specs.Ordering.{nat_cmp};
 ghost use Rattle.wl_index.specs.declared.owners.Member.{Member};
 ghost use Rattle.wl_machine.specs.Refusals.{is_window, reason_in, signals_of};
-ghost use Rattle.wl_machine.specs.Step.{with_active};
-ghost use Rattle.wl_index.specs.Roll.{agent_row, signal_row};
+ghost use Rattle.wl_machine.specs.Step.{with_active, with_reason};
+ghost use Rattle.wl_index.specs.Roll.{aborted, agent_row, signal_row};
+ghost use Rattle.wl_index.specs.Groups.{spared};
 
 use std::alloc::Global;
 use std::collections::BTreeMap;
@@ -183,6 +185,25 @@ impl Owners {
         member.active = active;
     }
 
+    /// The agent's signal is aborted for this reason.
+    pub fn set_reason(&mut self, agent: u64, signal: u64, reason: Reason)
+        ensures { self.new ≡ record self.old { signals = map (with_reason agent signal reason) self.old.signals } }
+    {
+        let Some(found) = self.signals.get_mut(&signal) else {
+            return;
+        };
+        set_reason_of(found, agent, reason);
+    }
+
+    /// The agent and its signals are gone. It costs what is gone.
+    pub fn leave(&mut self, agent: u64)
+        requires { list_any (λ row. row.number == agent) self.old.agents ≡ true }
+        ensures { self.new ≡ record self.old { agents = filter (λ row. not (row.number == agent)) self.old.agents; signals = filter (λ row. not (row.agent == agent)) self.old.signals } }
+    {
+        let member = self.members.remove(&agent).unwrap();
+        remove_signals(&mut self.signals, &member.signals);
+    }
+
     /// A new signal of the agent, not aborted.
     pub fn make_signal(&mut self, agent: u64) -> Result<u64, Memory>
         requires low { self.old.next_signal < 9007199254740992 }
@@ -215,6 +236,26 @@ fn add_signal(members: &mut BTreeMap<u64, Member>, agent: u64, signal: u64) -> R
     let member = members.get_mut(&agent).unwrap();
     member.signals.insert(signal, ())?;
     Ok(())
+}
+
+/// A signal is aborted, if it is the agent's.
+fn set_reason_of(signal: &mut Signal, agent: u64, reason: Reason)
+    ensures { signal.new ≡ aborted agent reason signal.old }
+{
+    if signal.agent == agent {
+        signal.reason = Some(reason);
+    }
+}
+
+/// The signals of these numbers are gone.
+fn remove_signals(signals: &mut BTreeMap<u64, Signal>, numbers: &BTreeMap<u64, ()>)
+    requires { IsStrictlySortedBy nat_cmp (keys_of signals.old.entries) }
+    ensures entries { signals.new.entries ≡ filter (spared (keys_of numbers.now.entries)) signals.old.entries }
+    ensures ordered { IsStrictlySortedBy nat_cmp (keys_of signals.new.entries) }
+{
+    for number in numbers.keys() {
+        signals.remove(number);
+    }
 }
 
 fn is_inactive(member: &Member) -> bool

@@ -11,8 +11,13 @@ ghost use Rattle.wl_machine.specs.declared.rows.PendingRow.{PendingRow};
 ghost use Rattle.wl_machine.specs.Grants.{granted_lock};
 ghost use Rattle.wl_index.specs.declared.table.Request.{Request};
 ghost use Rattle.wl_machine.specs.Step.{is_abortable, is_lock_of, is_untaken, with_taken};
-ghost use Rattle.wl_index.specs.Rows.{Apart, holds, is_fresh, taken_stage, IsLock, held_of, pending_of, tags_of, other, stamp};
+ghost use Rattle.wl_index.specs.Rows.{Apart, holds, is_fresh, taken_stage, IsLock, held_of, pending_of, tags_of, other, stamp, stamp_of, holding};
+ghost use Rattle.wl_index.specs.Ends.{owned_by};
+ghost use Rattle.wl_index.specs.Groups.{numbers_in};
+ghost use Rattle.wl_index.specs.Stamps.{Distinct};
 
+use crate::ending::Owner;
+use crate::groups::{Groups, list, unlist};
 use crate::order;
 use std::alloc::Global;
 use std::collections::BTreeMap;
@@ -37,22 +42,25 @@ pub struct Request {
     pub stage: Stage,
 }
 
-/// The live requests by number, the next stamp and the next number.
+/// The live requests by number, those of each agent and of each signal, the next stamp and the next number.
 #[derive(Drop)]
 pub struct Table {
     requests: BTreeMap<u64, Request>,
+    of_agents: Groups,
+    of_signals: Groups,
     stamp: u64,
     next: u64,
 }
 
 impl Model for Table {
-    ghost use Rattle.wl_index.specs.Rows.{Rows, IsTable};
+    ghost use Rattle.wl_index.specs.Rows.{Rows, IsTable, tags_of};
+    ghost use Rattle.wl_index.specs.Groups.{IsGrouped};
 
     ghost Value = { Rows };
 
     ghost view = { λ t. record { entries = t.requests.entries; next = t.next } };
 
-    ghost invariant = { λ t. IsTable t.requests.entries t.stamp t.next };
+    ghost invariant = { λ t. IsTable t.requests.entries t.stamp t.next × IsGrouped (tags_of t.requests.entries) t.of_agents t.of_signals };
 }
 
 impl Table {
@@ -63,6 +71,8 @@ impl Table {
     {
         Table {
             requests: BTreeMap::new(alloc),
+            of_agents: Groups::new(alloc),
+            of_signals: Groups::new(alloc),
             stamp: 1,
             next,
         }
@@ -119,6 +129,18 @@ impl Table {
         Some(order::first_untaken(&self.requests, agent, signal, low)?.number)
     }
 
+    /// The numbers of an owner's live requests, rising. None: it has none.
+    pub(crate) fn owned(&self, owner: Owner) -> Option<&BTreeMap<u64, ()>>
+        ensures numbers { numbers_in (option_copied result) ≡ owned_by owner (tags_of self.now.entries) }
+        ensures ordered { IsStrictlySortedBy nat_cmp (keys_of self.now.entries) }
+        ensures distinct { Distinct stamp_of (filter holding self.now.entries) }
+    {
+        match owner {
+            Owner::Signal(_, signal) => self.of_signals.of(signal),
+            Owner::Agent(agent) => self.of_agents.of(agent),
+        }
+    }
+
     /// A request that waits, after all others.
     pub fn push(
         &mut self,
@@ -136,6 +158,13 @@ impl Table {
         ensures err { OnErr result (self.new ≡ self.old) }
     {
         let number = self.next;
+        list(
+            &mut self.of_agents,
+            &mut self.of_signals,
+            agent,
+            signal,
+            number,
+        )?;
         let request = Request {
             agent,
             name,
@@ -143,7 +172,16 @@ impl Table {
             signal,
             stage: Stage::Pending,
         };
-        self.requests.insert(number, request)?;
+        let Ok(_) = self.requests.insert(number, request) else {
+            unlist(
+                &mut self.of_agents,
+                &mut self.of_signals,
+                agent,
+                signal,
+                number,
+            );
+            return Err(Memory);
+        };
         self.next = number + 1;
         Ok(number)
     }
@@ -165,7 +203,14 @@ impl Table {
         requires waits { (r : Request) × (lookup (is_at (nat_cmp number)) self.old.entries ≡ Some r) × (r.stage ≡ Stage.Pending) }
         ensures { self.new ≡ record { entries = filter (other number) self.old.entries; next = number } }
     {
-        self.requests.remove(&number);
+        let request = self.requests.remove(&number).unwrap();
+        unlist(
+            &mut self.of_agents,
+            &mut self.of_signals,
+            request.agent,
+            request.signal,
+            number,
+        );
         self.next = number;
     }
 
@@ -177,7 +222,15 @@ impl Table {
         ensures still_ordered { IsStrictlySortedBy nat_cmp (keys_of self.new.entries) }
         ensures next { self.new.next ≡ self.old.next }
     {
-        self.requests.remove(&number)
+        let request = self.requests.remove(&number)?;
+        unlist(
+            &mut self.of_agents,
+            &mut self.of_signals,
+            request.agent,
+            request.signal,
+            number,
+        );
+        Some(request)
     }
 
     /// Whether an agent has the lock of this number.

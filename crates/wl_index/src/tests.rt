@@ -6,7 +6,8 @@ use std::process::Abort;
 use std::test::Fail;
 use wl_core::{LockCore, PlainCore};
 use wl_types::{
-    Ask, Change, Kind, Memory, Mode, Numbers, Phase, Refusal, ReleaseAnswer, TakeAnswer, Text,
+    AbortAnswer, Ask, Change, Kind, Memory, Mode, Numbers, Phase, Reason, Refusal, ReleaseAnswer,
+    TakeAnswer, Text,
 };
 
 fn opening(alloc: Global) -> IndexCore {
@@ -65,6 +66,17 @@ fn each_call_answers(rt: HostRuntime) -> Result<(), Fail> {
             }]
             .as_slice()
     );
+    let mut signalled = ask(alloc, "db", Mode::Exclusive)?;
+    signalled.signal = Some(1);
+    assert_eq!(rt; core.request(1, &signalled)?, 2);
+    assert_eq!(rt; core.request(1, &wanted)?, 3);
+    assert!(rt; core.abort(1, 1, Reason::TimeoutError) == Ok(AbortAnswer::Done));
+    assert_eq!(rt; core.changes().len(), 2);
+    assert!(rt; core.abort(1, 1, Reason::AbortError) == Ok(AbortAnswer::AlreadyAborted));
+    assert!(rt; core.abort(1, 2, Reason::AbortError) == Err(Refusal::NoSuchSignal));
+    assert!(rt; core.terminate(1) == Ok(()));
+    assert_eq!(rt; core.changes().len(), 1);
+    assert!(rt; core.terminate(1) == Err(Refusal::NoSuchAgent));
     Ok(())
 }
 
@@ -80,7 +92,7 @@ fn compare<R: Abort>(rt: &R, index: &IndexCore, plain: &PlainCore) -> Result<(),
 }
 
 #[test]
-fn a_steal_tells_the_same_on_both_cores(rt: HostRuntime) -> Result<(), Fail> {
+fn ends_tell_the_same_on_both_cores(rt: HostRuntime) -> Result<(), Fail> {
     let alloc = rt.alloc();
     let mut index = opening(alloc);
     let mut plain = plain_opening(alloc);
@@ -102,7 +114,27 @@ fn a_steal_tells_the_same_on_both_cores(rt: HostRuntime) -> Result<(), Fail> {
     assert!(rt; index.release(1, 3) == plain.release(1, 3));
     assert_eq!(rt; index.request(1, &last)?, plain.request(1, &last)?);
     assert!(rt; index.take(5) == plain.take(5));
-    compare(&rt, &index, &plain)
+    compare(&rt, &index, &plain)?;
+    let mut signalled = ask(alloc, "log", Mode::Shared)?;
+    signalled.signal = Some(1);
+    assert_eq!(rt;
+        index.request(1, &signalled)?,
+        plain.request(1, &signalled)?
+    );
+    signalled.mode = Mode::Exclusive;
+    assert_eq!(rt;
+        index.request(1, &signalled)?,
+        plain.request(1, &signalled)?
+    );
+    assert_eq!(rt; index.request(1, &shared)?, plain.request(1, &shared)?);
+    let reason = Reason::AbortError;
+    assert!(rt; index.abort(1, 1, reason) == plain.abort(1, 1, reason));
+    assert!(rt; index.changes() == plain.changes());
+    assert_eq!(rt; index.changes().len(), 2);
+    assert!(rt; index.terminate(1) == plain.terminate(1));
+    assert!(rt; index.changes() == plain.changes());
+    assert_eq!(rt; index.changes().len(), 4);
+    Ok(())
 }
 
 /// The third lock waits for the first, so it is granted after the second.

@@ -51,6 +51,7 @@ invariant_of-self-2 c =
     let live = c.len-live.ensures.entries in
     let changes = c.in_ok-reserve.ensures.ok in
     let touched = c.in_ok-reserve-2.ensures.ok in
+    let ending = c.in_ok-reserve-3.ensures.ok in
     let wide = c.settle.ensures.capacity in
     let t = c.in_ok-number.ensures.capacity in
     let t2 = c.settle.ensures.touched_capacity in (
@@ -59,8 +60,10 @@ invariant_of-self-2 c =
         ready = c.settle.ensures.ready;
         changes_room = omega (arith, same, more, live, changes, wide);
         touched_room = omega (arith, same, more, live, touched, t, t2);
+        ending_room = omega (arith, same, more, live, ending);
       },
       c.settle.ensures.none,
+      c.in_ok-reserve-3.ensures.items ∙ c.self.invariant.2,
     )
 
 pub returns-clause-admitted : goal.returns-clause-admitted

@@ -54,6 +54,7 @@ invariant_of-self-2 c =
     let live = c.len-live.ensures.entries in
     let changes = c.in_ok-reserve.ensures.ok in
     let touched = c.in_ok-reserve-2.ensures.ok in
+    let ending = c.in_ok-reserve-3.ensures.ok in
     let w1 = c.steal.ensures.changes_capacity in
     let w2 = c.settle.ensures.capacity in
     let t = c.in_ok-number.ensures.capacity in
@@ -64,8 +65,10 @@ invariant_of-self-2 c =
         ready = c.settle.ensures.ready;
         changes_room = omega (arith, same, fewer, more, live, changes, w1, w2);
         touched_room = omega (arith, same, fewer, more, live, touched, t, t1, t2);
+        ending_room = omega (arith, same, fewer, more, live, ending);
       },
       c.settle.ensures.none,
+      c.in_ok-reserve-3.ensures.items ∙ c.self.invariant.2,
     )
 
 pub returns-clause-admitted : goal.returns-clause-admitted

@@ -8,4 +8,4 @@ returns-clause-live c =
     rw (← c.self.view_is) (c.len.ensures.len ∙ sym (live_count i.requests.entries))
 
 pub returns-clause-ordered : goal.returns-clause-ordered
-returns-clause-ordered c = rw (← c.self.view_is) c.self.invariant.ordered
+returns-clause-ordered c = rw (← c.self.view_is) c.self.invariant.0.ordered

@@ -7,7 +7,7 @@ use Rattle.wl_index.proofs.Places.{places_distinct, numbers_in_order}
 use Rattle.wl_index.proofs.table.Table.locks_in_order.Goals as goal
 
 pub sort-requires : goal.sort-requires
-sort-requires c = rw c.in_ok-places.ensures (places_distinct c.self.inside.requests.entries c.self.invariant.distinct)
+sort-requires c = rw c.in_ok-places.ensures (places_distinct c.self.inside.requests.entries c.self.invariant.0.distinct)
 
 pub returns-clause-numbers : goal.returns-clause-numbers
 returns-clause-numbers c =

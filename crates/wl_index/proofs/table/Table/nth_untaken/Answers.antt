@@ -8,14 +8,14 @@ loop-passed-init c = none_passed c.args.agent c.args.signal c.args.i c.self.insi
 pub overflow_add-low : goal.overflow_add-low
 overflow_add-low c =
     let i = c.self.inside in
-    let below = first_stamped c.loop-passed.low c.args.agent c.args.signal i.stamp i.requests.entries c.in_ok-low.field-0 c.self.invariant.stamped (sym c.first_untaken.ensures ∙ c.in_ok-low.was) in
-    let room = c.self.invariant.room in
-    let high = c.self.invariant.high in
+    let below = first_stamped c.loop-passed.low c.args.agent c.args.signal i.stamp i.requests.entries c.in_ok-low.field-0 c.self.invariant.0.stamped (sym c.first_untaken.ensures ∙ c.in_ok-low.was) in
+    let room = c.self.invariant.0.room in
+    let high = c.self.invariant.0.high in
     omega (arith, below, room, high)
 
 pub loop-passed-preserved : goal.loop-passed-preserved
 loop-passed-preserved c =
-    one_passed c.args.agent c.args.signal c.args.i c.loop-passed.passed c.loop-passed.low c.self.inside.requests.entries c.in_ok-low.field-0 c.self.invariant.distinct c.loop-passed-test.true (sym c.first_untaken.ensures ∙ c.in_ok-low.was) c.loop-passed.invariant
+    one_passed c.args.agent c.args.signal c.args.i c.loop-passed.passed c.loop-passed.low c.self.inside.requests.entries c.in_ok-low.field-0 c.self.invariant.0.distinct c.loop-passed-test.true (sym c.first_untaken.ensures ∙ c.in_ok-low.was) c.loop-passed.invariant
 
 pub returns-in_err-low : goal.returns-in_err-low
 returns-in_err-low c =

@@ -10,7 +10,7 @@ use Rattle.wl_index.specs.Rows.{held_of, pending_of, lock_row}
 use Rattle.wl_index.specs.Names.{Placed, names_of}
 use Rattle.wl_index.proofs.Entries.{live_count, tags_length}
 use Rattle.wl_index.proofs.Events.{release_gives}
-use Rattle.wl_index.proofs.index.IndexCore.release.Goals as goal
+use Rattle.wl_index.proofs.index.IndexCoreLockCore.release.Goals as goal
 
 pub end-requires-clause-there : goal.end-requires-clause-there
 end-requires-clause-there c =
@@ -28,8 +28,8 @@ settle-requires-clause-room c =
     let capacity = c.clear.ensures.capacity in
     omega (arith, room, fewer, len, wide, count, cleared, capacity)
 
-pub returns : goal.returns
-returns c =
+pub returns-clause-released : goal.returns-clause-released
+returns-clause-released c =
     let i = c.self.inside in
     let held = sym c.has_lock.ensures.found ∙ c.if-not-has_lock.false in
     let lock = c.has_lock.ensures.lock c.if-not-has_lock.false in
@@ -57,6 +57,7 @@ invariant_of-self-2 c =
     let fewer = c.end.ensures.fewer in
     let changes = is.changes_room in
     let touched = is.touched_room in
+    let ending = is.ending_room in
     let capacity = c.clear.ensures.capacity in
     let more = c.end.ensures.changes_capacity in
     let wide = c.settle.ensures.capacity in
@@ -67,6 +68,8 @@ invariant_of-self-2 c =
         ready = c.settle.ensures.ready;
         changes_room = omega (arith, same, fewer, changes, capacity, more, wide);
         touched_room = omega (arith, same, fewer, touched, t, t2);
+        ending_room = omega (arith, same, fewer, ending);
       },
       c.settle.ensures.none,
+      c.self.invariant.2,
     )

@@ -6,7 +6,7 @@ use Rattle.wl_machine.specs.Step.{is_untaken}
 use Rattle.wl_index.specs.Rows.{held_of, pending_of, tag}
 use Rattle.wl_index.specs.Names.{names_of}
 use Rattle.wl_index.proofs.Taken.{ready_taken, taken_none, untaken_gives}
-use Rattle.wl_index.proofs.index.IndexCore.take.Goals as goal
+use Rattle.wl_index.proofs.index.IndexCoreLockCore.take.Goals as goal
 
 pub invariant_of-self : goal.invariant_of-self
 invariant_of-self c =
@@ -18,12 +18,14 @@ invariant_of-self c =
         ready = rw (c.take.ensures.held, c.take.ensures.pending) (ready_taken c.args.id i.names (held_of i.table.entries) (pending_of i.table.entries) is.ready);
         changes_room = rw (same, c.clear.ensures.capacity) is.changes_room;
         touched_room = rw same is.touched_room;
+        ending_room = rw same is.ending_room;
       },
       c.self.invariant.1,
+      c.self.invariant.2,
     )
 
-pub returns-then-not-take : goal.returns-then-not-take
-returns-then-not-take c =
+pub returns-then-not-take-clause-taken : goal.returns-then-not-take-clause-taken
+returns-then-not-take-clause-taken c =
     let i = c.self.inside in
     let s : State = record {
       agents = i.owners.agents;
@@ -47,6 +49,8 @@ invariant_of-self-2 c =
         ready = rw (c.take.ensures.held, c.take.ensures.pending) (ready_taken c.args.id i.names (held_of i.table.entries) (pending_of i.table.entries) is.ready);
         changes_room = rw (same, c.clear.ensures.capacity) is.changes_room;
         touched_room = rw same is.touched_room;
+        ending_room = rw same is.ending_room;
       },
       c.self.invariant.1,
+      c.self.invariant.2,
     )

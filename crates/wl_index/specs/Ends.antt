@@ -1,0 +1,70 @@
+-- What an abort or a termination ends (own).
+use Rattle.std.specs.Prelude.{ℕ, Bool, ◌==◌, not, ◌&&◌, List, [], ◌∷◌, ◌++◌, map, filter, Option, Some, None, if◌then◌else◌}
+use Rattle.std.specs.Map.{lookup}
+use Rattle.std.specs.BTreeMap.{is_at}
+use Rattle.std.specs.Option.{IsSome}
+use Rattle.std.specs.Ordering.{nat_cmp}
+use Rattle.wl_types.specs.declared.phases.Phase.{Phase}
+use Rattle.wl_types.specs.declared.phases.Change.{Change}
+use Rattle.wl_machine.specs.declared.rows.HeldRow.{HeldRow}
+use Rattle.wl_machine.specs.declared.rows.PendingRow.{PendingRow}
+use Rattle.wl_machine.specs.State.{State}
+use Rattle.wl_machine.specs.Step.{is_waiting_on, is_abortable, request_ends, lock_ends}
+use Rattle.wl_index.specs.declared.ending.Owner.{Owner}
+use Rattle.wl_index.specs.declared.ending.Owner.TheVariants.{Signal, Agent}
+use Rattle.wl_index.specs.declared.ending.Standing.{Standing}
+use Rattle.wl_index.specs.declared.ending.Standing.TheVariants.{Waits, Holds}
+use Rattle.wl_index.specs.declared.order.Place.{Place}
+use Rattle.wl_index.specs.declared.table.Request.{Request}
+use Rattle.wl_index.specs.Rows.{Entry, Tag, waiting, holding, request_row, lock_row, other}
+use Rattle.wl_index.specs.Groups.{of_agent, of_signal}
+use Rattle.wl_index.specs.Order.{place_of}
+
+-- the requests that end with their owner
+abbrev pub ends_request : Owner → PendingRow → Bool
+ends_request (Signal agent signal) request = is_waiting_on agent signal request
+ends_request (Agent agent) request = request.agent == agent
+
+-- the locks that end with their owner
+abbrev pub ends_lock : Owner → HeldRow → Bool
+ends_lock (Signal agent signal) lock = is_abortable agent signal lock
+ends_lock (Agent agent) lock = lock.agent == agent
+
+-- the live requests of an owner's list, in order
+abbrev pub owned_by : Owner → List Tag → List ℕ
+owned_by (Signal agent signal) tags = of_signal signal tags
+owned_by (Agent agent) tags = of_agent agent tags
+
+-- the entries that stand so, and end with their owner
+abbrev pub ends_entry : Owner → Standing → Entry → Bool
+ends_entry owner Waits e = waiting e && ends_request owner (request_row e)
+ends_entry owner Holds e = holding e && ends_lock owner (lock_row e)
+
+-- the place of a request of this number that passes
+abbrev pub place_if : (Entry → Bool) → ℕ → Option Request → Option Place
+place_if passes number None = None
+place_if passes number (Some r) = if passes (number, r) then Some (place_of (number, r)) else None
+
+-- the ends of what has these places
+abbrev pub place_ends : Phase → List Place → List Change
+place_ends phase places = map (λ (p : Place). record { id = p.number; phase = phase }) places
+
+-- the numbers of these places
+abbrev pub numbers_of : List Place → List ℕ
+numbers_of places = map (λ (p : Place). p.number) places
+
+-- each of these is live when its turn to end comes
+abbrev pub AreLive : List ℕ → List Entry → Type 0
+AreLive [] es = Unit {0}
+AreLive (number ∷ numbers) es = IsSome (lookup (is_at (nat_cmp number)) es) × AreLive numbers (filter (other number) es)
+
+-- without what ends with its owner
+abbrev pub without_owned : Owner → State → State
+without_owned owner s = record s {
+  held = filter (λ lock. not (ends_lock owner lock)) s.held;
+  pending = filter (λ request. not (ends_request owner request)) s.pending;
+}
+
+-- those requests, and then those locks
+abbrev pub owned_ends : Owner → Phase → Phase → State → List Change
+owned_ends owner waiting held s = request_ends waiting (filter (ends_request owner) s.pending) ++ lock_ends held (filter (ends_lock owner) s.held)
