@@ -18,8 +18,8 @@ ghost use Rattle.wl_index.specs.Stamps.{Distinct};
 
 use crate::names::Names;
 use crate::order::{Place, sort};
-use crate::room::push_in_room;
 use crate::table::{Request, Stage, Table};
+use wl_core::push_in_room;
 use wl_types::{Change, Phase};
 
 /// Whose requests and locks end.

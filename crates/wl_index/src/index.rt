@@ -11,12 +11,11 @@ use crate::ending::{Owner, end_locks, end_requests};
 use crate::names::Names;
 use crate::order::Place;
 use crate::owners::Owners;
-use crate::room::push_in_room;
 use crate::snapshots::shown;
 use crate::table::Table;
 use std::alloc::Global;
 use std::marker::Model;
-use wl_core::{LockCore, PlainCore};
+use wl_core::{LockCore, PlainCore, push_in_room};
 use wl_machine::{Command, Reply};
 use wl_types::{
     AbortAnswer, Ask, Change, Kind, Memory, Name, Numbers, Phase, Reason, Refusal, ReleaseAnswer,

@@ -1,17 +1,19 @@
-//! The lock machine over indexes: each event costs what it changes.
+//! The lock machine over indexes: a core on which an event costs O(log n) for each request, lock, name, agent or signal
+//! that it changes.
 #![tactic(auto)]
 
 mod copies;
 mod ending;
-pub mod groups;
+mod groups;
 pub mod index;
-pub mod line;
-pub mod names;
+mod line;
+mod names;
 mod order;
-pub mod owners;
-mod room;
+mod owners;
 mod settle;
 mod snapshots;
-pub mod table;
+mod table;
 #[cfg(test)]
 mod tests;
+
+pub use index::IndexCore;

@@ -16,13 +16,13 @@ ghost use Rattle.wl_index.specs.Lines.{Waiting, Matches, without, is_busy, with_
 ghost use Rattle.wl_index.specs.Names.{names_of, among, IsNames, Ready, Underway, Entered, IsBelow, WaitsAlone};
 
 use crate::line::Line;
-use crate::room::push_in_room;
 use crate::settle::settle;
 use crate::table::{Request, Stage, Table};
 use std::alloc::Global;
 use std::collections::BTreeMap;
 use std::collections::btree_map::Iter;
 use std::marker::Model;
+use wl_core::push_in_room;
 use wl_types::{Ask, Change, Memory, Mode, Name, Phase};
 
 /// The names in use: their lines by the number that brought each into use, and where each name's line is.

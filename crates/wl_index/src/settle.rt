@@ -5,8 +5,8 @@ ghost use Rattle.wl_index.specs.Lines.{Matches};
 ghost use Rattle.wl_index.specs.Rows.{held_of, pending_of, tags_of};
 
 use crate::line::Line;
-use crate::room::push_in_room;
 use crate::table::Table;
+use wl_core::push_in_room;
 use wl_types::{Change, Phase};
 
 /// Grants what a name's queue grants.

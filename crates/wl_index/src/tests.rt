@@ -1,5 +1,7 @@
 //! That each call succeeds with ample memory, and answers as the plain core.
 
+mod random;
+
 use crate::index::IndexCore;
 use std::alloc::Global;
 use std::process::Abort;

@@ -15,7 +15,7 @@ use crate::running::{LIMITS, run_lines};
 use crate::{Failed, Input, Output, ScriptFault};
 use serde_json::{Value, json};
 use std::alloc::Global;
-use wl_core::PlainCore;
+use wl_index::IndexCore;
 use wl_journal::{AuditFault, Book};
 use wl_origin::OriginKey;
 use wl_types::Memory;
@@ -36,7 +36,7 @@ impl Output for Sink {
 }
 
 /// Whether the book's entries are legal. They always are: the book's type says so.
-fn is_legal(book: &Book<PlainCore>) -> Result<bool, Memory>
+fn is_legal(book: &Book<IndexCore>) -> Result<bool, Memory>
     ensures { IfOk result (λ legal. legal ≡ true) }
 {
     match wl_journal::audit(book.base(), book.entries()) {
@@ -54,7 +54,7 @@ fn value_of(alloc: Global, entries: u64, legal: bool, origin: String) -> Result<
 }
 
 /// An origin's line.
-fn line_of(alloc: Global, key: &OriginKey, book: &Book<PlainCore>) -> Result<String, Memory>
+fn line_of(alloc: Global, key: &OriginKey, book: &Book<IndexCore>) -> Result<String, Memory>
     ensures { IfOk result (λ line. string_bytes line ≡ audit_line key.now book.now.total) }
 {
     let legal = is_legal(book)?;
@@ -70,7 +70,7 @@ fn write_origin<W: Output>(
     alloc: Global,
     writer: &mut W,
     key: &OriginKey,
-    book: &Book<PlainCore>,
+    book: &Book<IndexCore>,
     lines: u64,
     written: u64,
 ) -> Result<u64, ScriptFault>
@@ -96,7 +96,7 @@ fn write_origin<W: Output>(
 fn write_origins<W: Output>(
     alloc: Global,
     writer: &mut W,
-    books: &[(OriginKey, Book<PlainCore>)],
+    books: &[(OriginKey, Book<IndexCore>)],
     lines: u64,
 ) -> Result<u64, ScriptFault>
     ensures ok { IfOk result (λ n. WritesOrigins (all_seen books.now) n (W.held writer.old) (W.held writer.new)) }
@@ -132,7 +132,7 @@ pub fn audit<R: Input, W: Output>(
     ensures turns { IsTooManyTurns result → GrewBy (R.reads reader.old) (R.reads reader.new) 4294967296
         × GaveBytes (R.rest reader.old) (R.rest reader.new) 4294967296 }
 {
-    let mut engine = Engine::<Book<PlainCore>>::new(alloc);
+    let mut engine = Engine::<Book<IndexCore>>::new(alloc);
     let lines = run_lines(alloc, &mut engine, reader, &mut Sink, LIMITS)?;
     let Ok(books) = engine.into_cores() else {
         return Err(ScriptFault::Memory(lines));

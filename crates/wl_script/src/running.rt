@@ -14,7 +14,7 @@ use crate::feeding::{Progress, feed};
 use crate::replying::answer_line;
 use crate::{Answerer, Failed, Input, Limits, Output, ScriptFault};
 use std::alloc::Global;
-use wl_core::PlainCore;
+use wl_index::IndexCore;
 use wl_types::Memory;
 use wl_world::Engine;
 
@@ -145,7 +145,7 @@ pub fn run_with<R: Input, W: Output>(
     ensures turns { IsTooManyTurns result → GrewBy (R.reads reader.old) (R.reads reader.new) limits.turns
         × GaveBytes (R.rest reader.old) (R.rest reader.new) limits.turns }
 {
-    let mut engine = Engine::<PlainCore>::new(alloc);
+    let mut engine = Engine::<IndexCore>::new(alloc);
     run_lines(alloc, &mut engine, reader, writer, limits)
 }
 

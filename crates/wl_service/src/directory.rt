@@ -10,13 +10,13 @@ use crate::fault::OpenFault;
 use std::alloc::Global;
 use std::collections::BTreeMap;
 use std::sync::{Arc, Wait};
-use wl_core::PlainCore;
+use wl_index::IndexCore;
 use wl_manager::{Agent, Manager, Recent};
 use wl_origin::OriginKey;
 use wl_types::{Kind, Refusal};
 
 /// The core of every manager.
-pub type Core = PlainCore;
+pub type Core = IndexCore;
 
 /// A manager as the directory and its agents hold it.
 pub(crate) type Shared = Arc<Manager<Core, Recent>, Global>;
