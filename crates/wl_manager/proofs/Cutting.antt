@@ -33,10 +33,10 @@ still_cut keeps_all old new added appends was = record {
   legal = was.legal;
   leads = appends.base ∙ was.leads;
   count =
-    let a = appends.total in
-    let b = was.count in
-    let l = ap length appends.entries ∙ length-append old.entries added in
-    omega (arith, a, b, l);
+      let a = appends.total in
+      let b = was.count in
+      let l = ap length appends.entries ∙ length-append old.entries added in
+      omega (arith, a, b, l);
   none = was.none;
 }
 
