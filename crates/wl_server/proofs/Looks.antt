@@ -1,11 +1,13 @@
 -- Looks at the requests of a map, one after another.
-use Rattle.std.proofs.Common.{◌≡◌, arith, ℕ, ◌+◌, ◌<◌, ◌≤◌, List, [], ◌∷◌, ◌++◌, sym, Less}
+use Rattle.std.proofs.Common.{◌≡◌, ◌≢◌, All, arith, ℕ, zero, suc, ◌+◌, ◌<◌, ◌≤◌, List, [], ◌∷◌, ◌++◌, sym, Less}
 use Rattle.std.specs.Cmp.{ranked}
 use Rattle.std.specs.List.{AllByRecursion}
 use Rattle.std.specs.List.Sorted.{IsStrictlySortedBy}
 use Rattle.std.specs.Map.{keys_of}
 use Rattle.std.specs.Ordering.{nat_cmp}
+use Rattle.std.proofs.lemmas.List.Elements.{All-append}
 use Rattle.wl_types.specs.declared.phases.Phase.{Phase}
+use Rattle.wl_types.specs.declared.phases.Phase.TheVariants.{Granted}
 use Rattle.wl_session.specs.Told.{Look, IsFrom, IsByNumber}
 
 -- the numbers of the entries rise from the low one on
@@ -62,3 +64,23 @@ rises_from (e ∷ es) low h sorted = (h.0, rises_from es (e.0 + 1) (above e.0 (k
 -- at first all entries of a map are left
 pub at_first : {X : Type 0} (es : List (ℕ × X)) → IsStrictlySortedBy nat_cmp (keys_of es) → AreToCome [] es
 at_first es sorted = (0, tt, rises_from es 0 (any (keys_of es)) sorted)
+
+-- a look of a number that no look has yet, and none above it
+pub one_more : (looks : List Look) (least number : ℕ) (p : Phase) → IsByNumber looks → AreBelow least looks → least ≤ number
+    → IsByNumber (looks ++ (number, p) ∷ []) × AreBelow (number + 1) (looks ++ (number, p) ∷ [])
+one_more looks least number p by_number below le =
+    let under : AreBelow number looks = below_higher looks least number le below in (
+      from_more looks (number, p) 0 by_number under (omega arith),
+      below_more looks (number, p) (number + 1) (below_higher looks number (number + 1) (omega arith) under) (omega arith),
+    )
+
+pub none_more : (looks : List Look) (least number : ℕ) → AreBelow least looks → least ≤ number → AreBelow (number + 1) looks
+none_more looks least number below le = below_higher looks least (number + 1) (omega (arith, le)) below
+
+-- and one that was taken, where it was granted
+pub taken_more : (looks : List Look) (number : ℕ) (p : Phase) → All (λ look. look.1 ≢ Granted) looks → p ≢ Granted → All (λ look. look.1 ≢ Granted) (looks ++ (number, p) ∷ [])
+taken_more looks number p all is = All-append (λ (look : Look). look.1 ≢ Granted) looks ((number, p) ∷ []) all last
+  where
+    last : All (λ (look : Look). look.1 ≢ Granted) ((number, p) ∷ [])
+    last zero d within = is
+    last (suc k) d within = absurd (omega (arith, within))

@@ -27,9 +27,10 @@ module _ {L P : Type 0} (hears : L → List ℕ → L → Type 0) (says : L → 
   Exchanged old (e ∷ es) new = (next : L × P) × Exchanges old e next × Exchanged next es new
 
 module _ {L P : Type 0} (hears : L → List ℕ → L → Type 0) (closes : L → L → Type 0) (says : L → List ℕ → L → Type 0) (fails : L → ServeFault → L → Type 0) (answers : P → List ℕ → List ℕ → P → Type 0) where
-  -- The peer closed; or the link failed, where the next message was due or its reply; or there was no memory for the reply.
+  -- The peer closed, before its next message or before the reply to it; or the link failed, where the next message was due or its
+  -- reply; or there was no memory for the reply.
   abbrev pub Ends : L → Option ServeFault → L → Type 0
-  Ends old None new = closes old new
+  Ends old None new = closes old new ⊎ ((message : List ℕ) × (came : L) × hears old message came × closes came new)
   Ends old (Some fault) new = fails old fault new
       ⊎ ((message : List ℕ) × (came : L) × hears old message came × (((fault ≡ Memory) × (new ≡ came)) ⊎ fails came fault new))
 

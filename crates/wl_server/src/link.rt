@@ -1,6 +1,6 @@
 //! What a conversation is held over, and who answers in it.
 
-ghost use Rattle.std.specs.Prelude.{◌≡◌, ℕ, List, IfOk, IfErr, IfSome, IfNone, OnOk, string_bytes};
+ghost use Rattle.std.specs.Prelude.{◌≡◌, ℕ, List, IfOk, IfErr, IfSome, IfNone, Ok, string_bytes};
 ghost use Rattle.wl_server.specs.Talks.{data_bytes};
 
 use crate::ServeFault;
@@ -26,6 +26,15 @@ impl Data {
     }
 }
 
+/// What became of a reply.
+#[derive(Clone, Copy, Debug, PartialEq, Eq, Drop)]
+pub enum Sending {
+    /// It was sent whole.
+    Sent,
+    /// It wasn't, since the peer had closed.
+    Closed,
+}
+
 /// A connection. Its contracts tell how each call takes it from one state to the next.
 pub trait Link {
     ghost use Rattle.wl_server.specs.declared.fault.ServeFault.{ServeFault};
@@ -49,8 +58,9 @@ pub trait Link {
         ensures failed { IfErr result (λ fault. fails self.old fault self.new) };
 
     /// Sends a reply.
-    fn send(&mut self, text: &str) -> Result<(), ServeFault>
-        ensures said { OnOk result (says self.old text.now self.new) }
+    fn send(&mut self, text: &str) -> Result<Sending, ServeFault>
+        ensures said { result ≡ Ok Sending.Sent → says self.old text.now self.new }
+        ensures closed { result ≡ Ok Sending.Closed → closes self.old self.new }
         ensures failed { IfErr result (λ fault. fails self.old fault self.new) };
 }
 

@@ -84,7 +84,7 @@ impl Peer {
             &mut self.requests,
             action,
         )?;
-        let looks = self.requests.looks(&outcome)?;
+        let looks = self.requests.looks(self.client.as_ref(), &outcome)?;
         let text = self.session.finish_changed(id, outcome, &looks)?;
         self.requests.tell(&looks);
         Ok(text)

@@ -1,6 +1,6 @@
 //! The requests of an agent whose end it wasn't told.
 
-ghost use Rattle.std.specs.Prelude.{◌≡◌, ◌≢◌, All, IfOk};
+ghost use Rattle.std.specs.Prelude.{◌≡◌, ◌≢◌, All, IfOk, IfSome};
 ghost use Rattle.wl_types.specs.declared.phases.Phase.TheVariants.{Granted};
 ghost use Rattle.wl_session.specs.Told.{IsByNumber};
 
@@ -8,7 +8,7 @@ use std::alloc::Global;
 use std::collections::BTreeMap;
 use wl_cell::Taking;
 use wl_codec::Outcome;
-use wl_service::Ticket;
+use wl_service::{Client, Ticket};
 use wl_session::tells;
 use wl_types::{Memory, Phase};
 
@@ -24,6 +24,8 @@ pub struct Request {
 pub struct Requests {
     alloc: Global,
     by_number: BTreeMap<u64, Request>,
+    // What the client said last that had changed: kept for its room.
+    numbers: Vec<u64>,
 }
 
 /// The phase of a request. A grant is taken, and where that finds an end, the end is the phase.
@@ -40,11 +42,48 @@ fn found(ticket: &mut Ticket) -> Phase
     }
 }
 
+/// The phase of the request of this number, if it is another than the one told, after a grant was taken.
+fn news_of(requests: &mut BTreeMap<u64, Request>, number: u64) -> Option<Phase>
+    ensures { IfSome result (λ phase. phase ≢ Granted) }
+{
+    let request = requests.get_mut(&number)?;
+    let phase = found(&mut request.ticket);
+    if request.told == Some(phase) {
+        return None;
+    }
+    Some(phase)
+}
+
+/// The news of the requests of these numbers, which rise. One that comes again is passed over.
+fn changed_of(
+    alloc: Global,
+    requests: &mut BTreeMap<u64, Request>,
+    numbers: &[u64],
+) -> Result<Vec<(u64, Phase)>, Memory>
+    ensures by_number { IfOk result (λ looks. IsByNumber looks.items) }
+    ensures taken { IfOk result (λ looks. All (λ look. look.1 ≢ Granted) looks.items) }
+{
+    let mut looks = Vec::new(alloc);
+    let mut least = 0;
+    for number in numbers {
+        // No request has the greatest number.
+        if *number < least || *number == u64::MAX {
+            continue;
+        }
+        if let Some(phase) = news_of(requests, *number) {
+            looks.push((*number, phase))?;
+        }
+        least = *number + 1;
+    }
+    Ok(looks)
+}
+
 impl Requests {
     pub fn new(alloc: Global) -> Requests {
         Requests {
             alloc,
             by_number: BTreeMap::new(alloc),
+            numbers: Vec::new(alloc),
         }
     }
 
@@ -63,21 +102,39 @@ impl Requests {
         self.by_number.get_mut(&number)
     }
 
-    /// What a reply of this outcome looks at: nothing where it has no notices, else what changed.
-    pub fn looks(&mut self, outcome: &Outcome) -> Result<Vec<(u64, Phase)>, Memory>
+    /// What a reply of this outcome to this client looks at: nothing where it has no notices, else what changed.
+    pub fn looks(
+        &mut self,
+        client: Option<&Client>,
+        outcome: &Outcome,
+    ) -> Result<Vec<(u64, Phase)>, Memory>
         ensures by_number { IfOk result (λ looks. IsByNumber looks.items) }
         ensures taken { IfOk result (λ looks. All (λ look. look.1 ≢ Granted) looks.items) }
     {
-        if tells(outcome) {
-            self.changed()
-        } else {
-            Ok(Vec::new(self.alloc))
+        match client {
+            Some(client) if tells(outcome) => self.changed(client, outcome),
+            _ => Ok(Vec::new(self.alloc)),
         }
     }
 
-    /// The requests whose phase is another than the one told, by number, after each grant was taken. It is one load a
-    /// request, and one exchange for each grant.
-    fn changed(&mut self) -> Result<Vec<(u64, Phase)>, Memory>
+    /// The requests whose phase is another than the one told, by number, after each grant was taken. It looks at those
+    /// that the client says have changed, and at a new one; at all of them where the client can't say.
+    fn changed(&mut self, client: &Client, outcome: &Outcome) -> Result<Vec<(u64, Phase)>, Memory>
+        ensures by_number { IfOk result (λ looks. IsByNumber looks.items) }
+        ensures taken { IfOk result (λ looks. All (λ look. look.1 ≢ Granted) looks.items) }
+    {
+        if !client.changed(&mut self.numbers) {
+            return self.changed_of_all();
+        }
+        if let Outcome::Request(number) = outcome {
+            self.numbers.push(*number)?;
+        }
+        self.numbers.sort_unstable();
+        changed_of(self.alloc, &mut self.by_number, &self.numbers)
+    }
+
+    /// The same, by a look at each request.
+    fn changed_of_all(&mut self) -> Result<Vec<(u64, Phase)>, Memory>
         ensures by_number { IfOk result (λ looks. IsByNumber looks.items) }
         ensures taken { IfOk result (λ looks. All (λ look. look.1 ≢ Granted) looks.items) }
     {

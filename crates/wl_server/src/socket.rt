@@ -1,9 +1,9 @@
 //! A WebSocket as a link.
 
 use crate::ServeFault;
-use crate::link::{Data, Link};
+use crate::link::{Data, Link, Sending};
 use std::alloc::Global;
-use std::io::{Read, Write};
+use std::io::{ErrorKind, Read, Write};
 use std::sync::Wait;
 use tungstenite::handshake::HandshakeError;
 use tungstenite::{Error, MaskKeys, Message, NoMask, WebSocket, WebSocketConfig};
@@ -13,6 +13,9 @@ const LIMIT: usize = 65_536;
 
 /// The bytes of one read of the stream.
 const READ: usize = 8_192;
+
+/// The messages that are looked at for the close frame of a peer that has left.
+const UNREAD: u32 = 1_024;
 
 /// A WebSocket of a peer that asked for one.
 #[derive(Drop)]
@@ -53,6 +56,31 @@ fn fault_of(error: &Error) -> ServeFault {
     }
 }
 
+/// Whether an error says that the peer has left.
+fn has_left(error: &Error) -> bool {
+    match error {
+        Error::Io(error) => matches!(
+            error.kind(),
+            ErrorKind::BrokenPipe | ErrorKind::ConnectionReset | ErrorKind::ConnectionAborted
+        ),
+        _ => false,
+    }
+}
+
+impl<S: Read + Write + Drop> Socket<S> {
+    /// Whether a peer that has left sent a close frame, among what it sent last. The messages before it are let go.
+    fn has_closed(&mut self) -> bool {
+        for _ in 0..UNREAD {
+            match self.inner.read() {
+                Ok(Message::Close(_)) => return true,
+                Ok(_) => {}
+                Err(_) => return false,
+            }
+        }
+        false
+    }
+}
+
 impl<S: Read + Write + Drop> Link for Socket<S> {
     ghost hears = { λ old message new. Unit {0} };
 
@@ -82,13 +110,19 @@ impl<S: Read + Write + Drop> Link for Socket<S> {
         unreachable!()
     }
 
-    fn send(&mut self, text: &str) -> Result<(), ServeFault> {
+    fn send(&mut self, text: &str) -> Result<Sending, ServeFault> {
         let Ok(message) = Message::text(self.alloc, text) else {
             return Err(ServeFault::Memory);
         };
         match self.inner.send(message) {
-            Ok(()) => Ok(()),
-            Err(error) => Err(fault_of(&error)),
+            Ok(()) => Ok(Sending::Sent),
+            Err(error) => {
+                if has_left(&error) && self.has_closed() {
+                    Ok(Sending::Closed)
+                } else {
+                    Err(fault_of(&error))
+                }
+            }
         }
     }
 }

@@ -2,7 +2,7 @@
 
 ghost use Rattle.wl_server.specs.Talks.{Turns, Talked};
 
-use crate::link::{Link, Speaker};
+use crate::link::{Link, Sending, Speaker};
 use crate::{ServeEnd, ServeFault};
 use std::sync::Wait;
 use wl_types::Memory;
@@ -43,7 +43,11 @@ pub fn take_turn<R: Wait, L: Link, P: Speaker>(rt: &R, link: &mut L, speaker: P)
     match speaker.answer(rt, data.bytes()) {
         Err(Memory) => Turn::Ended(Some(ServeFault::Memory)),
         Ok((next, text)) => match link.send(text.as_str()) {
-            Ok(()) => Turn::Went(next),
+            Ok(Sending::Sent) => Turn::Went(next),
+            Ok(Sending::Closed) => {
+                next.end(rt);
+                Turn::Ended(None)
+            }
             Err(fault) => {
                 next.end(rt);
                 Turn::Ended(Some(fault))

@@ -3,6 +3,7 @@
 mod endings;
 mod frames;
 mod loopback;
+mod talks;
 
 use crate::Gate;
 use std::alloc::Global;

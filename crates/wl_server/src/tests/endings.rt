@@ -1,6 +1,6 @@
 //! How connections end, and that their agents then have ended.
 
-use super::frames::{BINARY, CLOSE, HELLO, PING, TEXT, add, served};
+use super::frames::{BINARY, CLOSE, HELLO, PING, TEXT, add, served, served_narrowly};
 use super::{OPEN, REQUEST, is_free};
 use crate::{ServeEnd, ServeFault};
 use std::alloc::{AllocError, Global};
@@ -91,5 +91,27 @@ fn pings_and_a_close(rt: HostRuntime) -> Result<(), Fail> {
     };
     assert_eq!(rt; served(&rt, alloc, &service, HELLO, &frames), end);
     assert!(rt; is_free(&rt, alloc, &service, 2)?);
+    Ok(())
+}
+
+#[test]
+fn a_close_behind_a_reply_that_nobody_takes(rt: HostRuntime) -> Result<(), Fail> {
+    let alloc = rt.alloc();
+    let service = Service::new(&rt, alloc)?;
+    let mut frames = holder(alloc)?;
+    let lost = ServeEnd {
+        answered: 1,
+        fault: Some(ServeFault::Stream),
+    };
+    assert_eq!(rt; served_narrowly(&rt, alloc, &service, &frames, 2), lost);
+    assert!(rt; is_free(&rt, alloc, &service, 2)?);
+    add(&mut frames, TEXT, OPEN)?;
+    add(&mut frames, CLOSE, b"")?;
+    let left = ServeEnd {
+        answered: 1,
+        fault: None,
+    };
+    assert_eq!(rt; served_narrowly(&rt, alloc, &service, &frames, 2), left);
+    assert!(rt; is_free(&rt, alloc, &service, 4)?);
     Ok(())
 }

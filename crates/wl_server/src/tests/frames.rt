@@ -2,7 +2,8 @@
 
 use crate::{ServeEnd, serve_one};
 use std::alloc::{AllocError, Global};
-use std::io::Read;
+use std::io;
+use std::io::{ErrorKind, Read, Write};
 use std::sync::Wait;
 use tungstenite::Duplex;
 use wl_service::Service;
@@ -45,6 +46,41 @@ pub fn served<R: Wait>(
     let stream = Duplex {
         reader: hello.chain(frames),
         writer: Vec::new(alloc),
+    };
+    serve_one(rt, alloc, stream, service)
+}
+
+/// A writer that takes so many writes, and then finds that the peer has left.
+#[derive(Drop)]
+struct Narrow {
+    writes: usize,
+}
+
+impl Write for Narrow {
+    fn write(&mut self, buf: &[u8]) -> io::Result<usize> {
+        if self.writes == 0 {
+            return Err(io::Error::from(ErrorKind::BrokenPipe));
+        }
+        self.writes -= 1;
+        Ok(buf.len())
+    }
+
+    fn flush(&mut self) -> io::Result<()> {
+        Ok(())
+    }
+}
+
+/// As `served`, but the stream takes so many writes, the handshake's with them.
+pub fn served_narrowly<R: Wait>(
+    rt: &R,
+    alloc: Global,
+    service: &Service,
+    frames: &[u8],
+    writes: usize,
+) -> ServeEnd {
+    let stream = Duplex {
+        reader: HELLO.chain(frames),
+        writer: Narrow { writes },
     };
     serve_one(rt, alloc, stream, service)
 }

@@ -1,7 +1,7 @@
 use Rattle.std.proofs.Common.{rules, ap, ◌∙◌}
 use Rattle.wl_server.proofs.Looks.{at_first, passed, looked}
 use Rattle.std.specs.BTreeMap.IterMut.{iter_mut_rest}
-use Rattle.wl_server.proofs.requests.Requests.changed.Goals as goal
+use Rattle.wl_server.proofs.requests.Requests.changed_of_all.Goals as goal
 
 pub loop-number-init : goal.loop-number-init
 loop-number-init c =

@@ -3,7 +3,7 @@ use Rattle.wl_types.specs.declared.phases.Phase.TheVariants.{Granted}
 use Rattle.wl_session.specs.Told.{IsByNumber}
 use Rattle.wl_server.proofs.Looks.{AreToCome}
 use Rattle.std.specs.BTreeMap.IterMut.{iter_mut_rest}
-use Rattle.wl_server.proofs.requests.Requests.changed.Given as goal
+use Rattle.wl_server.proofs.requests.Requests.changed_of_all.Given as goal
 
 abbrev pub invariant-loop-number : goal.invariant-loop-number
 invariant-loop-number l = record {

@@ -1,0 +1,20 @@
+use Rattle.std.proofs.Common.{arith, slice_index_or}
+use Rattle.wl_server.proofs.Looks.{one_more, none_more, taken_more}
+use Rattle.wl_server.proofs.requests.changed_of.Goals.{in-Some+in_ok-push, in_default}
+use Rattle.wl_server.proofs.requests.changed_of.Goals as goal
+
+pub loop-number-preserved : goal.loop-number-preserved
+loop-number-preserved c = elim c.match-news_of.branch [
+  | in-Some+in_ok-push w ↦ (
+      let both = one_more c.loop-number.looks.items c.loop-number.least (slice_index_or c.args.numbers.now c.loop-number.number-index 0) w.in-Some.phase c.loop-number.invariant.by_number c.loop-number.invariant.below (omega arith) in
+      record {
+        by_number = rw (w.looks-is, w.in_ok-push.ensures.items) both.0;
+        below = rw (w.looks-is, w.in_ok-push.ensures.items) both.1;
+        taken = rw (w.looks-is, w.in_ok-push.ensures.items) (taken_more c.loop-number.looks.items (slice_index_or c.args.numbers.now c.loop-number.number-index 0) w.in-Some.phase c.loop-number.invariant.taken w.in-Some.ensures);
+      })
+  | in_default w ↦ record {
+    by_number = rw w.looks-is c.loop-number.invariant.by_number;
+    below = rw w.looks-is (none_more c.loop-number.looks.items c.loop-number.least (slice_index_or c.args.numbers.now c.loop-number.number-index 0) c.loop-number.invariant.below (omega arith));
+    taken = rw w.looks-is c.loop-number.invariant.taken;
+  }
+]
