@@ -38,13 +38,20 @@ fn refused(is_as_before: bool) -> Result<(), Fail> {
 fn try_run(alloc: Global) -> Result<(), Fail> {
     let mut reader = in_pieces(SCRIPT, 100);
     let mut writer = writer_with_room(alloc, AMPLE, Full::Fails)?;
-    match run(alloc, &mut reader, &mut writer) {
-        Ok(2) if writer.bytes.as_slice() == REPLIES.as_bytes() => Ok(()),
-        Err(ScriptFault::Memory(answered @ 0..=2)) => {
-            let end = ENDS[answered as usize];
-            refused(writer.bytes.as_slice() == &REPLIES.as_bytes()[..end])
-        }
+    let result = run(alloc, &mut reader, &mut writer);
+    let written = writer.bytes.as_slice();
+    match result {
+        Ok(2) if written == REPLIES.as_bytes() => Ok(()),
+        Err(ScriptFault::Memory(answered)) => refused(is_answered(written, answered)),
         _ => refused(false),
+    }
+}
+
+/// Whether just the replies to so many lines are written.
+fn is_answered(written: &[u8], answered: u64) -> bool {
+    match ENDS.get(answered as usize) {
+        Some(end) => written.len() == *end && REPLIES.as_bytes().starts_with(written),
+        None => false,
     }
 }
 
