@@ -1,5 +1,7 @@
 //! What the contracts can't show: that calls succeed with ample memory, and worked histories.
 
+mod growth;
+
 use crate::{AuditFault, Book, Entry, audit};
 use std::alloc::Global;
 use std::test::Fail;

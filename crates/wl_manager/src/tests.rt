@@ -2,6 +2,7 @@
 //! ample memory, and races.
 
 mod agents;
+mod growth;
 mod threads;
 
 use crate::{Agent, Loose, Manager, Visitor};

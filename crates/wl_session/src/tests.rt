@@ -1,5 +1,7 @@
 //! Whole replies of a session, in the order in which an agent would read them.
 
+mod growth;
+
 use crate::{Action, Plan, Session, tells};
 use std::alloc::Global;
 use std::test::Fail;
@@ -178,25 +180,4 @@ fn a_message_with_a_fault_is_answered(rt: HostRuntime) -> Result<(), Fail> {
         )
     );
     Ok(())
-}
-
-/// Whichever growth is refused, the session is as it was, and answers the same when it is asked again.
-#[test]
-fn a_refused_growth_changes_nothing(rt: HostRuntime) -> Result<(), Fail> {
-    let mut session = Session::new(rt.alloc());
-    for _ in 0..2 {
-        let asked = session.finish_changed(Some(2), Outcome::Request(1), &[(1, Phase::Taken)]);
-        match asked {
-            Ok(text) => {
-                assert_eq!(rt;
-                    text.as_str(),
-                    "{\"id\":2,\"notices\":[{\"phase\":\"granted\",\"request\":1}],\"ok\":{\"request\":1}}"
-                );
-                assert_eq!(rt; session.live(), [(1, Phase::Taken)].as_slice());
-                return Ok(());
-            }
-            Err(Memory) => assert!(rt; session.live().is_empty()),
-        }
-    }
-    Err("two growths were refused".into())
 }

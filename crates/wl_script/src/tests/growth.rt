@@ -1,29 +1,80 @@
-//! Each growth refused in turn: run this test with the first allocation failing, the second, and so on.
+//! Each growth refused in turn, as tests/refuse_growths has it: it makes the N-th growth of each test fail. A test spends
+//! none to three growths first, so that each N refuses four. One that met a refusal fails with one of two texts.
 
-use super::fakes::{AMPLE, ENDS, Full, REPLIES, SCRIPT, in_pieces, writer_with_room};
+use super::fakes::{AMPLE, Full, in_pieces, writer_with_room};
 use crate::{ScriptFault, run};
+use std::alloc::Global;
 use std::test::Fail;
+use wl_types::{Memory, Text};
+
+const SCRIPT: &[u8] = b"{\"agent\":\"a\",\"id\":1,\"op\":\"open\",\"url\":\"https://a.test/\"}
+{\"agent\":\"a\",\"id\":2,\"name\":\"db\",\"op\":\"request\"}
+";
+
+const REPLIES: &str = "{\"id\":1,\"notices\":[],\"ok\":{\"client\":\"client-1\"}}
+{\"id\":2,\"notices\":[{\"phase\":\"granted\",\"request\":1}],\"ok\":{\"request\":1}}
+";
+
+/// Where the replies end.
+const ENDS: [usize; 3] = [0, 49, 121];
+
+fn spend(alloc: Global, growths: usize) -> Result<(), Memory> {
+    for _ in 0..growths {
+        let _spent = Text::of(alloc, "spent")?;
+    }
+    Ok(())
+}
+
+/// How a test ends that met a refusal.
+fn refused(is_as_before: bool) -> Result<(), Fail> {
+    if is_as_before {
+        Err(Fail::new("refused, and all is as before"))
+    } else {
+        Err(Fail::new("refused, and something changed"))
+    }
+}
+
+/// A run that is refused memory says how many lines were answered, and just their replies are written.
+fn try_run(alloc: Global) -> Result<(), Fail> {
+    let mut reader = in_pieces(SCRIPT, 100);
+    let mut writer = writer_with_room(alloc, AMPLE, Full::Fails)?;
+    let result = run(alloc, &mut reader, &mut writer);
+    let written = writer.bytes.as_slice();
+    match result {
+        Ok(2) if written == REPLIES.as_bytes() => Ok(()),
+        Err(ScriptFault::Memory(answered)) => refused(is_answered(written, answered)),
+        _ => refused(false),
+    }
+}
+
+/// Whether just the replies to so many lines are written.
+fn is_answered(written: &[u8], answered: u64) -> bool {
+    match ENDS.get(answered as usize) {
+        Some(end) => written.len() == *end && REPLIES.as_bytes().starts_with(written),
+        None => false,
+    }
+}
 
 #[test]
 fn a_refused_growth_says_what_was_answered(rt: HostRuntime) -> Result<(), Fail> {
-    let mut reader = in_pieces(SCRIPT, 2);
-    let Ok(mut writer) = writer_with_room(rt.alloc(), AMPLE, Full::Fails) else {
-        return Ok(());
-    };
-    let answered = match run(rt.alloc(), &mut reader, &mut writer) {
-        Ok(lines) => {
-            assert_eq!(rt; lines, 3);
-            lines
-        }
-        Err(ScriptFault::Memory(lines)) => lines,
-        Err(_) => {
-            assert!(rt; false);
-            0
-        }
-    };
-    assert!(rt; answered <= 3);
-    let end = ENDS[answered as usize];
-    assert!(rt; end <= REPLIES.len());
-    assert!(rt; writer.bytes.as_slice() == &REPLIES.as_bytes()[..end]);
-    Ok(())
+    spend(rt.alloc(), 0)?;
+    try_run(rt.alloc())
+}
+
+#[test]
+fn a_refused_growth_says_what_was_answered_after_one(rt: HostRuntime) -> Result<(), Fail> {
+    spend(rt.alloc(), 1)?;
+    try_run(rt.alloc())
+}
+
+#[test]
+fn a_refused_growth_says_what_was_answered_after_two(rt: HostRuntime) -> Result<(), Fail> {
+    spend(rt.alloc(), 2)?;
+    try_run(rt.alloc())
+}
+
+#[test]
+fn a_refused_growth_says_what_was_answered_after_three(rt: HostRuntime) -> Result<(), Fail> {
+    spend(rt.alloc(), 3)?;
+    try_run(rt.alloc())
 }

@@ -1,0 +1,70 @@
+//! Each growth refused in turn, as tests/refuse_growths has it: it makes the N-th growth of each test fail. A test spends
+//! none to three growths first, so that each N refuses four. One that met a refusal fails with one of two texts.
+
+use super::{ask, opening};
+use crate::{Command, LockCore, PlainCore, Reply, apply};
+use std::alloc::Global;
+use std::test::Fail;
+use wl_types::{Kind, Memory, Mode, Refusal, Text};
+
+fn spend(alloc: Global, growths: usize) -> Result<(), Memory> {
+    for _ in 0..growths {
+        let _spent = Text::of(alloc, "spent")?;
+    }
+    Ok(())
+}
+
+/// How a test ends that met a refusal.
+fn refused(is_as_before: bool) -> Result<(), Fail> {
+    if is_as_before {
+        Err(Fail::new("refused, and all is as before"))
+    } else {
+        Err(Fail::new("refused, and something changed"))
+    }
+}
+
+fn lacks_memory(reply: &Reply) -> bool {
+    matches!(reply, Reply::Refused(Refusal::Memory))
+}
+
+/// A command that is refused memory leaves the core as it was, and is done when it is asked again.
+fn try_command(core: &mut PlainCore, command: &Command) -> Result<(), Fail> {
+    let before = core.copy_plain()?;
+    if !lacks_memory(&apply(core, command)) {
+        return Ok(());
+    }
+    let is_as_before = *core == before && core.changes().is_empty();
+    refused(is_as_before && !lacks_memory(&apply(core, command)))
+}
+
+fn try_commands(alloc: Global) -> Result<(), Fail> {
+    let mut core = opening(alloc);
+    let wanted = Command::Request(1, ask(alloc, "db", Mode::Exclusive)?);
+    try_command(&mut core, &Command::Enter(Kind::Window))?;
+    try_command(&mut core, &Command::NewSignal(1))?;
+    try_command(&mut core, &wanted)
+}
+
+#[test]
+fn a_refused_growth_changes_nothing(rt: HostRuntime) -> Result<(), Fail> {
+    spend(rt.alloc(), 0)?;
+    try_commands(rt.alloc())
+}
+
+#[test]
+fn a_refused_growth_changes_nothing_after_one(rt: HostRuntime) -> Result<(), Fail> {
+    spend(rt.alloc(), 1)?;
+    try_commands(rt.alloc())
+}
+
+#[test]
+fn a_refused_growth_changes_nothing_after_two(rt: HostRuntime) -> Result<(), Fail> {
+    spend(rt.alloc(), 2)?;
+    try_commands(rt.alloc())
+}
+
+#[test]
+fn a_refused_growth_changes_nothing_after_three(rt: HostRuntime) -> Result<(), Fail> {
+    spend(rt.alloc(), 3)?;
+    try_commands(rt.alloc())
+}

@@ -1,0 +1,80 @@
+//! Each growth refused in turn, as tests/refuse_growths has it: it makes the N-th growth of each test fail. A test spends
+//! none to three growths first, so that each N refuses four. One that met a refusal fails with one of two texts.
+
+use super::{ask, opening};
+use crate::Book;
+use std::alloc::Global;
+use std::test::Fail;
+use wl_core::{Command, LockCore, PlainCore, Reply, apply};
+use wl_types::{Kind, Memory, Refusal, Text};
+
+fn spend(alloc: Global, growths: usize) -> Result<(), Memory> {
+    for _ in 0..growths {
+        let _spent = Text::of(alloc, "spent")?;
+    }
+    Ok(())
+}
+
+/// How a test ends that met a refusal.
+fn refused(is_as_before: bool) -> Result<(), Fail> {
+    if is_as_before {
+        Err(Fail::new("refused, and all is as before"))
+    } else {
+        Err(Fail::new("refused, and something changed"))
+    }
+}
+
+fn lacks_memory(reply: &Reply) -> bool {
+    matches!(reply, Reply::Refused(Refusal::Memory))
+}
+
+/// A command that is refused memory leaves the book as it was, and is done and recorded when it is asked again.
+fn try_command(book: &mut Book<PlainCore>, command: &Command) -> Result<(), Fail> {
+    let before = book.copy_plain()?;
+    let entries = book.len();
+    if !lacks_memory(&apply(book, command)) {
+        return Ok(());
+    }
+    let is_as_before = book.changes().is_empty() && book.len() == entries;
+    let is_same_state = book.copy_plain()? == before;
+    let is_done_now = !lacks_memory(&apply(book, command)) && book.len() > entries;
+    refused(is_as_before && is_same_state && is_done_now)
+}
+
+fn try_commands(alloc: Global) -> Result<(), Fail> {
+    let mut book = opening(alloc);
+    let wanted = Command::Request(1, ask(alloc, None)?);
+    try_command(&mut book, &Command::Enter(Kind::Window))?;
+    try_command(&mut book, &Command::SetActive(1, true))?;
+    try_command(&mut book, &Command::NewSignal(1))?;
+    try_command(&mut book, &wanted)?;
+    if book.cut().is_ok() {
+        return Ok(());
+    }
+    let is_as_before = book.len() == 4 && book.total() == 4;
+    refused(is_as_before && book.cut()?.len() == 4)
+}
+
+#[test]
+fn a_refused_growth_is_not_recorded(rt: HostRuntime) -> Result<(), Fail> {
+    spend(rt.alloc(), 0)?;
+    try_commands(rt.alloc())
+}
+
+#[test]
+fn a_refused_growth_is_not_recorded_after_one(rt: HostRuntime) -> Result<(), Fail> {
+    spend(rt.alloc(), 1)?;
+    try_commands(rt.alloc())
+}
+
+#[test]
+fn a_refused_growth_is_not_recorded_after_two(rt: HostRuntime) -> Result<(), Fail> {
+    spend(rt.alloc(), 2)?;
+    try_commands(rt.alloc())
+}
+
+#[test]
+fn a_refused_growth_is_not_recorded_after_three(rt: HostRuntime) -> Result<(), Fail> {
+    spend(rt.alloc(), 3)?;
+    try_commands(rt.alloc())
+}
