@@ -1,7 +1,7 @@
 //! The same random commands on the indexed core and on the plain one.
 
-use super::{opening, plain_opening};
-use crate::index::IndexCore;
+use super::opening;
+use crate::IndexCore;
 use std::alloc::Global;
 use std::test::Fail;
 use wl_core::{Command, LockCore, PlainCore, Reply, apply};
@@ -13,6 +13,7 @@ const COMMANDS: u64 = 400;
 const SEEDS: u64 = 40;
 
 /// Numbers that look random: a xorshift generator.
+#[derive(Drop)]
 struct Dice {
     state: u64,
 }
@@ -121,8 +122,8 @@ fn same_core(plain: &PlainCore, index: &IndexCore) -> Result<bool, Memory> {
 
 /// The first step after which the cores differ, if they do.
 fn first_difference(alloc: Global, seed: u64) -> Result<Option<u64>, Memory> {
-    let mut index = opening(alloc);
-    let mut plain = plain_opening(alloc);
+    let mut index: IndexCore = opening(alloc);
+    let mut plain: PlainCore = opening(alloc);
     let mut dice = Dice { state: seed };
     let mut last = Last {
         agent: 0,
