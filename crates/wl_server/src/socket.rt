@@ -3,6 +3,7 @@
 use crate::ServeFault;
 use crate::link::{Data, Link, Sending};
 use std::alloc::Global;
+use std::io;
 use std::io::{ErrorKind, Read, Write};
 use std::sync::Wait;
 use tungstenite::handshake::HandshakeError;
@@ -17,18 +18,52 @@ const READ: usize = 8_192;
 /// The messages that are looked at for the close frame of a peer that has left.
 const UNREAD: u32 = 1_024;
 
+/// A stream, whose writes go nowhere once its peer has left: else the WebSocket would send before each read what it
+/// couldn't send.
+#[derive(Drop)]
+struct Line<S> {
+    stream: S,
+    is_left: bool,
+}
+
+impl<S: Read> Read for Line<S> {
+    fn read(&mut self, buf: &mut [u8]) -> io::Result<usize> {
+        self.stream.read(buf)
+    }
+}
+
+impl<S: Write> Write for Line<S> {
+    fn write(&mut self, buf: &[u8]) -> io::Result<usize> {
+        if self.is_left {
+            return Ok(buf.len());
+        }
+        self.stream.write(buf)
+    }
+
+    fn flush(&mut self) -> io::Result<()> {
+        if self.is_left {
+            return Ok(());
+        }
+        self.stream.flush()
+    }
+}
+
 /// A WebSocket of a peer that asked for one.
 #[derive(Drop)]
 pub struct Socket<S> {
     alloc: Global,
-    inner: WebSocket<S, NoMask>,
+    inner: WebSocket<Line<S>, NoMask>,
     // The peer sent a close frame. Whatever fails from then on is no fault.
     closing: bool,
 }
 
 /// Shakes hands with the peer of a stream.
 pub fn accept<S: Read + Write + Drop>(alloc: Global, stream: S) -> Result<Socket<S>, ServeFault> {
-    match tungstenite::accept(alloc, stream) {
+    let line = Line {
+        stream,
+        is_left: false,
+    };
+    match tungstenite::accept(alloc, line) {
         Ok(accepted) => {
             let mut inner = accepted;
             inner.set_config(
@@ -70,6 +105,7 @@ fn has_left(error: &Error) -> bool {
 impl<S: Read + Write + Drop> Socket<S> {
     /// Whether a peer that has left sent a close frame, among what it sent last. The messages before it are let go.
     fn has_closed(&mut self) -> bool {
+        self.inner.get_mut().is_left = true;
         for _ in 0..UNREAD {
             match self.inner.read() {
                 Ok(Message::Close(_)) => return true,

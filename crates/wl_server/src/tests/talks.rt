@@ -14,7 +14,7 @@ use wl_service::Service;
 use wl_types::{Ask, Kind, Mode, Phase, Text};
 
 /// What a peer does, or what becomes of the link to it.
-#[derive(Clone, Copy)]
+#[derive(Clone, Copy, Drop)]
 enum Event {
     Says(&'static [u8]),
     Closes,
@@ -23,6 +23,7 @@ enum Event {
 
 /// A link to a peer that does these things, and is gone then. It takes so many replies; at the next one its peer is
 /// found to have closed, or this fault.
+#[derive(Drop)]
 struct Script<'a> {
     events: &'a [Event],
     next: usize,
