@@ -119,11 +119,11 @@ fn each_conversation_ends_alone_and_with_its_agent(rt: HostRuntime) -> Result<()
         (Event::Closes, 1, stream, 1, stream),
         (Event::Closes, 0, memory, 0, memory),
     ];
-    let mut opened = 1;
+    let mut opened: u64 = 1;
     for (last, takes, lost, answered, fault) in cases {
         let end = ServeEnd { answered, fault };
         assert_eq!(rt; ended(&rt, alloc, &service, last, takes, lost), end);
-        opened += 2;
+        opened = opened.saturating_add(2);
         assert!(rt; is_free(&rt, alloc, &service, opened)?);
         assert_eq!(rt; ticket.look(), Phase::Granted);
     }
