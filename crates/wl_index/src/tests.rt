@@ -2,6 +2,7 @@
 //! add to what the checker carries through a function.
 
 mod random;
+mod runs;
 
 use crate::IndexCore;
 use std::alloc::Global;

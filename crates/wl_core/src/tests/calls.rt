@@ -1,12 +1,9 @@
 //! Each call of a core once.
 
 use super::{ask, opening};
-use crate::{
-    AbortAnswer, AgentRow, HeldRow, LockCore, PendingRow, PlainDraft, ReleaseAnswer, SignalRow,
-    TakeAnswer,
-};
+use crate::{AbortAnswer, LockCore, ReleaseAnswer, TakeAnswer};
 use std::test::Fail;
-use wl_types::{Change, Kind, Mode, Name, Numbers, Phase, Reason, Refusal};
+use wl_types::{Change, Kind, Mode, Phase, Reason, Refusal};
 
 #[test]
 fn each_call_answers(rt: HostRuntime) -> Result<(), Fail> {
@@ -76,53 +73,5 @@ fn a_copy_equals_its_origin_whatever_changed_last(rt: HostRuntime) -> Result<(),
     assert!(rt; copy == core);
     core.take(1);
     assert!(rt; copy != core);
-    Ok(())
-}
-
-#[test]
-fn a_draft_may_get_more_rows_than_announced(rt: HostRuntime) -> Result<(), Fail> {
-    let alloc = rt.alloc();
-    let mut core = opening(alloc);
-    core.open(Kind::Window)?;
-    core.new_signal(1)?;
-    core.request(1, &ask(alloc, "db", Mode::Shared)?)?;
-    core.request(1, &ask(alloc, "db", Mode::Exclusive)?)?;
-    let next = Numbers {
-        agent: 2,
-        request: 3,
-        signal: 2,
-    };
-    let name = Name::of(alloc, "db")?;
-    let mut draft = PlainDraft::new(alloc, next, 0)?;
-    draft.agent(AgentRow {
-        number: 1,
-        kind: Kind::Window,
-        active: true,
-    })?;
-    draft.signal(SignalRow {
-        agent: 1,
-        number: 1,
-        reason: None,
-    })?;
-    draft.name(&name)?;
-    draft.held(HeldRow {
-        number: 1,
-        agent: 1,
-        name: name.copy(alloc)?,
-        mode: Mode::Shared,
-        signal: None,
-        taken: false,
-    })?;
-    draft.pending(PendingRow {
-        number: 2,
-        agent: 1,
-        name: name.copy(alloc)?,
-        mode: Mode::Exclusive,
-        signal: None,
-    })?;
-    let mut written = draft.done()?;
-    assert!(rt; written == core);
-    assert!(rt; written.release(1, 1) == ReleaseAnswer::Released);
-    assert_eq!(rt; written.changes().len(), 2);
     Ok(())
 }

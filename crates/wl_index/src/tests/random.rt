@@ -100,7 +100,7 @@ fn same_snapshot(left: &Snapshot, right: &Snapshot) -> bool {
         && left.pending.as_slice() == right.pending.as_slice()
 }
 
-fn same_reply(left: &Reply, right: &Reply) -> bool {
+pub(super) fn same_reply(left: &Reply, right: &Reply) -> bool {
     match (left, right) {
         (Reply::Agent(left), Reply::Agent(right)) => left == right,
         (Reply::Signal(left), Reply::Signal(right)) => left == right,
