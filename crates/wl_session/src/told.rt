@@ -3,7 +3,7 @@
 //! It is a sorted `Vec`, searched by halves. A new request has the highest number and goes to the end. A request
 //! that leaves from the middle moves those behind it.
 
-ghost use Rattle.std.specs.Prelude.{◌≡◌, ◌+◌, ◌<◌, ◌≤◌, length, filter, map, vec_len, vec_capacity, IfOk, IfErr, OnErr};
+ghost use Rattle.std.specs.Prelude.{◌≡◌, ◌+◌, ◌<◌, ◌≤◌, length, filter, fold, map, vec_len, vec_capacity, IfOk, IfErr, OnErr};
 ghost use Rattle.wl_session.specs.Places.{IsAt, IsGapFor};
 ghost use Rattle.wl_session.specs.Told.{IsByNumber, IsToldList, is_live, put, phase_in, phase_told, is_news, news, released, completed, still_told};
 
@@ -11,6 +11,10 @@ use crate::outcomes::is_new;
 use std::alloc::Global;
 use wl_codec::{Notice, Notices, Outcome};
 use wl_types::{Memory, Phase};
+
+/// How many looks are told one by one. Of more the ends leave together, since each that leaves alone moves those
+/// behind it.
+const FEW: usize = 8;
 
 /// Where the number stands in the list, or where it would go.
 fn place(list: &[(u64, Phase)], number: u64) -> Result<usize, usize>
@@ -72,6 +76,25 @@ pub(crate) fn news(
     Ok(notices)
 }
 
+/// Puts a look into a list with room for it.
+fn put_in_room(list: &mut Vec<(u64, Phase)>, look: (u64, Phase))
+    requires by_number { IsByNumber list.old.items }
+    requires room { vec_len list.old < vec_capacity list.old }
+    ensures items { list.new.items ≡ put list.old.items look }
+    ensures by_number { IsByNumber list.new.items }
+    ensures one_more { vec_len list.new ≤ vec_len list.old + 1 }
+    ensures capacity { vec_capacity list.old ≤ vec_capacity list.new }
+{
+    match place(list.as_slice(), look.0) {
+        Ok(at) => list[at] = look,
+        Err(at) => {
+            let placed = list.insert(at, look);
+            let has_room = placed.is_ok();
+            prove!(has_room);
+        }
+    }
+}
+
 /// Puts a look into a told list. An end leaves the list instead.
 fn tell_one(told: &mut Vec<(u64, Phase)>, look: (u64, Phase))
     requires list { IsToldList told.old.items }
@@ -99,8 +122,8 @@ fn tell_one(told: &mut Vec<(u64, Phase)>, look: (u64, Phase))
     }
 }
 
-/// Puts what was found into a told list, which ends leave. It needs no memory.
-pub(crate) fn tell(told: &mut Vec<(u64, Phase)>, looks: &[(u64, Phase)])
+/// Puts looks into a told list, one after another, which ends leave.
+fn tell_each(told: &mut Vec<(u64, Phase)>, looks: &[(u64, Phase)])
     requires list { IsToldList told.old.items }
     requires room { vec_len told.old + length looks.now ≤ vec_capacity told.old }
     ensures items { told.new.items ≡ still_told told.old.items looks.now }
@@ -109,6 +132,32 @@ pub(crate) fn tell(told: &mut Vec<(u64, Phase)>, looks: &[(u64, Phase)])
     for look in looks {
         tell_one(told, *look);
     }
+}
+
+/// Puts looks into a list with room for them.
+fn put_all(list: &mut Vec<(u64, Phase)>, looks: &[(u64, Phase)])
+    requires by_number { IsByNumber list.old.items }
+    requires room { vec_len list.old + length looks.now ≤ vec_capacity list.old }
+    ensures items { list.new.items ≡ fold put list.old.items looks.now }
+    ensures by_number { IsByNumber list.new.items }
+{
+    for look in looks {
+        put_in_room(list, *look);
+    }
+}
+
+/// Puts what was found into a told list, which ends leave. It needs no memory.
+pub(crate) fn tell(told: &mut Vec<(u64, Phase)>, looks: &[(u64, Phase)])
+    requires list { IsToldList told.old.items }
+    requires room { vec_len told.old + length looks.now ≤ vec_capacity told.old }
+    ensures items { told.new.items ≡ still_told told.old.items looks.now }
+    ensures list { IsToldList told.new.items }
+{
+    if looks.len() <= FEW {
+        return tell_each(told, looks);
+    }
+    put_all(told, looks);
+    told.retain(|look| !look.1.is_end());
 }
 
 /// The list with each of its requests released.
@@ -128,10 +177,8 @@ fn put(list: &mut Vec<(u64, Phase)>, look: (u64, Phase)) -> Result<(), Memory>
     ensures ok { IfOk result (λ _. list.new.items ≡ put list.old.items look) }
     ensures by_number { IsByNumber list.new.items }
 {
-    match place(list.as_slice(), look.0) {
-        Ok(at) => list[at] = look,
-        Err(at) => list.insert(at, look)?,
-    }
+    list.reserve(1)?;
+    put_in_room(list, look);
     Ok(())
 }
 

@@ -1,16 +1,15 @@
-use Rattle.std.proofs.Common.{sym, arith}
-use Rattle.wl_types.specs.declared.phases.Phase.TheVariants.{Pending}
-use Rattle.wl_session.proofs.Edits.{still_told_none, still_told_more}
+use Rattle.std.proofs.Common.{◌≡◌, ap, ◌∙◌, sym, subst, filter, rules}
+use Rattle.std.proofs.lemmas.Fn.{filter_same}
+use Rattle.wl_session.specs.Told.{IsByNumber, IsToldList, is_live}
+use Rattle.wl_session.proofs.Edits.{told_list_left}
 use Rattle.wl_session.proofs.told.tell.Goals as goal
 
-pub loop-look-init : goal.loop-look-init
-loop-look-init c = record { so_far = sym (still_told_none _ c.requires.list); list = c.requires.list; room = omega arith }
+pub returns-clause-items : goal.returns-clause-items
+returns-clause-items c =
+    let kept : c.retain.new.self.items ≡ filter is_live c.put_all.new.list.items = filter_same _ _ _ (λ x b f' k. search rules) _ _ c.retain.ensures.filtered in
+    kept ∙ ap (filter is_live) c.put_all.ensures.items
 
-pub loop-look-preserved : goal.loop-look-preserved
-loop-look-preserved c =
-    let inv = c.loop-look.invariant in
-    record {
-      so_far = still_told_more c.args.told.now.items c.args.looks.now _ _ c.loop-look.look-index (0, Pending) c.loop-look-test.true inv.so_far c.tell_one.ensures.items;
-      list = c.tell_one.ensures.list;
-      room = omega (arith, inv.room, c.tell_one.ensures.one_more, c.tell_one.ensures.room);
-    }
+pub returns-clause-list : goal.returns-clause-list
+returns-clause-list c =
+    let kept : c.retain.new.self.items ≡ filter is_live c.put_all.new.list.items = filter_same _ _ _ (λ x b f' k. search rules) _ _ c.retain.ensures.filtered in
+    subst IsToldList (sym kept) (told_list_left c.put_all.new.list.items c.put_all.ensures.by_number)

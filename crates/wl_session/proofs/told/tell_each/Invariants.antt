@@ -1,6 +1,6 @@
 use Rattle.std.proofs.Common.{◌≡◌, ◌+◌, ◌≤◌, length, take, vec_len, vec_capacity}
 use Rattle.wl_session.specs.Told.{IsToldList, still_told}
-use Rattle.wl_session.proofs.told.tell.Given as goal
+use Rattle.wl_session.proofs.told.tell_each.Given as goal
 
 abbrev pub invariant-loop-look : goal.invariant-loop-look
 invariant-loop-look l = record {
