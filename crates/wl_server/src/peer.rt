@@ -9,7 +9,7 @@ use crate::requests::Requests;
 use std::alloc::Global;
 use std::marker::Model;
 use std::sync::Wait;
-use wl_codec::read_message;
+use wl_codec::{Scratch, read_message_with};
 use wl_service::{Client, Service};
 use wl_session::{Plan, Session};
 use wl_types::Memory;
@@ -23,6 +23,8 @@ pub struct Peer {
     session: Session,
     client: Option<Client>,
     requests: Requests,
+    // Lent to the reading of each message.
+    scratch: Scratch,
 }
 
 impl Model for Peer {
@@ -43,6 +45,7 @@ impl Peer {
             session: Session::new(alloc),
             client: None,
             requests: Requests::new(alloc),
+            scratch: Scratch::new(alloc),
         }
     }
 
@@ -74,7 +77,7 @@ impl Peer {
     ) -> Result<String, Memory>
         ensures { IfOk result (λ text. Answers self.old message.now (string_bytes text) self.new) }
     {
-        let reading = read_message(self.alloc, message)?;
+        let reading = read_message_with(self.alloc, message, &mut self.scratch)?;
         let Plan { id, action } = self.session.plan(reading);
         let outcome = outcome_of(
             rt,
@@ -97,6 +100,7 @@ impl Peer {
             session: _session,
             client,
             requests: _requests,
+            scratch: _scratch,
         } = self;
         if let Some(client) = client {
             let _ = client.terminate(rt);

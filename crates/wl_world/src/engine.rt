@@ -11,8 +11,8 @@ use crate::labels::serve_named;
 use crate::origin::Origin;
 use crate::serve_label::plain_text;
 use std::alloc::Global;
-use std::collections::BTreeMap;
-use wl_codec::{Line, Outcome, read_line};
+use std::collections::{BTreeMap, HashMap};
+use wl_codec::{Line, Outcome, Scratch, read_line_with};
 use wl_core::LockCore;
 use wl_origin::OriginKey;
 use wl_types::Memory;
@@ -23,7 +23,9 @@ use wl_types::Memory;
 pub struct Engine<C: LockCore> {
     alloc: Global,
     realm: BTreeMap<OriginKey, Origin<C>>,
-    labels: BTreeMap<String, Label>,
+    labels: HashMap<String, Label>,
+    // Lent to the reading of each line.
+    scratch: Scratch,
 }
 
 impl<C: LockCore<Seed = ()>> Engine<C> {
@@ -34,7 +36,8 @@ impl<C: LockCore<Seed = ()>> Engine<C> {
         Engine {
             alloc,
             realm: BTreeMap::new(alloc),
-            labels: BTreeMap::new(alloc),
+            labels: HashMap::new(alloc),
+            scratch: Scratch::new(alloc),
         }
     }
 
@@ -45,7 +48,7 @@ impl<C: LockCore<Seed = ()>> Engine<C> {
         ensures reply { IfOk result (λ text. string_bytes text ≡ reply (world_of C.no_entries self.old) line.now) }
         ensures next { OnOk result (world_of C.no_entries self.new ≡ next (world_of C.no_entries self.old) line.now) }
     {
-        match read_line(self.alloc, line)? {
+        match read_line_with(self.alloc, line, &mut self.scratch)? {
             Line::Bad(id, fault) => plain_text(self.alloc, id, Outcome::Fault(fault)),
             Line::Good(name, message) => serve_named(
                 self.alloc,
