@@ -95,7 +95,8 @@ impl<C: LockCore, T: Count> Manager<C, T> {
         }
     }
 
-    /// Shows the entries: all of them, or of a journal that was cut those since then.
+    /// Calls the visitor once, under the lock: its `visit` while the journal has all entries, and once it was cut its
+    /// `visit_since`, with those since the last cut.
     pub fn visit<R: Wait, V: Visitor>(&self, rt: &R, visitor: &mut V) {
         let locked = self.locked.lock(rt);
         if locked.is_whole() {

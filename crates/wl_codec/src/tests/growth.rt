@@ -1,23 +1,16 @@
-//! Each growth refused in turn, as tests/refuse_growths has it: it makes the N-th growth of each test fail. A test spends
-//! none to three growths first, so that each N refuses four. One that met a refusal fails with one of two texts.
+//! Each growth refused in turn, as tests/refuse_growths has it: it makes the N-th growth of a run of the test fail. A run
+//! that met a refusal fails with one of two texts.
 
 use crate::{Body, Line, Notice, Notices, Outcome, WireReply, read_line, write_reply};
 use std::alloc::Global;
 use std::test::Fail;
-use wl_types::{Memory, Mode, Phase, Text};
+use wl_types::{Memory, Mode, Phase};
 
 const LINE: &[u8] =
     b"{\"agent\":\"a\",\"id\":1,\"name\":\"db\",\"op\":\"request\",\"options\":{\"mode\":\"shared\"}}";
 
 const TEXT: &str =
     "{\"id\":1,\"notices\":[{\"phase\":\"granted\",\"request\":1}],\"ok\":{\"request\":1}}";
-
-fn spend(alloc: Global, growths: usize) -> Result<(), Memory> {
-    for _ in 0..growths {
-        let _spent = Text::of(alloc, "spent")?;
-    }
-    Ok(())
-}
 
 /// How a test ends that met a refusal.
 fn refused(is_as_before: bool) -> Result<(), Fail> {
@@ -64,24 +57,5 @@ fn try_both(alloc: Global) -> Result<(), Fail> {
 
 #[test]
 fn a_refused_growth_is_no_fault(rt: HostRuntime) -> Result<(), Fail> {
-    spend(rt.alloc(), 0)?;
-    try_both(rt.alloc())
-}
-
-#[test]
-fn a_refused_growth_is_no_fault_after_one(rt: HostRuntime) -> Result<(), Fail> {
-    spend(rt.alloc(), 1)?;
-    try_both(rt.alloc())
-}
-
-#[test]
-fn a_refused_growth_is_no_fault_after_two(rt: HostRuntime) -> Result<(), Fail> {
-    spend(rt.alloc(), 2)?;
-    try_both(rt.alloc())
-}
-
-#[test]
-fn a_refused_growth_is_no_fault_after_three(rt: HostRuntime) -> Result<(), Fail> {
-    spend(rt.alloc(), 3)?;
     try_both(rt.alloc())
 }

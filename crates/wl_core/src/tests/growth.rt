@@ -1,18 +1,11 @@
-//! Each growth refused in turn, as tests/refuse_growths has it: it makes the N-th growth of each test fail. A test spends
-//! none to three growths first, so that each N refuses four. One that met a refusal fails with one of two texts.
+//! Each growth refused in turn, as tests/refuse_growths has it: it makes the N-th growth of a run of the test fail. A run
+//! that met a refusal fails with one of two texts.
 
 use super::{ask, opening};
 use crate::{Command, LockCore, PlainCore, Reply, apply};
 use std::alloc::Global;
 use std::test::Fail;
-use wl_types::{Kind, Memory, Mode, Refusal, Text};
-
-fn spend(alloc: Global, growths: usize) -> Result<(), Memory> {
-    for _ in 0..growths {
-        let _spent = Text::of(alloc, "spent")?;
-    }
-    Ok(())
-}
+use wl_types::{Kind, Mode, Refusal};
 
 /// How a test ends that met a refusal.
 fn refused(is_as_before: bool) -> Result<(), Fail> {
@@ -47,24 +40,5 @@ fn try_commands(alloc: Global) -> Result<(), Fail> {
 
 #[test]
 fn a_refused_growth_changes_nothing(rt: HostRuntime) -> Result<(), Fail> {
-    spend(rt.alloc(), 0)?;
-    try_commands(rt.alloc())
-}
-
-#[test]
-fn a_refused_growth_changes_nothing_after_one(rt: HostRuntime) -> Result<(), Fail> {
-    spend(rt.alloc(), 1)?;
-    try_commands(rt.alloc())
-}
-
-#[test]
-fn a_refused_growth_changes_nothing_after_two(rt: HostRuntime) -> Result<(), Fail> {
-    spend(rt.alloc(), 2)?;
-    try_commands(rt.alloc())
-}
-
-#[test]
-fn a_refused_growth_changes_nothing_after_three(rt: HostRuntime) -> Result<(), Fail> {
-    spend(rt.alloc(), 3)?;
     try_commands(rt.alloc())
 }

@@ -1,5 +1,5 @@
-//! Each growth refused in turn, as tests/refuse_growths has it: it makes the N-th growth of each test fail. A test spends
-//! none to three growths first, so that each N refuses four. One that met a refusal fails with one of two texts.
+//! Each growth refused in turn, as tests/refuse_growths has it: it makes the N-th growth of a run of the test fail. A run
+//! that met a refusal fails with one of two texts.
 
 use super::{Plain, Sum, ask};
 use crate::{Agent, Loose, Manager};
@@ -7,14 +7,7 @@ use std::alloc::Global;
 use std::sync::{Arc, Wait};
 use std::test::Fail;
 use wl_core::PlainCore;
-use wl_types::{Kind, Memory, Mode, Text};
-
-fn spend(alloc: Global, growths: usize) -> Result<(), Memory> {
-    for _ in 0..growths {
-        let _spent = Text::of(alloc, "spent")?;
-    }
-    Ok(())
-}
+use wl_types::{Kind, Mode};
 
 /// How a test ends that met a refusal.
 fn refused(is_as_before: bool) -> Result<(), Fail> {
@@ -66,24 +59,5 @@ fn try_calls<R: Wait>(rt: &R, alloc: Global) -> Result<(), Fail> {
 
 #[test]
 fn a_refused_growth_is_not_entered(rt: HostRuntime) -> Result<(), Fail> {
-    spend(rt.alloc(), 0)?;
-    try_calls(&rt, rt.alloc())
-}
-
-#[test]
-fn a_refused_growth_is_not_entered_after_one(rt: HostRuntime) -> Result<(), Fail> {
-    spend(rt.alloc(), 1)?;
-    try_calls(&rt, rt.alloc())
-}
-
-#[test]
-fn a_refused_growth_is_not_entered_after_two(rt: HostRuntime) -> Result<(), Fail> {
-    spend(rt.alloc(), 2)?;
-    try_calls(&rt, rt.alloc())
-}
-
-#[test]
-fn a_refused_growth_is_not_entered_after_three(rt: HostRuntime) -> Result<(), Fail> {
-    spend(rt.alloc(), 3)?;
     try_calls(&rt, rt.alloc())
 }

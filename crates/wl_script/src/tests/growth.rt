@@ -1,11 +1,10 @@
-//! Each growth refused in turn, as tests/refuse_growths has it: it makes the N-th growth of each test fail. A test spends
-//! none to three growths first, so that each N refuses four. One that met a refusal fails with one of two texts.
+//! Each growth refused in turn, as tests/refuse_growths has it: it makes the N-th growth of a run of the test fail. A run
+//! that met a refusal fails with one of two texts.
 
 use super::fakes::{AMPLE, Full, in_pieces, writer_with_room};
 use crate::{ScriptFault, run};
 use std::alloc::Global;
 use std::test::Fail;
-use wl_types::{Memory, Text};
 
 const SCRIPT: &[u8] = b"{\"agent\":\"a\",\"id\":1,\"op\":\"open\",\"url\":\"https://a.test/\"}
 {\"agent\":\"a\",\"id\":2,\"name\":\"db\",\"op\":\"request\"}
@@ -17,13 +16,6 @@ const REPLIES: &str = "{\"id\":1,\"notices\":[],\"ok\":{\"client\":\"client-1\"}
 
 /// Where the replies end.
 const ENDS: [usize; 3] = [0, 49, 121];
-
-fn spend(alloc: Global, growths: usize) -> Result<(), Memory> {
-    for _ in 0..growths {
-        let _spent = Text::of(alloc, "spent")?;
-    }
-    Ok(())
-}
 
 /// How a test ends that met a refusal.
 fn refused(is_as_before: bool) -> Result<(), Fail> {
@@ -57,24 +49,5 @@ fn is_answered(written: &[u8], answered: u64) -> bool {
 
 #[test]
 fn a_refused_growth_says_what_was_answered(rt: HostRuntime) -> Result<(), Fail> {
-    spend(rt.alloc(), 0)?;
-    try_run(rt.alloc())
-}
-
-#[test]
-fn a_refused_growth_says_what_was_answered_after_one(rt: HostRuntime) -> Result<(), Fail> {
-    spend(rt.alloc(), 1)?;
-    try_run(rt.alloc())
-}
-
-#[test]
-fn a_refused_growth_says_what_was_answered_after_two(rt: HostRuntime) -> Result<(), Fail> {
-    spend(rt.alloc(), 2)?;
-    try_run(rt.alloc())
-}
-
-#[test]
-fn a_refused_growth_says_what_was_answered_after_three(rt: HostRuntime) -> Result<(), Fail> {
-    spend(rt.alloc(), 3)?;
     try_run(rt.alloc())
 }

@@ -1,18 +1,11 @@
-//! Each growth refused in turn, as tests/refuse_growths has it: it makes the N-th growth of each test fail. A test spends
-//! none to three growths first, so that each N refuses four. One that met a refusal fails with one of two texts.
+//! Each growth refused in turn, as tests/refuse_growths has it: it makes the N-th growth of a run of the test fail. A run
+//! that met a refusal fails with one of two texts.
 
 use crate::Session;
 use std::alloc::Global;
 use std::test::Fail;
 use wl_codec::Outcome;
-use wl_types::{Memory, Phase, Text};
-
-fn spend(alloc: Global, growths: usize) -> Result<(), Memory> {
-    for _ in 0..growths {
-        let _spent = Text::of(alloc, "spent")?;
-    }
-    Ok(())
-}
+use wl_types::Phase;
 
 /// How a test ends that met a refusal.
 fn refused(is_as_before: bool) -> Result<(), Fail> {
@@ -44,24 +37,5 @@ fn try_reply(alloc: Global) -> Result<(), Fail> {
 
 #[test]
 fn a_refused_growth_tells_nothing(rt: HostRuntime) -> Result<(), Fail> {
-    spend(rt.alloc(), 0)?;
-    try_reply(rt.alloc())
-}
-
-#[test]
-fn a_refused_growth_tells_nothing_after_one(rt: HostRuntime) -> Result<(), Fail> {
-    spend(rt.alloc(), 1)?;
-    try_reply(rt.alloc())
-}
-
-#[test]
-fn a_refused_growth_tells_nothing_after_two(rt: HostRuntime) -> Result<(), Fail> {
-    spend(rt.alloc(), 2)?;
-    try_reply(rt.alloc())
-}
-
-#[test]
-fn a_refused_growth_tells_nothing_after_three(rt: HostRuntime) -> Result<(), Fail> {
-    spend(rt.alloc(), 3)?;
     try_reply(rt.alloc())
 }
