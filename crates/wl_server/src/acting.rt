@@ -5,6 +5,7 @@ ghost use Rattle.wl_codec.specs.declared.message.Body.{Body};
 ghost use Rattle.wl_codec.specs.declared.message.Body.TheVariants.{Enter, Request};
 ghost use Rattle.wl_server.specs.Peers.{IsOutcome, IsOutcomeOf};
 
+use crate::entered::Entered;
 use crate::requests::Requests;
 use std::alloc::Global;
 use std::sync::Wait;
@@ -26,7 +27,7 @@ fn refused(refusal: Refusal) -> Result<Outcome, Memory>
 fn enter<R: Wait>(
     rt: &R,
     service: &Service,
-    client: &mut Option<Client>,
+    entered: &mut Option<Entered>,
     url: &str,
     kind: Kind,
 ) -> Result<Outcome, Memory>
@@ -35,7 +36,10 @@ fn enter<R: Wait>(
     match service.open(rt, url, kind) {
         Ok(opened) => {
             let number = opened.client();
-            *client = Some(opened);
+            // An open session opens no second agent. If it did, its first would end.
+            if let Some(before) = entered.replace(Entered::new(opened)) {
+                let _ = before.end(rt);
+            }
             Ok(Outcome::Client(number))
         }
         Err(OpenFault::BadUrl) => Ok(Outcome::BadUrl),
@@ -115,23 +119,23 @@ fn act<R: Wait>(
     rt: &R,
     alloc: Global,
     service: &Service,
-    client: &mut Option<Client>,
+    entered: &mut Option<Entered>,
     requests: &mut Requests,
     body: Body,
 ) -> Result<Outcome, Memory>
     ensures { IfOk result (λ outcome. IsOutcomeOf body outcome) }
 {
     match body {
-        Body::Enter { url, kind } => enter(rt, service, client, url.as_str(), kind),
+        Body::Enter { url, kind } => enter(rt, service, entered, url.as_str(), kind),
         Body::Close => {
-            if let Some(leaving) = client.take() {
-                let _ = leaving.terminate(rt);
+            if let Some(leaving) = entered.take() {
+                let _ = leaving.end(rt);
             }
             *requests = Requests::new(alloc);
             Ok(Outcome::Closed)
         }
-        other => match client {
-            Some(client) => operate(rt, client, requests, other),
+        other => match entered {
+            Some(entered) => operate(rt, entered.client_mut(), requests, other),
             // An open session has a client.
             None => refused(Refusal::NoSuchAgent),
         },
@@ -143,7 +147,7 @@ pub fn outcome_of<R: Wait>(
     rt: &R,
     alloc: Global,
     service: &Service,
-    client: &mut Option<Client>,
+    entered: &mut Option<Entered>,
     requests: &mut Requests,
     action: Action,
 ) -> Result<Outcome, Memory>
@@ -151,6 +155,6 @@ pub fn outcome_of<R: Wait>(
 {
     match action {
         Action::Answer(outcome) => Ok(outcome),
-        Action::Act(body) => act(rt, alloc, service, client, requests, body),
+        Action::Act(body) => act(rt, alloc, service, entered, requests, body),
     }
 }

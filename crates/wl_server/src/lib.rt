@@ -7,6 +7,7 @@
 
 mod acting;
 mod crowd;
+mod entered;
 mod fault;
 mod lines;
 mod link;

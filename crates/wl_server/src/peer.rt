@@ -5,23 +5,24 @@ ghost use Rattle.wl_session.specs.Step.{closed};
 ghost use Rattle.wl_server.specs.Peers.{Answers};
 
 use crate::acting::outcome_of;
+use crate::entered::Entered;
 use crate::requests::Requests;
 use std::alloc::Global;
 use std::marker::Model;
 use std::sync::Wait;
 use wl_codec::{Scratch, read_message_with};
-use wl_service::{Client, Service};
+use wl_service::Service;
 use wl_session::{Plan, Session};
 use wl_types::Memory;
 
-/// The agent of a connection: the session with it, and once it opened the client and its requests. Contracts see the
+/// The agent of a connection: the session with it, and once it opened its client and its requests. Contracts see the
 /// session.
 ///
 /// A peer can't be dropped: it ends by `end`, or by an `answer` for which there is no memory.
 pub struct Peer {
     alloc: Global,
     session: Session,
-    client: Option<Client>,
+    entered: Option<Entered>,
     requests: Requests,
     // Lent to the reading of each message.
     scratch: Scratch,
@@ -43,7 +44,7 @@ impl Peer {
         Peer {
             alloc,
             session: Session::new(alloc),
-            client: None,
+            entered: None,
             requests: Requests::new(alloc),
             scratch: Scratch::new(alloc),
         }
@@ -83,11 +84,11 @@ impl Peer {
             rt,
             self.alloc,
             service,
-            &mut self.client,
+            &mut self.entered,
             &mut self.requests,
             action,
         )?;
-        let looks = self.requests.looks(self.client.as_ref(), &outcome)?;
+        let looks = self.requests.looks(self.entered.as_ref(), &outcome)?;
         let text = self.session.finish_changed(id, outcome, &looks)?;
         self.requests.tell(&looks);
         Ok(text)
@@ -98,12 +99,12 @@ impl Peer {
         let Peer {
             alloc: _alloc,
             session: _session,
-            client,
+            entered,
             requests: _requests,
             scratch: _scratch,
         } = self;
-        if let Some(client) = client {
-            let _ = client.terminate(rt);
+        if let Some(entered) = entered {
+            let _ = entered.end(rt);
         }
     }
 }

@@ -4,6 +4,7 @@ ghost use Rattle.std.specs.Prelude.{◌≡◌, ◌≢◌, All, IfOk, IfSome};
 ghost use Rattle.wl_types.specs.declared.phases.Phase.TheVariants.{Granted};
 ghost use Rattle.wl_session.specs.Told.{IsByNumber};
 
+use crate::entered::Entered;
 use std::alloc::Global;
 use std::collections::BTreeMap;
 use wl_cell::Taking;
@@ -105,14 +106,14 @@ impl Requests {
     /// What a reply of this outcome to this client looks at: nothing where it has no notices, else what changed.
     pub fn looks(
         &mut self,
-        client: Option<&Client>,
+        entered: Option<&Entered>,
         outcome: &Outcome,
     ) -> Result<Vec<(u64, Phase)>, Memory>
         ensures by_number { IfOk result (λ looks. IsByNumber looks.items) }
         ensures taken { IfOk result (λ looks. All (λ look. look.1 ≢ Granted) looks.items) }
     {
-        match client {
-            Some(client) if tells(outcome) => self.changed(client, outcome),
+        match entered {
+            Some(entered) if tells(outcome) => self.changed(entered.client(), outcome),
             _ => Ok(Vec::new(self.alloc)),
         }
     }

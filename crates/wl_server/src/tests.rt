@@ -1,8 +1,10 @@
 //! What the contracts can't show: that connections over streams in memory and over loopback go as they should.
 
+mod crowds;
 mod endings;
 mod frames;
 mod loopback;
+mod relays;
 mod talks;
 
 use crate::Gate;

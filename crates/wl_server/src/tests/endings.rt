@@ -1,6 +1,8 @@
 //! How connections end, and that their agents then have ended.
 
-use super::frames::{BINARY, CLOSE, HELLO, PING, TEXT, add, served, served_narrowly};
+use super::frames::{
+    BINARY, CLOSE, HELLO, MORE, PING, TEXT, add, add_frame, served, served_narrowly,
+};
 use super::{OPEN, REQUEST, is_free};
 use crate::{ServeEnd, ServeFault};
 use std::alloc::{AllocError, Global};
@@ -113,5 +115,39 @@ fn a_close_behind_a_reply_that_nobody_takes(rt: HostRuntime) -> Result<(), Fail>
     };
     assert_eq!(rt; served_narrowly(&rt, alloc, &service, &frames, 2), left);
     assert!(rt; is_free(&rt, alloc, &service, 4)?);
+    Ok(())
+}
+
+#[test]
+fn a_message_in_two_frames(rt: HostRuntime) -> Result<(), Fail> {
+    let alloc = rt.alloc();
+    let service = Service::new(&rt, alloc)?;
+    let mut frames = Vec::new(alloc);
+    add_frame(&mut frames, TEXT, &OPEN[..9])?;
+    add(&mut frames, PING, b"?")?;
+    add(&mut frames, MORE, &OPEN[9..])?;
+    add(&mut frames, CLOSE, b"")?;
+    let end = ServeEnd {
+        answered: 1,
+        fault: None,
+    };
+    assert_eq!(rt; served(&rt, alloc, &service, HELLO, &frames), end);
+    assert!(rt; is_free(&rt, alloc, &service, 2)?);
+    Ok(())
+}
+
+#[test]
+fn a_frame_without_a_mask(rt: HostRuntime) -> Result<(), Fail> {
+    let alloc = rt.alloc();
+    let service = Service::new(&rt, alloc)?;
+    let mut frames = holder(alloc)?;
+    // A text of two bytes.
+    frames.extend_from_slice(b"\x81\x02{}")?;
+    let end = ServeEnd {
+        answered: 2,
+        fault: Some(ServeFault::Stream),
+    };
+    assert_eq!(rt; served(&rt, alloc, &service, HELLO, &frames), end);
+    assert!(rt; is_free(&rt, alloc, &service, 2)?);
     Ok(())
 }

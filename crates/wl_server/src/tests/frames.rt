@@ -20,9 +20,17 @@ pub const CLOSE: u8 = 8;
 
 pub const PING: u8 = 9;
 
-/// Adds a frame, masked with zeros.
+/// What goes on with a message that has begun.
+pub const MORE: u8 = 0;
+
+/// Adds a message or its last frame, masked with zeros.
 pub fn add(frames: &mut Vec<u8>, kind: u8, payload: &[u8]) -> Result<(), AllocError> {
-    frames.push(128 | kind)?;
+    add_frame(frames, 128 | kind, payload)
+}
+
+/// Adds a frame with this first byte.
+pub fn add_frame(frames: &mut Vec<u8>, head: u8, payload: &[u8]) -> Result<(), AllocError> {
+    frames.push(head)?;
     if payload.len() < 126 {
         frames.push(128 | payload.len() as u8)?;
     } else {
@@ -52,8 +60,8 @@ pub fn served<R: Wait>(
 
 /// A writer that takes so many writes, and then finds that the peer has left.
 #[derive(Drop)]
-struct Narrow {
-    writes: usize,
+pub struct Narrow {
+    pub writes: usize,
 }
 
 impl Write for Narrow {

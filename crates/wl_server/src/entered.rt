@@ -1,0 +1,38 @@
+//! An agent that opened.
+
+ghost use Rattle.std.specs.Prelude.{◌≡◌, is_some};
+ghost use Rattle.wl_service.specs.Clients.{number_of};
+
+use std::sync::Wait;
+use wl_service::{Client, Leaving};
+
+/// The client of a connection's agent. It can't be dropped: who has one has to end it.
+pub struct Entered {
+    client: Client,
+}
+
+impl Entered {
+    pub fn new(client: Client) -> Entered
+        ensures { result.client ≡ client }
+    {
+        Entered { client }
+    }
+
+    pub fn client(&self) -> &Client
+        ensures { result.now ≡ self.now.client }
+    {
+        &self.client
+    }
+
+    pub fn client_mut(&mut self) -> &mut Client {
+        &mut self.client
+    }
+
+    /// Terminates the agent. Only a client that was terminated leaves something, so this tells that it was, unless it
+    /// is of an opaque origin.
+    pub fn end<R: Wait>(self, rt: &R) -> Option<Leaving>
+        ensures { is_some result ≡ is_some (number_of self.client) }
+    {
+        self.client.terminate(rt)
+    }
+}
