@@ -21,11 +21,18 @@ impl Scratch {
 
     pub(crate) fn room(&mut self) -> Result<&mut json::Scratch, Memory> {
         if self.room.is_none() {
-            self.room = Some(Box::new(self.alloc, json::Scratch::new(self.alloc))?);
+            self.room = Some(boxed(self.alloc)?);
         }
         match &mut self.room {
             Some(room) => Ok(room),
             None => Err(Memory),
         }
     }
+}
+
+/// Not inlined, since a call pays for the size of what stands on its stack.
+#[cold]
+#[inline(never)]
+fn boxed(alloc: Global) -> Result<Box<json::Scratch>, Memory> {
+    Ok(Box::new(alloc, json::Scratch::new(alloc))?)
 }
