@@ -6,6 +6,7 @@ mod commands;
 mod copies;
 mod ends;
 pub mod laws;
+pub mod limits;
 pub mod lock_core;
 mod names;
 mod owners;

@@ -10,10 +10,10 @@ use crate::ends::{
     LocksToEnd, RequestsToEnd, end_locks, end_requests, has_lock, has_untaken, nth_untaken,
     take_lock,
 };
+use crate::limits::unless_refused;
 use crate::lock_core::LockCore;
 use crate::names::add_name;
 use crate::owners::{reason_of, remove_agent, remove_signals, set_active_in, set_reason};
-use crate::plain::refusals::unless_refused;
 use crate::queues::{enter, is_unavailable};
 use crate::room::{make_room, push_in_room};
 use crate::settling::settle;

@@ -14,14 +14,15 @@ use Rattle.std.proofs.lemmas.List.Elements.{filter-append}
 use Rattle.wl_machine.specs.declared.rows.HeldRow.{HeldRow}
 use Rattle.wl_machine.specs.declared.rows.PendingRow.{PendingRow}
 use Rattle.wl_machine.specs.Grants.{is_exclusive, any_exclusive, in_use, locks, queue}
-use Rattle.wl_machine.proofs.Lists.{or_false, other_bytes, same_bytes, any_filter, filters_commute}
+use Rattle.wl_machine.proofs.Lists.{or_false, other_bytes, same_bytes, any_filter, filters_commute, filter_map}
 use Rattle.wl_index.specs.declared.table.Request.{Request}
 use Rattle.wl_index.specs.Stamps.{by_stamp, by_stamp_all}
 use Rattle.wl_index.specs.Rows.{Entry, other, waiting, holding, stamp_of, request_row, lock_row, held_of, pending_of}
 use Rattle.wl_index.specs.Lines.{Waiting, Matches, without, other_than, number_and_mode, lock_and_mode}
 use Rattle.wl_index.specs.Names.{Placed, names_of, among, has_place, is_touched, IsNames, Ready}
-use Rattle.wl_index.proofs.Lists.{filter_map, filter_whole, all_weaker, all_append, all_front, all_back, all_filter}
-use Rattle.wl_index.proofs.Entries.{Found, number_same, pending_filter, held_filter, live_count}
+use Rattle.wl_index.proofs.Lists.{filter_whole, all_weaker, all_append, all_front, all_back, all_filter, all_map}
+use Rattle.wl_index.proofs.Keyed.{Found, number_same}
+use Rattle.wl_index.proofs.Rows.{pending_filter, held_filter, live_count}
 use Rattle.wl_index.proofs.Placed.{At, at_place, name_found, written_names, written_is}
 use Rattle.wl_index.proofs.Used.{in_use_same}
 
@@ -38,10 +39,6 @@ one_name number r es f =
     let P : Entry → Type 0 = λ e. (e.0 == number) ≡ true → e.1.name ≡ r.name in
     let apart : (e : Entry) → (e.0 == number) ≡ false → P e = λ e no yes. absurd (cc (no, yes)) in
     rw f.whole (all_append P f.front ((number, r) ∷ f.back) (all_weaker (λ (e : Entry). (e.0 == number) ≡ false) P f.front apart f.low) ((λ yes. refl), all_weaker (λ (e : Entry). (e.0 == number) ≡ false) P f.back apart f.high))
-
-all_map : {X Y : Type 0} (P : Y → Type 0) (g : X → Y) (l : List X) → AllByRecursion (λ x. P (g x)) l → AllByRecursion P (map g l)
-all_map P g [] all = tt
-all_map P g (x ∷ l) all = (all.0, all_map P g l all.1)
 
 held_one_name : (number : ℕ) (r : Request) (es : List Entry) → Found number es r → AllByRecursion (λ (lock : HeldRow). (lock.number == number) ≡ true → lock.name ≡ r.name) (held_of es)
 held_one_name number r es f =

@@ -14,9 +14,10 @@ use Rattle.std.specs.declared.cmp.Ordering.TheVariants.{Less, Equal, Greater}
 use Rattle.std.proofs.lemmas.Bool.Decides.{nat_tests}
 use Rattle.std.proofs.lemmas.List.{map-append}
 use Rattle.wl_machine.specs.Grants.{is_empty}
+use Rattle.wl_machine.proofs.Lists.{filter_map}
 use Rattle.wl_index.specs.Groups.{Group, group_of, or_none, numbers_at, numbers_in, IsListed, IsGroups, without_number}
-use Rattle.wl_index.proofs.Lists.{filter_map, all_back}
-use Rattle.wl_index.proofs.Entries.{found, same_number, entry_last, removed_at}
+use Rattle.wl_index.proofs.Lists.{all_back}
+use Rattle.wl_index.proofs.Keyed.{found, same_number, entry_last, removed_at}
 
 abbrev pub Owned : Type 0
 Owned = ℕ × BTreeMap ℕ (Unit {0})

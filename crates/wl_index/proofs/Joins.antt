@@ -29,11 +29,12 @@ use Rattle.wl_index.specs.Rows.{Entry, other, stamp_of, waiting, holding, reques
 use Rattle.wl_index.specs.Stamps.{by_stamp, by_stamp_all}
 use Rattle.wl_index.specs.Lines.{Numbered, Waiting, Matches, admits, with_one_more, number_and_mode, lock_and_mode}
 use Rattle.wl_index.specs.Names.{Placed, names_of, among, has_place, is_touched, IsNames, Ready, Joined, Entered, IsBelow}
-use Rattle.wl_index.proofs.Lists.{all_append, all_front, all_back, all_filter, all_weaker, filter_none, filter_whole}
-use Rattle.wl_index.proofs.Entries.{same_number, number_same, set_same}
+use Rattle.wl_index.proofs.Lists.{all_append, all_front, all_back, all_filter, all_map, all_weaker, filter_none, filter_whole}
+use Rattle.wl_index.proofs.Keyed.{same_number, number_same, set_same}
 use Rattle.wl_index.proofs.Placed.{At, at_line, at_place, remove_apart, name_found, written_names}
 use Rattle.wl_index.proofs.Used.{in_use_same}
 use Rattle.wl_index.proofs.Ends.{Differ, one_touched}
+use Rattle.wl_index.proofs.Underway.{nobody}
 
 queue_stays : (pending : List PendingRow) (r : PendingRow) (m : List ℕ) → bytes_eq r.name m ≡ false → queue m (pending ++ r ∷ []) ≡ queue m pending
 queue_stays pending r m differs = filter-append (λ (x : PendingRow). bytes_eq x.name m) pending (r ∷ []) ∙ rw differs (append-nil (queue m pending))
@@ -59,14 +60,6 @@ others_used [] place held pending r out all = tt
 others_used (e ∷ lines) place held pending r out all =
     let parts = or_false (bytes_eq e.1.name r.name) (among r.name (names_of lines)) out in
     ((λ no. in_use_same e.1.name held held (pending ++ r ∷ []) pending refl (queue_stays pending r e.1.name (other_bytes r.name e.1.name parts.0)) ∙ all.0 refl), others_used lines place held pending r parts.1 all.1)
-
-nobody : (lines : List Placed) (m : List ℕ) → is_touched [] lines m ≡ false
-nobody [] m = refl
-nobody (e ∷ lines) m = by (bytes_eq e.1.name m) (nobody lines m)
-  where
-    by : (b : Bool) → is_touched [] lines m ≡ false → ((b && false) || is_touched [] lines m) ≡ false
-    by true rest = rest
-    by false rest = rest
 
 new_entered : (place : ℕ) (old new : List Placed) (held : List HeldRow) (pending : List PendingRow) (r : PendingRow) → Ready old held pending [] → among r.name (names_of old) ≡ false
     → new ≡ old ++ (r.number, record { name = r.name; waits = (r.number, r.mode) ∷ []; holders = [] }) ∷ [] → place ≡ r.number → Entered r.name place old new held (pending ++ r ∷ [])
@@ -124,10 +117,6 @@ entered find place old new held pending r names ready j = by (among r.name (name
     by false h = let f = j.fresh h in new_entered place old new held pending r ready h f.1 f.0
 
 -- ---- numbers below the next
-
-all_map : {X Y : Type 0} (P : Y → Type 0) (g : X → Y) (l : List X) → AllByRecursion (λ x. P (g x)) l → AllByRecursion P (map g l)
-all_map P g [] all = tt
-all_map P g (x ∷ l) all = (all.0, all_map P g l all.1)
 
 -- the numbers of each line are those of live requests
 pub lines_below : (next : ℕ) (es : List Entry) (lines : List Placed) → AllByRecursion (λ (e : Entry). e.0 < next) es → AllByRecursion (λ (e : Placed). Matches e.1 (held_of es) (pending_of es)) lines → AllByRecursion (λ (e : Placed). IsBelow next e.1) lines

@@ -6,6 +6,7 @@ use Rattle.std.specs.List.Sorted.{IsStrictlySortedBy}
 use Rattle.std.specs.Map.{keys_of, lookup, set_value, remove_entry}
 use Rattle.std.specs.BTreeMap.{is_at}
 use Rattle.std.specs.Ordering.{nat_cmp}
+use Rattle.std.proofs.Math.Bool.{and-false}
 use Rattle.std.proofs.lemmas.Bool.Decides.{nat_tests}
 use Rattle.std.proofs.lemmas.Map.{keys-set_value}
 use Rattle.std.proofs.lemmas.List.{map-append}
@@ -14,17 +15,14 @@ use Rattle.wl_machine.specs.declared.rows.AgentRow.{AgentRow}
 use Rattle.wl_machine.specs.declared.rows.SignalRow.{SignalRow}
 use Rattle.wl_machine.specs.Refusals.{signals_of}
 use Rattle.wl_machine.specs.Step.{with_reason}
+use Rattle.wl_machine.proofs.Lists.{filter_map, map_twice}
 use Rattle.wl_index.specs.declared.owners.Member.{Member}
 use Rattle.wl_index.specs.declared.owners.Signal.{Signal}
 use Rattle.wl_index.specs.Roll.{agent_row, signal_row, made_by, IsRoll, aborted}
 use Rattle.wl_index.specs.Groups.{spared}
-use Rattle.wl_index.proofs.Lists.{filter_map, map_map, all_append, all_front, all_back, all_weaker, all_filter}
-use Rattle.wl_index.proofs.Entries.{Found, same_number, number_same, removed_at}
+use Rattle.wl_index.proofs.Lists.{all_append, all_front, all_back, all_weaker, all_filter}
+use Rattle.wl_index.proofs.Keyed.{Found, same_number, number_same, removed_at}
 use Rattle.wl_index.proofs.Spared.{spared_fail}
-
-and_false : (b : Bool) → (b && false) ≡ false
-and_false true = refl
-and_false false = refl
 
 -- ---- a signal gets its reason
 
@@ -34,7 +32,7 @@ reason_one signal reason s false = refl
 
 reason_apart : (agent signal : ℕ) (reason : Reason) (l : List (ℕ × Signal)) → AllByRecursion (λ (e : ℕ × Signal). (e.0 == signal) ≡ false) l → map (with_reason agent signal reason) (map signal_row l) ≡ map signal_row l
 reason_apart agent signal reason [] all = refl
-reason_apart agent signal reason (e ∷ l) all = rw (all.0, and_false (e.1.agent == agent), reason_apart agent signal reason l all.1) refl
+reason_apart agent signal reason (e ∷ l) all = rw (all.0, and-false (e.1.agent == agent), reason_apart agent signal reason l all.1) refl
 
 pub reason_set : (agent signal : ℕ) (reason : Reason) (es : List (ℕ × Signal)) (s : Signal) → Found signal es s → map signal_row (set_value (is_at (nat_cmp signal)) es (aborted agent reason s)) ≡ map (with_reason agent signal reason) (map signal_row es)
 reason_set agent signal reason es s f =
@@ -52,7 +50,7 @@ reason_none agent signal reason (e ∷ es) none = by (e.0 == signal) refl (reaso
 
     by : (b : Bool) → (e.0 == signal) ≡ b → (lookup (is_at (nat_cmp signal)) es ≡ None → map (with_reason agent signal reason) (map signal_row es) ≡ map signal_row es) → with_reason agent signal reason (signal_row e) ∷ map (with_reason agent signal reason) (map signal_row es) ≡ signal_row e ∷ map signal_row es
     by true h rest = absurd (let no_one = seen true h in cc (no_one))
-    by false h rest = rw (h, and_false (e.1.agent == agent), rest (seen false h)) refl
+    by false h rest = rw (h, and-false (e.1.agent == agent), rest (seen false h)) refl
 
 aborted_agent : (agent : ℕ) (reason : Reason) (s : Signal) → (aborted agent reason s).agent ≡ s.agent
 aborted_agent agent reason s = by (s.agent == agent)
@@ -103,7 +101,7 @@ of_another agent e = not (e.1.agent == agent)
 pub own_spared : (agent : ℕ) (signals : List (ℕ × Signal)) → IsStrictlySortedBy nat_cmp (keys_of signals) → filter (spared (made_by agent signals)) signals ≡ filter (of_another agent) signals
 own_spared agent signals sorted =
     let mine : ℕ × Signal → Bool = λ e. e.1.agent == agent in
-    let made : made_by agent signals ≡ keys_of (filter mine signals) = ap (map (λ (row : SignalRow). row.number)) (filter_map (λ (row : SignalRow). row.agent == agent) signal_row signals) ∙ map_map (λ (row : SignalRow). row.number) signal_row (filter mine signals) in
+    let made : made_by agent signals ≡ keys_of (filter mine signals) = ap (map (λ (row : SignalRow). row.number)) (filter_map (λ (row : SignalRow). row.agent == agent) signal_row signals) ∙ map_twice (λ (row : SignalRow). row.number) signal_row (filter mine signals) in
     ap (λ ns. filter (spared ns) signals) made ∙ spared_fail mine signals sorted
 
 pub left_agents : (agent : ℕ) (es : List (ℕ × Member)) → IsStrictlySortedBy nat_cmp (keys_of es) → map agent_row (remove_entry (is_at (nat_cmp agent)) es) ≡ filter (λ row. not (row.number == agent)) (map agent_row es)

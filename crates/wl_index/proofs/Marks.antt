@@ -10,13 +10,14 @@ use Rattle.std.proofs.lemmas.Map.Keys.{sorted_head, sorted_tail}
 use Rattle.std.proofs.lemmas.Option.{none-some}
 use Rattle.std.proofs.lemmas.List.{map-append}
 use Rattle.wl_machine.specs.Step.{is_untaken, with_taken}
+use Rattle.wl_machine.proofs.Lists.{filter_map, any_map}
 use Rattle.wl_index.specs.declared.table.Request.{Request}
 use Rattle.wl_index.specs.declared.table.Stage.{Stage}
 use Rattle.wl_index.specs.declared.table.Stage.TheVariants.{Pending, Held}
 use Rattle.wl_index.specs.Stamps.{by_stamp, by_stamp_all}
 use Rattle.wl_index.specs.Rows.{Entry, tag, tags_of, is_fresh, taken_stage, waits, holds, stamp, waiting, holding, stamp_of, request_row, lock_row, pending_of, held_of, IsTable}
 use Rattle.wl_index.proofs.Distinct.{distinct_map}
-use Rattle.wl_index.proofs.Lists.{filter_map, filter_like, filter_passed, any_map, any_by_stamp, map_by_stamp}
+use Rattle.wl_index.proofs.Lists.{filter_like, filter_passed, any_by_stamp, map_by_stamp}
 use Rattle.std.proofs.Math.Bool.{and-false}
 use Rattle.wl_index.proofs.Keyed.{same_number, number_same, above_apart, found}
 

@@ -8,6 +8,7 @@ use Rattle.wl_types.specs.declared.phases.Phase.{Phase}
 use Rattle.wl_machine.specs.declared.rows.HeldRow.{HeldRow}
 use Rattle.wl_machine.specs.declared.rows.PendingRow.{PendingRow}
 use Rattle.wl_machine.specs.Step.{request_ends, lock_ends}
+use Rattle.wl_machine.proofs.Lists.{filter_map, map_twice, any_map}
 use Rattle.wl_index.specs.declared.ending.Owner.{Owner}
 use Rattle.wl_index.specs.declared.ending.Standing.TheVariants.{Waits, Holds}
 use Rattle.wl_index.specs.declared.order.Place.{Place}
@@ -18,7 +19,8 @@ use Rattle.wl_index.specs.Rows.{Entry, waits, holds, waiting, holding, stamp_of,
 use Rattle.wl_index.specs.Groups.{spared}
 use Rattle.wl_index.specs.Order.{place_of}
 use Rattle.wl_index.specs.Ends.{ends_request, ends_lock, ends_entry, numbers_of, place_ends, AreLive}
-use Rattle.wl_index.proofs.Lists.{filter_map, filter_like, map_map, map_by_stamp, any_map, any_by_stamp}
+use Rattle.wl_index.proofs.Lists.{filter_like, map_by_stamp, any_by_stamp}
+use Rattle.wl_index.proofs.Rows.{holds_or_waits}
 use Rattle.wl_index.proofs.Distinct.{distinct_filter, distinct_map}
 use Rattle.wl_index.proofs.Spared.{spared_fail}
 use Rattle.wl_index.proofs.Turns.{passed_in_turn, ordered_in_turn}
@@ -58,10 +60,6 @@ left_beside {X} p r q (x ∷ l) apart = by (p x) refl (q x) refl (left_beside p 
     by true h false k rest = rw (h, k) (ap (λ t. cond (r x) (x ∷ t) t) rest)
     by false h c k rest = rw h (ap (λ t. cond (r x) (x ∷ t) t) rest)
 
-holds_or_waits : (s : Stage) → holds s ≡ not (waits s)
-holds_or_waits Pending = refl
-holds_or_waits (Held at taken) = refl
-
 waits_or_holds : (s : Stage) → waits s ≡ not (holds s)
 waits_or_holds Pending = refl
 waits_or_holds (Held at taken) = refl
@@ -73,7 +71,7 @@ module _ (owner : Owner) (es : List Entry) where
   among_requests = ends_entry owner Waits
 
   requests_numbers : numbers_of (map place_of (filter among_requests es)) ≡ keys_of (filter among_requests es)
-  requests_numbers = map_map (λ (p : Place). p.number) place_of (filter among_requests es)
+  requests_numbers = map_twice (λ (p : Place). p.number) place_of (filter among_requests es)
 
   pub requests_live : IsStrictlySortedBy nat_cmp (keys_of es) → AreLive (numbers_of (map place_of (filter among_requests es))) es
   requests_live sorted = subst (λ ns. AreLive ns es) (sym requests_numbers) (passed_in_turn among_requests es sorted)
@@ -95,9 +93,9 @@ module _ (owner : Owner) (es : List Entry) where
   pub requests_told : (phase : Phase) → place_ends phase (map place_of (filter among_requests es)) ≡ request_ends phase (filter (ends_request owner) (pending_of es))
   requests_told phase =
       let q : Entry → Bool = λ e. ends_request owner (request_row e) in
-      map_map (λ (p : Place). record { id = p.number; phase = phase }) place_of (filter among_requests es)
+      map_twice (λ (p : Place). record { id = p.number; phase = phase }) place_of (filter among_requests es)
       ∙ ap (map (λ (e : Entry). record { id = e.0; phase = phase })) (both_filters waiting q es)
-      ∙ sym (ap (request_ends phase) (filter_map (ends_request owner) request_row (filter waiting es)) ∙ map_map (λ (request : PendingRow). record { id = request.number; phase = phase }) request_row (filter q (filter waiting es)))
+      ∙ sym (ap (request_ends phase) (filter_map (ends_request owner) request_row (filter waiting es)) ∙ map_twice (λ (request : PendingRow). record { id = request.number; phase = phase }) request_row (filter q (filter waiting es)))
 
 -- ---- locks, in the order of their grants
 
@@ -117,7 +115,7 @@ module _ (owner : Owner) (es : List Entry) where
   places_sorted = sym (map_by_stamp stamp_of (λ (p : Place). p.stamp) place_of (λ e. refl) (filter among_locks es))
 
   locks_numbers : numbers_of lock_places ≡ keys_of (by_stamp stamp_of (filter among_locks es))
-  locks_numbers = ap numbers_of places_sorted ∙ map_map (λ (p : Place). p.number) place_of (by_stamp stamp_of (filter among_locks es))
+  locks_numbers = ap numbers_of places_sorted ∙ map_twice (λ (p : Place). p.number) place_of (by_stamp stamp_of (filter among_locks es))
 
   pub locks_live : IsStrictlySortedBy nat_cmp (keys_of es) → AreLive (numbers_of lock_places) es
   locks_live sorted = subst (λ ns. AreLive ns es) (sym locks_numbers) (ordered_in_turn stamp_of among_locks es sorted)
@@ -149,7 +147,7 @@ module _ (owner : Owner) (es : List Entry) where
   locks_told phase =
       let q : Entry → Bool = λ e. ends_lock owner (lock_row e) in
       ap (place_ends phase) places_sorted
-      ∙ map_map (λ (p : Place). record { id = p.number; phase = phase }) place_of (by_stamp stamp_of (filter among_locks es))
+      ∙ map_twice (λ (p : Place). record { id = p.number; phase = phase }) place_of (by_stamp stamp_of (filter among_locks es))
       ∙ ap (λ l. map (λ (e : Entry). record { id = e.0; phase = phase }) (by_stamp stamp_of l)) (both_filters holding q es)
       ∙ ap (map (λ (e : Entry). record { id = e.0; phase = phase })) (filter_by_stamp stamp_of q (filter holding es))
-      ∙ sym (ap (lock_ends phase) (filter_map (ends_lock owner) lock_row (by_stamp stamp_of (filter holding es))) ∙ map_map (λ (lock : HeldRow). record { id = lock.number; phase = phase }) lock_row (filter q (by_stamp stamp_of (filter holding es))))
+      ∙ sym (ap (lock_ends phase) (filter_map (ends_lock owner) lock_row (by_stamp stamp_of (filter holding es))) ∙ map_twice (λ (lock : HeldRow). record { id = lock.number; phase = phase }) lock_row (filter q (by_stamp stamp_of (filter holding es))))

@@ -1,5 +1,5 @@
 -- What ends with an owner, found by the owner's list.
-use Rattle.std.proofs.Common.{◌≡◌, ℕ, suc, ◌≤◌, ◌==◌, Bool, true, false, cond, List, [], ◌∷◌, ◌++◌, length, map, refl, ap, sym, ◌∙◌, arith}
+use Rattle.std.proofs.Common.{◌≡◌, ℕ, ◌≤◌, ◌==◌, Bool, true, false, cond, List, [], ◌∷◌, ◌++◌, length, map, refl, ap, sym, ◌∙◌, arith}
 use Rattle.std.specs.Prelude.{not, ◌&&◌, filter, Some, None, if◌then◌else◌}
 use Rattle.std.specs.Option.{option_to_list}
 use Rattle.std.specs.List.{AllByRecursion}
@@ -11,6 +11,7 @@ use Rattle.std.proofs.lemmas.Bool.Decides.{nat_tests}
 use Rattle.std.proofs.lemmas.Map.Keys.{sorted_head, sorted_tail}
 use Rattle.std.proofs.lemmas.List.{length-map}
 use Rattle.wl_machine.specs.Step.{is_signal}
+use Rattle.wl_core.proofs.Moves.{length-filter-not}
 use Rattle.wl_index.specs.declared.ending.Owner.{Owner}
 use Rattle.wl_index.specs.declared.ending.Owner.TheVariants.{Signal, Agent}
 use Rattle.wl_index.specs.declared.ending.Standing.{Standing}
@@ -19,7 +20,7 @@ use Rattle.wl_index.specs.declared.order.Place.{Place}
 use Rattle.wl_index.specs.Rows.{Entry, Tag, tag, tags_of, is_taken, waiting, holding}
 use Rattle.wl_index.specs.Order.{place_of}
 use Rattle.wl_index.specs.Ends.{ends_entry, owned_by, place_if}
-use Rattle.wl_index.proofs.Entries.{same_number, number_same, above_apart}
+use Rattle.wl_index.proofs.Keyed.{same_number, number_same, above_apart}
 
 -- the places of the requests of these numbers that pass
 abbrev pub picked : (Entry → Bool) → List Entry → List ℕ → List Place
@@ -61,18 +62,10 @@ all_picked (Signal agent signal) Holds es sorted = picked_among (ends_entry (Sig
 all_picked (Agent agent) Waits es sorted = picked_among (ends_entry (Agent agent) Waits) (λ t. t.agent == agent) es es (λ e h. and_no (waiting e) (e.1.agent == agent) h) (found_each es sorted)
 all_picked (Agent agent) Holds es sorted = picked_among (ends_entry (Agent agent) Holds) (λ t. t.agent == agent) es es (λ e h. and_no (holding e) (e.1.agent == agent) h) (found_each es sorted)
 
-length_passed : {X : Type 0} (p : X → Bool) (l : List X) → length (filter p l) ≤ length l
-length_passed p [] = omega arith
-length_passed p (x ∷ l) = by (p x) (length_passed p l)
-  where
-    by : (b : Bool) → length (filter p l) ≤ length l → length (cond b (x ∷ filter p l) (filter p l)) ≤ suc (length l)
-    by true rest = omega (arith, rest)
-    by false rest = omega (arith, rest)
-
 listed_fewer : (g : Tag → Bool) (es : List Entry) → length (map (λ (t : Tag). t.number) (filter g (tags_of es))) ≤ length es
 listed_fewer g es =
     let one = length-map (filter g (tags_of es)) (λ (t : Tag). t.number) in
-    let two = length_passed g (tags_of es) in
+    let two = length-filter-not g (tags_of es) in
     let three = length-map es tag in
     omega (arith, one, two, three)
 

@@ -21,9 +21,10 @@ use Rattle.wl_machine.specs.Grants.{is_empty, in_use, locks, queue, Lists, settl
 use Rattle.wl_index.specs.Lines.{Waiting, Matches, is_busy, number_and_mode, lock_and_mode}
 use Rattle.wl_index.specs.Names.{names_of, among, IsNames}
 use Rattle.wl_index.proofs.Lists.{all_append, all_front, all_back}
-use Rattle.wl_index.proofs.Entries.{Found, found, same_number, number_same, above_apart}
+use Rattle.wl_index.proofs.Keyed.{Found, found, same_number, number_same, above_apart}
+use Rattle.wl_machine.proofs.Quiet.{locks_unsettled}
 use Rattle.wl_machine.proofs.Lists.{other_bytes}
-use Rattle.wl_index.proofs.Used.{settle_locks_other, settle_queue_other}
+use Rattle.wl_index.proofs.Used.{settle_queue_other}
 
 abbrev pub NameAt : Type 0
 NameAt = ℕ × Waiting
@@ -167,7 +168,7 @@ matches_other w before name differs matches =
     let other : bytes_eq name w.name ≡ false = other_bytes name w.name differs in
     record {
       waits = matches.waits ∙ ap (map number_and_mode) (sym (settle_queue_other before name w.name other));
-      holders = matches.holders ∙ ap (map lock_and_mode) (sym (settle_locks_other before name w.name other));
+      holders = matches.holders ∙ ap (map lock_and_mode) (sym (locks_unsettled before name w.name other));
     }
 
 pub others_match : (name : List ℕ) (before : Lists) (l : List NameAt) → AllByRecursion (λ (e : NameAt). bytes_eq e.1.name name ≡ false) l → AllByRecursion (λ (e : NameAt). Matches e.1 before.held before.pending) l

@@ -9,12 +9,13 @@ use Rattle.std.specs.Ordering.{nat_cmp}
 use Rattle.std.proofs.lemmas.Map.Keys.{sorted_head, sorted_tail}
 use Rattle.std.proofs.lemmas.List.Elements.{filter-append}
 use Rattle.wl_machine.specs.Step.{is_lock_of}
+use Rattle.wl_machine.proofs.Lists.{any_map}
 use Rattle.wl_index.specs.declared.table.Request.{Request}
 use Rattle.wl_index.specs.declared.table.Stage.{Stage}
 use Rattle.wl_index.specs.declared.table.Stage.TheVariants.{Pending, Held}
 use Rattle.wl_index.specs.Stamps.{by_stamp}
 use Rattle.wl_index.specs.Rows.{Entry, other, waits, holds, holding, stamp_of, lock_row, pending_of, held_of, IsLock}
-use Rattle.wl_index.proofs.Lists.{filter_whole, filter_none, all_weaker, any_map, any_by_stamp}
+use Rattle.wl_index.proofs.Lists.{filter_whole, filter_none, all_weaker, any_by_stamp}
 use Rattle.std.proofs.Math.Bool.{and-false}
 use Rattle.wl_index.proofs.Keyed.{same_number, number_same, above_apart, found}
 use Rattle.wl_index.proofs.Rows.{removed, held_filter, pending_append}

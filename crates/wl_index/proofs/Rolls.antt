@@ -18,11 +18,12 @@ use Rattle.wl_machine.specs.declared.rows.AgentRow.{AgentRow}
 use Rattle.wl_machine.specs.declared.rows.SignalRow.{SignalRow}
 use Rattle.wl_machine.specs.Refusals.{is_window, reason_in, signals_of}
 use Rattle.wl_machine.specs.Step.{with_active}
+use Rattle.wl_machine.proofs.Lists.{any_map}
 use Rattle.wl_index.specs.declared.owners.Member.{Member}
 use Rattle.wl_index.specs.declared.owners.Signal.{Signal}
 use Rattle.wl_index.specs.Roll.{agent_row, signal_row, made_by, IsRoll, at_some, reason_at}
-use Rattle.wl_index.proofs.Lists.{any_map, all_append, all_front, all_back, all_weaker}
-use Rattle.wl_index.proofs.Entries.{Found, found, entry_last, same_number, number_same, above_apart}
+use Rattle.wl_index.proofs.Lists.{all_append, all_front, all_back, all_weaker}
+use Rattle.wl_index.proofs.Keyed.{Found, found, entry_last, same_number, number_same, above_apart}
 
 -- ---- a look-up
 
@@ -119,23 +120,26 @@ active_none agent active (e ∷ es) none = by (e.0 == agent) refl (active_none a
     by true h rest = absurd (let no = seen true h in cc (no))
     by false h rest = rw (h, rest (seen false h)) refl
 
-pub active_roll : (agent : ℕ) (active : Bool) (es : List (ℕ × Member)) (signals : List (ℕ × Signal)) (next_agent next_signal : ℕ) (m : Member) → IsRoll es signals next_agent next_signal → lookup (is_at (nat_cmp agent)) es ≡ Some m
-    → IsRoll (set_value (is_at (nat_cmp agent)) es (record m { active = active })) signals next_agent next_signal
-active_roll agent active es signals next_agent next_signal m is at =
-    let f = found agent es m is.members_ordered at in
-    let now : Member = record m { active = active } in
+-- an agent written with the same list of signals
+pub roll_stays : (agent : ℕ) (es : List (ℕ × Member)) (signals : List (ℕ × Signal)) (next_agent next_signal : ℕ) (m now : Member) → IsRoll es signals next_agent next_signal → Found agent es m → now.signals.entries ≡ m.signals.entries → IsRoll (set_value (is_at (nat_cmp agent)) es now) signals next_agent next_signal
+roll_stays agent es signals next_agent next_signal m now is f same =
     let B : ℕ × Member → Type 0 = λ e. e.0 < next_agent in
     let L : ℕ × Member → Type 0 = λ e. keys_of e.1.signals.entries ≡ made_by e.0 signals in
     let below = subst (AllByRecursion B) f.whole is.members_below in
     let listed = subst (AllByRecursion L) f.whole is.listed in
+    let back = all_back L f.front ((agent, m) ∷ f.back) listed in
     record {
       members_ordered = rw (keys-set_value (is_at (nat_cmp agent)) es now) is.members_ordered;
       signals_ordered = is.signals_ordered;
       members_below = rw (f.set now) (all_append B f.front ((agent, now) ∷ f.back) (all_front B f.front ((agent, m) ∷ f.back) below) (all_back B f.front ((agent, m) ∷ f.back) below));
       signals_below = is.signals_below;
       owners_below = is.owners_below;
-      listed = rw (f.set now) (all_append L f.front ((agent, now) ∷ f.back) (all_front L f.front ((agent, m) ∷ f.back) listed) (all_back L f.front ((agent, m) ∷ f.back) listed));
+      listed = rw (f.set now) (all_append L f.front ((agent, now) ∷ f.back) (all_front L f.front ((agent, m) ∷ f.back) listed) (ap keys_of same ∙ back.0, back.1));
     }
+
+pub active_roll : (agent : ℕ) (active : Bool) (es : List (ℕ × Member)) (signals : List (ℕ × Signal)) (next_agent next_signal : ℕ) (m : Member) → IsRoll es signals next_agent next_signal → lookup (is_at (nat_cmp agent)) es ≡ Some m
+    → IsRoll (set_value (is_at (nat_cmp agent)) es (record m { active = active })) signals next_agent next_signal
+active_roll agent active es signals next_agent next_signal m is at = roll_stays agent es signals next_agent next_signal m (record m { active = active }) is (found agent es m is.members_ordered at) refl
 
 -- ---- one agent more
 
@@ -198,23 +202,6 @@ pub rows_stay : (agent : ℕ) (es : List (ℕ × Member)) (m now : Member) → F
 rows_stay agent es m now f kind active =
     ap (map agent_row) (f.set now) ∙ map-append agent_row f.front ((agent, now) ∷ f.back) ∙ ap (λ r. map agent_row f.front ++ r ∷ map agent_row f.back) (same_row agent now.kind m.kind now.active m.active kind active)
     ∙ sym (ap (map agent_row) f.whole ∙ map-append agent_row f.front ((agent, m) ∷ f.back))
-
--- an agent written with the same list of signals
-pub roll_stays : (agent : ℕ) (es : List (ℕ × Member)) (signals : List (ℕ × Signal)) (next_agent next_signal : ℕ) (m now : Member) → IsRoll es signals next_agent next_signal → Found agent es m → now.signals.entries ≡ m.signals.entries → IsRoll (set_value (is_at (nat_cmp agent)) es now) signals next_agent next_signal
-roll_stays agent es signals next_agent next_signal m now is f same =
-    let B : ℕ × Member → Type 0 = λ e. e.0 < next_agent in
-    let L : ℕ × Member → Type 0 = λ e. keys_of e.1.signals.entries ≡ made_by e.0 signals in
-    let below = subst (AllByRecursion B) f.whole is.members_below in
-    let listed = subst (AllByRecursion L) f.whole is.listed in
-    let back = all_back L f.front ((agent, m) ∷ f.back) listed in
-    record {
-      members_ordered = rw (keys-set_value (is_at (nat_cmp agent)) es now) is.members_ordered;
-      signals_ordered = is.signals_ordered;
-      members_below = rw (f.set now) (all_append B f.front ((agent, now) ∷ f.back) (all_front B f.front ((agent, m) ∷ f.back) below) (all_back B f.front ((agent, m) ∷ f.back) below));
-      signals_below = is.signals_below;
-      owners_below = is.owners_below;
-      listed = rw (f.set now) (all_append L f.front ((agent, now) ∷ f.back) (all_front L f.front ((agent, m) ∷ f.back) listed) (ap keys_of same ∙ back.0, back.1));
-    }
 
 made_more : (agent owner number : ℕ) (reason : Option Reason) (signals : List (ℕ × Signal)) → made_by agent (signals ++ (number, record { agent = owner; reason = reason }) ∷ []) ≡ made_by agent signals ++ cond (owner == agent) (number ∷ []) []
 made_more agent owner number reason signals =

@@ -15,12 +15,13 @@ use Rattle.std.proofs.Common.{nat_lt}
 use Rattle.std.proofs.lemmas.List.Elements.{filter-append}
 use Rattle.wl_machine.specs.declared.rows.HeldRow.{HeldRow}
 use Rattle.wl_machine.specs.declared.rows.PendingRow.{PendingRow}
+use Rattle.wl_machine.proofs.Lists.{filter_map, filters_commute}
 use Rattle.wl_index.specs.declared.table.Request.{Request}
 use Rattle.wl_index.specs.declared.table.Stage.{Stage}
 use Rattle.wl_index.specs.declared.table.Stage.TheVariants.{Pending, Held}
 use Rattle.wl_index.specs.Stamps.{place, by_stamp, filter_by_stamp}
 use Rattle.wl_index.specs.Rows.{Entry, Apart, tag, tags_of, other, waits, holds, waiting, holding, stamp_of, request_row, lock_row, pending_of, held_of}
-use Rattle.wl_index.proofs.Lists.{filter_map, filter_swap, filter_whole, filter_none, all_weaker}
+use Rattle.wl_index.proofs.Lists.{filter_whole, filter_none, all_weaker}
 use Rattle.wl_index.proofs.Keyed.{same_number, above_apart, removed_at, found}
 
 pub removed : (id : ℕ) (es : List Entry) → IsStrictlySortedBy nat_cmp (keys_of es) → remove_entry (is_at (nat_cmp id)) es ≡ filter (other id) es
@@ -29,11 +30,11 @@ removed id es sorted = removed_at id es sorted
 -- ---- filters by rows
 
 pub pending_filter : (q : PendingRow → Bool) (es : List Entry) → pending_of (filter (λ e. q (request_row e)) es) ≡ filter q (pending_of es)
-pending_filter q es = ap (map request_row) (filter_swap waiting (λ e. q (request_row e)) es) ∙ sym (filter_map q request_row (filter waiting es))
+pending_filter q es = ap (map request_row) (filters_commute waiting (λ e. q (request_row e)) es) ∙ sym (filter_map q request_row (filter waiting es))
 
 pub held_filter : (q : HeldRow → Bool) (es : List Entry) → held_of (filter (λ e. q (lock_row e)) es) ≡ filter q (held_of es)
 held_filter q es =
-    ap (λ l. map lock_row (by_stamp stamp_of l)) (filter_swap holding (λ e. q (lock_row e)) es)
+    ap (λ l. map lock_row (by_stamp stamp_of l)) (filters_commute holding (λ e. q (lock_row e)) es)
     ∙ ap (map lock_row) (filter_by_stamp stamp_of (λ e. q (lock_row e)) (filter holding es))
     ∙ sym (filter_map q lock_row (by_stamp stamp_of (filter holding es)))
 
@@ -143,14 +144,14 @@ stamp_length : (l : List Entry) → length (by_stamp stamp_of l) ≡ length l
 stamp_length [] = refl
 stamp_length (e ∷ l) = place_length e (by_stamp stamp_of l) ∙ ap suc (stamp_length l)
 
+pub holds_or_waits : (s : Stage) → holds s ≡ not (waits s)
+holds_or_waits Pending = refl
+holds_or_waits (Held at taken) = refl
+
 -- each live request waits or holds
 pub live_count : (es : List Entry) → length (held_of es) + length (pending_of es) ≡ length es
 live_count es =
     let h : length (held_of es) ≡ length (filter holding es) = length-map (by_stamp stamp_of (filter holding es)) lock_row ∙ stamp_length (filter holding es) in
     let p : length (pending_of es) ≡ length (filter waiting es) = length-map (filter waiting es) request_row in
-    let b = length-filter_both waiting holding (λ e. apart e.1.stage) es in
+    let b = length-filter_both waiting holding (λ e. holds_or_waits e.1.stage) es in
     omega (arith, h, p, b)
-  where
-    apart : (s : Stage) → holds s ≡ not (waits s)
-    apart Pending = refl
-    apart (Held at taken) = refl

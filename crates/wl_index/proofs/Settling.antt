@@ -17,7 +17,7 @@ use Rattle.wl_types.specs.declared.phases.Phase.TheVariants.{Granted}
 use Rattle.wl_index.specs.Rows.{Apart}
 use Rattle.wl_index.specs.Lines.{Waiting, admits, next_grant, if_admitted, without_admitted, after_grant, excludes, number_and_mode, lock_and_mode, Matches}
 use Rattle.wl_index.proofs.Lists.{filter_whole, filter_none, filter_passed, all_weaker}
-use Rattle.wl_index.proofs.Entries.{is_request}
+use Rattle.wl_index.proofs.Rows.{is_request}
 use Rattle.wl_index.proofs.Local.{settle_quiet}
 
 -- the lists after the first request of a name was granted

@@ -10,13 +10,14 @@ use Rattle.std.proofs.lemmas.Map.Keys.{sorted_tail}
 use Rattle.std.proofs.Math.Seq.{take-append_seam}
 use Rattle.std.proofs.lemmas.List.{length-append}
 use Rattle.std.proofs.lemmas.List.Elements.{filter-append}
+use Rattle.std.proofs.lemmas.Bool.{not-true}
 use Rattle.std.proofs.lemmas.Bool.Decides.{nat_tests}
 use Rattle.wl_types.specs.declared.words.Mode.{Mode}
 use Rattle.wl_types.specs.declared.words.Mode.TheVariants.{Exclusive}
 use Rattle.wl_machine.specs.Grants.{is_exclusive, is_empty}
 use Rattle.wl_index.specs.Lines.{Numbered, Waiting, excludes, admits, other_than, holders_of, holder_without, after_grant, without_admitted, IsLine}
 use Rattle.wl_index.proofs.Lists.{all_append, all_filter}
-use Rattle.wl_index.proofs.Entries.{removed_at, entry_last}
+use Rattle.wl_index.proofs.Keyed.{removed_at, entry_last}
 
 -- the first of them are those in front
 pub fronts : (front waits : List Numbered) → take (length (front ++ waits) - length waits) (front ++ waits) ≡ front
@@ -191,10 +192,6 @@ pub shared_grant : (name : List ℕ) (live waits rest : List Numbered) (e : Numb
     → IsLine live rest holder × (line_now name rest (holders_of holder live rest) ≡ after_grant (line_now name waits (holders_of holder live waits)))
 shared_grant name live waits rest e holder is free mode first =
     let open_now : not (excludes (holders_of holder live waits)) ≡ true = sym (ap (λ b. cond b (is_empty (holders_of holder live waits)) (not (excludes (holders_of holder live waits)))) mode) ∙ free in
-    let none : is_some holder ≡ false = excluded live waits holder is ∙ shut (excludes (holders_of holder live waits)) open_now in
+    let none : is_some holder ≡ false = excluded live waits holder is ∙ not-true (excludes (holders_of holder live waits)) open_now in
     let next = shared_first live waits rest e holder is none mode first in
     (next.0, rw next.1 (sym (ap (without_admitted (line_now name waits (holders_of holder live waits))) first ∙ ap (λ b. cond b (line_now name rest (holders_of holder live waits ++ e ∷ [])) (line_now name waits (holders_of holder live waits))) free)))
-  where
-    shut : (b : Bool) → not b ≡ true → b ≡ false
-    shut true h = absurd (cc)
-    shut false h = refl

@@ -4,6 +4,7 @@ use Rattle.std.specs.Prelude.{not, ◌&&◌, ◌||◌, filter, Option, Some, Non
 use Rattle.std.specs.Str.{bytes_eq}
 use Rattle.std.specs.List.{AllByRecursion}
 use Rattle.std.specs.Cmp.Lexicographic.{same_text}
+use Rattle.std.proofs.lemmas.Bool.{not-true}
 use Rattle.std.proofs.lemmas.List.Elements.{filter-append}
 use Rattle.std.proofs.lemmas.List.Folds.{list_any-append}
 use Rattle.wl_types.specs.declared.words.Mode.{Mode}
@@ -24,9 +25,9 @@ use Rattle.wl_machine.specs.Refusals.{refusal, known_agent, is_inactive, unknown
 use Rattle.wl_machine.specs.Grants.{any_exclusive, grants, locks, queue, granted_lock, grant_change, Lists, lists_of, settle_name, settle_names}
 use Rattle.wl_machine.specs.Step.{Gives, with_name, new_request, steal_locks, lock_ends}
 use Rattle.wl_machine.proofs.Quiet.{quiet, grants_behind}
-use Rattle.wl_machine.proofs.Lists.{same_bytes, other_bytes}
+use Rattle.wl_machine.proofs.Lists.{same_bytes, other_bytes, filters_commute}
 use Rattle.wl_index.specs.Names.{among}
-use Rattle.wl_index.proofs.Lists.{filter_swap, filter_whole, filter_none, all_weaker, filter_passed}
+use Rattle.wl_index.proofs.Lists.{filter_whole, filter_none, all_weaker, filter_passed}
 use Rattle.wl_index.proofs.Local.{settle_one_name, settle_all_quiet}
 use Rattle.wl_index.proofs.Events.{with_lists, settled_is}
 
@@ -38,17 +39,13 @@ others_apart name m l differs all = all_weaker (λ (x : HeldRow). bytes_eq x.nam
 
 locks_others : (name m : List ℕ) (held : List HeldRow) → bytes_eq m name ≡ false → locks m (without_name name held) ≡ locks m held
 locks_others name m held differs =
-    filter_swap (λ (x : HeldRow). bytes_eq x.name m) (λ x. not (bytes_eq x.name name)) held
+    filters_commute (λ (x : HeldRow). bytes_eq x.name m) (λ x. not (bytes_eq x.name name)) held
     ∙ filter_whole (λ (x : HeldRow). not (bytes_eq x.name name)) (locks m held) (others_apart name m (locks m held) differs (filter_passed (λ (x : HeldRow). bytes_eq x.name m) held))
 
 locks_own : (name : List ℕ) (held : List HeldRow) → locks name (without_name name held) ≡ []
 locks_own name held =
     filter_none (λ (x : HeldRow). bytes_eq x.name name) (without_name name held)
-    (all_weaker (λ (x : HeldRow). not (bytes_eq x.name name) ≡ true) (λ x. bytes_eq x.name name ≡ false) (without_name name held) (λ x no. shut (bytes_eq x.name name) no) (filter_passed (λ (x : HeldRow). not (bytes_eq x.name name)) held))
-  where
-    shut : (b : Bool) → not b ≡ true → b ≡ false
-    shut true h = absurd (cc)
-    shut false h = refl
+    (all_weaker (λ (x : HeldRow). not (bytes_eq x.name name) ≡ true) (λ x. bytes_eq x.name name ≡ false) (without_name name held) (λ x no. not-true (bytes_eq x.name name) no) (filter_passed (λ (x : HeldRow). not (bytes_eq x.name name)) held))
 
 queue_others : (pending : List PendingRow) (r : PendingRow) (m : List ℕ) → bytes_eq r.name m ≡ false → queue m (r ∷ pending) ≡ queue m pending
 queue_others pending r m differs = rw differs refl

@@ -9,12 +9,13 @@ use Rattle.std.specs.Ordering.{nat_cmp}
 use Rattle.std.proofs.lemmas.Bool.Decides.{nat_tests}
 use Rattle.std.proofs.lemmas.List.{length-append}
 use Rattle.std.proofs.lemmas.List.Elements.{filter-append}
+use Rattle.wl_machine.proofs.Lists.{filters_commute}
 use Rattle.wl_index.specs.declared.table.Request.{Request}
 use Rattle.wl_index.specs.declared.table.Stage.TheVariants.{Pending}
 use Rattle.wl_index.specs.Stamps.{Distinct}
 use Rattle.wl_index.specs.Rows.{Entry, other, waiting, holding, stamp_of, IsTable}
 use Rattle.wl_index.proofs.Distinct.{distinct_filter}
-use Rattle.wl_index.proofs.Lists.{filter_swap, filter_whole, all_filter, all_weaker, all_append}
+use Rattle.wl_index.proofs.Lists.{filter_whole, all_filter, all_weaker, all_append}
 use Rattle.wl_index.proofs.Keyed.{number_same, entry_last, Found, found}
 use Rattle.wl_index.proofs.Rows.{removed, locks_same}
 
@@ -28,7 +29,7 @@ length_fewer p (e ∷ es) = by (p e) (length_fewer p es)
 
 -- stamps differ without an entry
 distinct_others : (id : ℕ) (es : List Entry) → Distinct stamp_of (filter holding es) → Distinct stamp_of (filter holding (filter (other id) es))
-distinct_others id es distinct = rw (filter_swap holding (other id) es) (distinct_filter stamp_of (other id) (filter holding es) distinct)
+distinct_others id es distinct = rw (filters_commute holding (other id) es) (distinct_filter stamp_of (other id) (filter holding es) distinct)
 
 -- without an entry it stays a table
 pub ended_table : (id : ℕ) (es : List Entry) (next_stamp next : ℕ) → IsTable es next_stamp next → IsStrictlySortedBy nat_cmp (keys_of (remove_entry (is_at (nat_cmp id)) es)) → IsTable (remove_entry (is_at (nat_cmp id)) es) next_stamp next
@@ -41,7 +42,7 @@ ended_table id es next_stamp next table sorted =
       stamped = rw (removed id es table.ordered) (all_filter (λ (e : Entry). stamp_of e < next_stamp) (other id) es table.stamped);
       distinct = rw (removed id es table.ordered) (distinct_others id es table.distinct);
       first = table.first;
-      room = rw (removed id es table.ordered, filter_swap waiting (other id) es) (omega (arith, fewer, room));
+      room = rw (removed id es table.ordered, filters_commute waiting (other id) es) (omega (arith, fewer, room));
       high = table.high;
     }
 

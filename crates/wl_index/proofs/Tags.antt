@@ -6,11 +6,12 @@ use Rattle.std.proofs.lemmas.Bool.Decides.{nat_tests}
 use Rattle.std.proofs.lemmas.List.{map-append}
 use Rattle.std.proofs.lemmas.List.Elements.{filter-append}
 use Rattle.wl_machine.specs.Step.{is_signal}
+use Rattle.wl_machine.proofs.Lists.{filter_map, filters_commute}
 use Rattle.wl_index.specs.declared.table.Request.{Request}
 use Rattle.wl_index.specs.Rows.{Entry, Tag, tag, tags_of, other}
 use Rattle.wl_index.specs.Groups.{Group, numbers_at, without_number, without_tag, of_agent, IsGrouped, IsTagged}
-use Rattle.wl_index.proofs.Lists.{filter_map, all_append, all_weaker, filter_swap}
-use Rattle.wl_index.proofs.Entries.{Found, number_same}
+use Rattle.wl_index.proofs.Lists.{all_append, all_weaker}
+use Rattle.wl_index.proofs.Keyed.{Found, number_same}
 
 flip : (a b : ℕ) (c : Bool) → (a == b) ≡ c → (b == a) ≡ c
 flip a b true h = grind (arith, nat_tests, h)
@@ -34,7 +35,7 @@ numbers_more p tags t = ap (map (λ (t : Tag). t.number)) (filter-append p tags 
 
 numbers_less : (p : Tag → Bool) (number : ℕ) (tags : List Tag) → numbers_of p (without_tag number tags) ≡ without_number number (numbers_of p tags)
 numbers_less p number tags =
-    ap (map (λ (t : Tag). t.number)) (filter_swap p (λ (t : Tag). not (t.number == number)) tags)
+    ap (map (λ (t : Tag). t.number)) (filters_commute p (λ (t : Tag). not (t.number == number)) tags)
     ∙ sym (filter_map (λ n. not (n == number)) (λ (t : Tag). t.number) (filter p tags))
 
 -- those of another are not touched

@@ -1,8 +1,9 @@
 -- A taken flag plays no part in what a core keeps.
-use Rattle.std.proofs.Common.{◌≡◌, ℕ, suc, Bool, true, false, List, [], ◌∷◌, length, map, refl, ap, sym, ◌∙◌}
+use Rattle.std.proofs.Common.{◌≡◌, ℕ, Bool, true, false, List, [], ◌∷◌, length, map, refl, ap, sym, ◌∙◌}
 use Rattle.std.specs.Prelude.{not, ◌||◌, ◌&&◌, ◌==◌}
 use Rattle.std.specs.Str.{bytes_eq}
 use Rattle.std.specs.List.{list_any, AllByRecursion}
+use Rattle.std.proofs.lemmas.List.{length-map}
 use Rattle.wl_machine.specs.declared.rows.HeldRow.{HeldRow}
 use Rattle.wl_machine.specs.declared.rows.PendingRow.{PendingRow}
 use Rattle.wl_machine.specs.Grants.{is_exclusive, any_exclusive, is_empty, grants, locks, queue, in_use}
@@ -11,9 +12,10 @@ use Rattle.wl_machine.specs.declared.command.Reply.TheVariants as reply
 use Rattle.wl_types.specs.declared.answers.TakeAnswer.TheVariants as took
 use Rattle.wl_machine.specs.State.{State}
 use Rattle.wl_machine.specs.Step.{Gives, is_untaken, with_taken}
+use Rattle.wl_machine.proofs.Lists.{filter_map}
 use Rattle.wl_index.specs.Lines.{Matches, lock_and_mode}
 use Rattle.wl_index.specs.Names.{Placed, has_place, Ready}
-use Rattle.wl_index.proofs.Lists.{filter_map, filter_like}
+use Rattle.wl_index.proofs.Lists.{filter_like}
 
 taken_same : {X : Type 0} (f : HeldRow → X) (id : ℕ) (l : HeldRow) → ((b : Bool) → f (record l { taken = b }) ≡ f l) → f (with_taken id l) ≡ f l
 taken_same f id l same = same (l.taken || (l.number == id))
@@ -31,13 +33,6 @@ empty_taken : (id : ℕ) (l : List HeldRow) → is_empty (map (with_taken id) l)
 empty_taken id [] = refl
 empty_taken id (x ∷ l) = refl
 
-length_taken : (id : ℕ) (l : List HeldRow) → length (map (with_taken id) l) ≡ length l
-length_taken id [] = refl
-length_taken id (x ∷ l) = ap suc (length_taken id l)
-
-pub held_length : (id : ℕ) (held : List HeldRow) → length (map (with_taken id) held) ≡ length held
-held_length id held = length_taken id held
-
 grants_taken : (id : ℕ) (h : List HeldRow) (q : List PendingRow) → grants (map (with_taken id) h) q ≡ grants h q
 grants_taken id h q = rw (exclusive_taken id h, empty_taken id h) refl
 
@@ -53,7 +48,7 @@ ready_taken id lines held pending ready =
     record {
       matched = lines_taken lines ready.matched;
       still = λ m out. ap (λ h. grants h (queue m pending)) (locks_taken id m held) ∙ grants_taken id (locks m held) (queue m pending) ∙ ready.still m out;
-      alone = λ m some. ap length (locks_taken id m held) ∙ length_taken id (locks m held) ∙ ready.alone m (sym (ap any_exclusive (locks_taken id m held) ∙ exclusive_taken id (locks m held)) ∙ some);
+      alone = λ m some. ap length (locks_taken id m held) ∙ length-map (locks m held) (with_taken id) ∙ ready.alone m (sym (ap any_exclusive (locks_taken id m held) ∙ exclusive_taken id (locks m held)) ∙ some);
       known = λ m out. (locks_taken id m held ∙ ap (map (with_taken id)) (ready.known m out).0, (ready.known m out).1);
       used = used_taken lines ready.used;
     }

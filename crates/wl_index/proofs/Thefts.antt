@@ -13,11 +13,14 @@ use Rattle.wl_types.specs.declared.phases.Phase.TheVariants.{Stolen}
 use Rattle.wl_machine.specs.declared.rows.HeldRow.{HeldRow}
 use Rattle.wl_machine.specs.Grants.{locks}
 use Rattle.wl_machine.specs.Step.{lock_ends}
+use Rattle.wl_machine.proofs.Lists.{any_filter, filters_commute, any_map}
 use Rattle.wl_index.specs.declared.table.Request.{Request}
 use Rattle.wl_index.specs.Stamps.{by_stamp}
 use Rattle.wl_index.specs.Rows.{Entry, other, holds, holding, stamp_of, lock_row, held_of, pending_of}
-use Rattle.wl_index.proofs.Lists.{filter_swap, filter_out, filter_none, any_map, any_by_stamp}
-use Rattle.wl_index.proofs.Entries.{Found, found, same_number, number_same, above_apart, held_filter, lock_there, lock_at, lock_is}
+use Rattle.wl_index.proofs.Lists.{filter_out, filter_none, any_by_stamp}
+use Rattle.wl_index.proofs.Keyed.{Found, found, same_number, number_same, above_apart}
+use Rattle.wl_index.proofs.Rows.{held_filter}
+use Rattle.wl_index.proofs.Releases.{lock_there, lock_at, lock_is}
 use Rattle.wl_index.proofs.Ends.{other_lock, held_without}
 
 none_among : (id : ℕ) (es : List Entry) → AllByRecursion (λ (e : Entry). (e.0 == id) ≡ false) es → list_any (λ e. e.0 == id) (filter holding es) ≡ false
@@ -89,7 +92,7 @@ theft_at name es lock more r sorted first there holds_now =
     let f = found id es r sorted there in
     let p : HeldRow → Bool = λ l. l.number == id in
     let one = one_lock id es r f holds_now in
-    let mine : filter p (lock ∷ more) ≡ locks name (lock_row (id, r) ∷ []) = sym (ap (filter p) first) ∙ filter_swap p (λ (l : HeldRow). bytes_eq l.name name) (held_of es) ∙ ap (locks name) one in
+    let mine : filter p (lock ∷ more) ≡ locks name (lock_row (id, r) ∷ []) = sym (ap (filter p) first) ∙ filters_commute p (λ (l : HeldRow). bytes_eq l.name name) (held_of es) ∙ ap (locks name) one in
     let split : lock ∷ filter p more ≡ locks name (lock_row (id, r) ∷ []) = sym (ap (λ b. cond b (lock ∷ filter p more) (filter p more)) (number_same id)) ∙ mine in
     let own = named (bytes_eq r.name name) refl split in
     let none : filter p more ≡ [] = ap tail split ∙ ap (λ b. tail (cond b (lock_row (id, r) ∷ []) [])) own in
@@ -97,8 +100,8 @@ theft_at name es lock more r sorted first there holds_now =
     record {
       request = r;
       there = there;
-      rest = ap (locks name) (held_without id es) ∙ filter_swap (λ (l : HeldRow). bytes_eq l.name name) (other_lock id) (held_of es) ∙ ap (filter (other_lock id)) first ∙ ap (λ b. cond (not b) (lock ∷ filter (other_lock id) more) (filter (other_lock id) more)) (number_same id) ∙ filter_out p more (none_passes p more none);
-      others = ap (filter (not_named name)) (held_without id es) ∙ filter_swap (not_named name) (other_lock id) (held_of es) ∙ filter_out p (filter (not_named name) (held_of es)) (none_passes p (filter (not_named name) (held_of es)) (filter_swap p (not_named name) (held_of es) ∙ ap (filter (not_named name)) one ∙ ap (λ b. cond (not b) (lock_row (id, r) ∷ []) []) own));
+      rest = ap (locks name) (held_without id es) ∙ filters_commute (λ (l : HeldRow). bytes_eq l.name name) (other_lock id) (held_of es) ∙ ap (filter (other_lock id)) first ∙ ap (λ b. cond (not b) (lock ∷ filter (other_lock id) more) (filter (other_lock id) more)) (number_same id) ∙ filter_out p more (none_passes p more none);
+      others = ap (filter (not_named name)) (held_without id es) ∙ filters_commute (not_named name) (other_lock id) (held_of es) ∙ filter_out p (filter (not_named name) (held_of es)) (none_passes p (filter (not_named name) (held_of es)) (filters_commute p (not_named name) (held_of es) ∙ ap (filter (not_named name)) one ∙ ap (λ b. cond (not b) (lock_row (id, r) ∷ []) []) own));
       pending = is_lock.pending;
     }
   where
@@ -136,17 +139,8 @@ stealing name id es sorted is =
       told = ap (lock_ends Stolen) n.2 ∙ ap (λ k. record { id = k; phase = Stolen } ∷ lock_ends Stolen n.1) n.3;
     }
   where
-    any_kept : (p q : HeldRow → Bool) (l : List HeldRow) → list_any p (filter q l) ≡ true → list_any p l ≡ true
-    any_kept p q [] some = some
-    any_kept p q (x ∷ l) some = by (q x) refl (p x) refl (any_kept p q l)
-      where
-        by : (b : Bool) → q x ≡ b → (k : Bool) → p x ≡ k → (list_any p (filter q l) ≡ true → list_any p l ≡ true) → (p x || list_any p l) ≡ true
-        by b h true e rest = rw e refl
-        by true h false e rest = rw e (rest (rw (h, e) at some))
-        by false h false e rest = rw e (rest (rw h at some))
-
     any_of : (lock : HeldRow) (more : List HeldRow) → locks name (held_of es) ≡ lock ∷ more → list_any (λ (l : HeldRow). l.number == lock.number) (held_of es) ≡ true
-    any_of lock more first = any_kept (λ (l : HeldRow). l.number == lock.number) (λ l. bytes_eq l.name name) (held_of es) (ap (list_any (λ (l : HeldRow). l.number == lock.number)) first ∙ ap (λ b. b || list_any (λ (l : HeldRow). l.number == lock.number) more) (number_same lock.number))
+    any_of lock more first = any_filter (λ (l : HeldRow). l.number == lock.number) (λ l. bytes_eq l.name name) (held_of es) (ap (list_any (λ (l : HeldRow). l.number == lock.number)) first ∙ ap (λ b. b || list_any (λ (l : HeldRow). l.number == lock.number) more) (number_same lock.number))
 
 -- where a name has no lock, all are of other names
 pub all_others : (name : List ℕ) (held : List HeldRow) → locks name held ≡ [] → filter (not_named name) held ≡ held

@@ -16,14 +16,14 @@ use Rattle.std.proofs.lemmas.List.{map-append}
 use Rattle.std.proofs.lemmas.List.Elements.{filter-append}
 use Rattle.std.proofs.lemmas.List.Folds.{list_any-append}
 use Rattle.wl_machine.specs.Grants.{locks, queue, Lists, settle_name, settle_names, in_use}
-use Rattle.wl_machine.proofs.Quiet.{quiet, settled_quiet, settles_keep}
+use Rattle.wl_machine.proofs.Quiet.{quiet, settled_quiet, settles_keep, locks_unsettled}
 use Rattle.wl_machine.proofs.Lists.{or_false}
 use Rattle.wl_index.specs.Lines.{Waiting, Matches, is_busy}
 use Rattle.wl_index.specs.Names.{Placed, names_of, among, has_place, is_touched, IsNames, Ready, Underway}
 use Rattle.wl_index.proofs.Lists.{all_append, all_front, all_back, filter_whole}
 use Rattle.wl_index.proofs.Local.{settle_quiet, settle_all_quiet}
 use Rattle.wl_index.proofs.Placed.{At, written_names, remove_apart, others_match, busy_in_use}
-use Rattle.wl_index.proofs.Used.{in_use_same, unused_empty, use_other, settle_alone, settles_other, settle_locks_other, settle_queue_other}
+use Rattle.wl_index.proofs.Used.{in_use_same, unused_empty, use_other, settle_alone, settles_other, settle_queue_other}
 
 -- names with nothing to grant are passed over
 settle_skip : (front back : List (List ℕ)) (lists : Lists) → AllByRecursion (λ n. quiet lists n ≡ []) front → settle_names lists (front ++ back) ≡ settle_names lists back
@@ -132,7 +132,7 @@ settled_at find place rest target stay lines now name a names above u =
       known = λ m differs out.
           let outside : among m (names_of lines) ≡ false = ap (among m) whole ∙ list_any-append (λ n. bytes_eq n m) (names_of a.split.front) (name ∷ names_of a.split.back) ∙ rw differs (sym (list_any-append (λ n. bytes_eq n m) (names_of a.split.front) (names_of a.split.back)) ∙ out) in
           let k = u.ready.known m outside in
-          (settle_locks_other now name m differs ∙ k.0, settle_queue_other now name m differs ∙ k.1);
+          (locks_unsettled now name m differs ∙ k.0, settle_queue_other now name m differs ∙ k.1);
     }
   where
     still_at : (m : List ℕ) (b : Bool) → bytes_eq name m ≡ b → is_touched rest a.split.front m ≡ false → is_touched rest a.split.back m ≡ false → quiet (settle_name now name) m ≡ []
@@ -229,7 +229,8 @@ settled_nowhere place rest target stay lines now apart u = record {
         let no : (place == e.0) ≡ false = (let h = apart.0 in grind (arith, nat_tests, h)) in
         ((λ out. all.0 (rw no out)), less l apart.1 all.1)
 
-nobody : (lines : List Placed) (m : List ℕ) → is_touched [] lines m ≡ false
+-- no name is touched where no place is
+pub nobody : (lines : List Placed) (m : List ℕ) → is_touched [] lines m ≡ false
 nobody [] m = refl
 nobody (e ∷ lines) m = by (bytes_eq e.1.name m) (nobody lines m)
   where

@@ -7,11 +7,12 @@ use Rattle.std.specs.Option.{option_to_list}
 use Rattle.std.proofs.lemmas.List.Elements.{filter-append}
 use Rattle.wl_machine.specs.declared.rows.HeldRow.{HeldRow}
 use Rattle.wl_machine.specs.Step.{is_abortable}
+use Rattle.wl_machine.proofs.Lists.{filter_map}
 use Rattle.wl_index.specs.declared.order.Place.{Place}
 use Rattle.wl_index.specs.Stamps.{by_stamp, by_stamp_all, filter_by_stamp, Distinct}
 use Rattle.wl_index.specs.Rows.{Entry, holding, stamp_of, lock_row, held_of}
 use Rattle.wl_index.specs.Order.{place_of, ends_by, untaken_places, from_stamp, first_of}
-use Rattle.wl_index.proofs.Lists.{filter_map, all_filter, all_map}
+use Rattle.wl_index.proofs.Lists.{all_filter, all_map}
 use Rattle.wl_index.proofs.Distinct.{distinct_filter, distinct_map}
 use Rattle.wl_index.proofs.Sorted.{Climbing, by_stamp_climbs}
 use Rattle.wl_index.proofs.First.{first_again, first_all, from_start, passed, none_left}

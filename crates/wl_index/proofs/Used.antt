@@ -59,15 +59,12 @@ grants_alone h q alone some = alone_at h q (any_exclusive h) refl alone some
 
 -- ---- settling one name, seen from another
 
-pub settle_locks_other : (lists : Lists) (name m : List ℕ) → bytes_eq name m ≡ false → locks m (settle_name lists name).held ≡ locks m lists.held
-settle_locks_other lists name m differs = locks_unsettled lists name m differs
-
 pub settle_queue_other : (lists : Lists) (name m : List ℕ) → bytes_eq name m ≡ false → queue m (settle_name lists name).pending ≡ queue m lists.pending
 settle_queue_other lists name m differs = queue_other name m (length (grants (locks name lists.held) (queue name lists.pending))) lists.pending differs
 
 pub use_other : (lists : Lists) (name m : List ℕ) → bytes_eq m name ≡ false → in_use (settle_name lists name).held (settle_name lists name).pending m ≡ in_use lists.held lists.pending m
 use_other lists name m differs =
-    in_use_same m (settle_name lists name).held lists.held (settle_name lists name).pending lists.pending (settle_locks_other lists name m (other_bytes name m differs)) (settle_queue_other lists name m (other_bytes name m differs))
+    in_use_same m (settle_name lists name).held lists.held (settle_name lists name).pending lists.pending (locks_unsettled lists name m (other_bytes name m differs)) (settle_queue_other lists name m (other_bytes name m differs))
 
 -- settling names keeps an exclusive lock alone
 pub settle_alone : (lists : Lists) (name : List ℕ) → ((m : List ℕ) → any_exclusive (locks m lists.held) ≡ true → length (locks m lists.held) ≡ 1)
@@ -78,7 +75,7 @@ settle_alone lists name alone m = by (bytes_eq name m) refl
     by true is =
         let same : name ≡ m = same_text name m (sym is) in
         rw (← same) (λ some. ap length (locks_settled lists name) ∙ grants_alone (locks name lists.held) (queue name lists.pending) (alone name) (sym (ap any_exclusive (locks_settled lists name)) ∙ some))
-    by false is = λ some. ap length (settle_locks_other lists name m is) ∙ alone m (sym (ap any_exclusive (settle_locks_other lists name m is)) ∙ some)
+    by false is = λ some. ap length (locks_unsettled lists name m is) ∙ alone m (sym (ap any_exclusive (locks_unsettled lists name m is)) ∙ some)
 
 -- settling other names leaves a name's lists
 pub settles_other : (names : List (List ℕ)) (lists : Lists) (m : List ℕ) → AllByRecursion (λ n. bytes_eq n m ≡ false) names
@@ -86,4 +83,4 @@ pub settles_other : (names : List (List ℕ)) (lists : Lists) (m : List ℕ) →
 settles_other [] lists m apart = (refl, refl)
 settles_other (n ∷ names) lists m apart =
     let rest = settles_other names (settle_name lists n) m apart.1 in
-    (rest.0 ∙ settle_locks_other lists n m apart.0, rest.1 ∙ settle_queue_other lists n m apart.0)
+    (rest.0 ∙ locks_unsettled lists n m apart.0, rest.1 ∙ settle_queue_other lists n m apart.0)

@@ -14,12 +14,13 @@ use Rattle.std.proofs.lemmas.Map.Keys.{sorted_head, sorted_tail}
 use Rattle.wl_types.specs.declared.infos.LockInfo.{LockInfo}
 use Rattle.wl_machine.specs.Grants.{queue}
 use Rattle.wl_machine.specs.Step.{lock_info, request_info}
+use Rattle.wl_machine.proofs.Lists.{filter_map, map_twice}
 use Rattle.wl_index.specs.declared.table.Request.{Request}
 use Rattle.wl_index.specs.Lines.{Numbered, number_and_mode}
 use Rattle.wl_index.specs.Stamps.{by_stamp, by_stamp_all}
 use Rattle.wl_index.specs.Rows.{Entry, waiting, holding, stamp_of, request_row, lock_row, pending_of, held_of}
-use Rattle.wl_index.proofs.Lists.{filter_map, map_map, all_filter}
-use Rattle.wl_index.proofs.Entries.{same_number, number_same}
+use Rattle.wl_index.proofs.Lists.{all_filter}
+use Rattle.wl_index.proofs.Keyed.{same_number, number_same}
 
 -- a request or a lock as a snapshot shows it
 abbrev pub info : Entry → LockInfo
@@ -80,7 +81,7 @@ queue_is name es = filter_map (λ request. bytes_eq request.name name) request_r
 
 queue_numbers : (name : List ℕ) (es : List Entry) → keys_of (map number_and_mode (queue name (pending_of es))) ≡ map (λ e. e.0) (queued name es)
 queue_numbers name es =
-    ap (λ l. keys_of (map number_and_mode l)) (queue_is name es) ∙ ap keys_of (map_map number_and_mode request_row (queued name es)) ∙ map_map (λ (n : Numbered). n.0) (λ e. number_and_mode (request_row e)) (queued name es)
+    ap (λ l. keys_of (map number_and_mode l)) (queue_is name es) ∙ ap keys_of (map_twice number_and_mode request_row (queued name es)) ∙ map_twice (λ (n : Numbered). n.0) (λ e. number_and_mode (request_row e)) (queued name es)
 
 queued_found : (name : List ℕ) (es : List Entry) → IsStrictlySortedBy nat_cmp (keys_of es) → AllByRecursion (Finds es) (queued name es)
 queued_found name es sorted = all_filter (Finds es) (λ e. bytes_eq (request_row e).name name) (filter waiting es) (all_filter (Finds es) waiting es (all_found es sorted))
@@ -90,7 +91,7 @@ queue_stands name es sorted = rw (queue_numbers name es) (numbers_stand es (queu
 
 pub queue_shown : (name : List ℕ) (es : List Entry) → IsStrictlySortedBy nat_cmp (keys_of es) → found_at info es (keys_of (map number_and_mode (queue name (pending_of es)))) ≡ map request_info (queue name (pending_of es))
 queue_shown name es sorted =
-    ap (found_at info es) (queue_numbers name es) ∙ numbers_say info es (queued name es) (queued_found name es sorted) ∙ sym (ap (map request_info) (queue_is name es) ∙ map_map request_info request_row (queued name es))
+    ap (found_at info es) (queue_numbers name es) ∙ numbers_say info es (queued name es) (queued_found name es sorted) ∙ sym (ap (map request_info) (queue_is name es) ∙ map_twice request_info request_row (queued name es))
 
 -- ---- the locks
 
@@ -98,7 +99,7 @@ abbrev granted : List Entry → List Entry
 granted es = by_stamp stamp_of (filter holding es)
 
 lock_numbers : (es : List Entry) → map (λ lock. lock.number) (held_of es) ≡ map (λ e. e.0) (granted es)
-lock_numbers es = map_map (λ lock. lock.number) lock_row (granted es)
+lock_numbers es = map_twice (λ lock. lock.number) lock_row (granted es)
 
 granted_found : (es : List Entry) → IsStrictlySortedBy nat_cmp (keys_of es) → AllByRecursion (Finds es) (granted es)
 granted_found es sorted = by_stamp_all stamp_of (Finds es) (filter holding es) (all_filter (Finds es) holding es (all_found es sorted))
@@ -108,7 +109,7 @@ locks_stand es sorted = rw (lock_numbers es) (numbers_stand es (granted es) (gra
 
 pub locks_shown : (es : List Entry) → IsStrictlySortedBy nat_cmp (keys_of es) → found_at info es (map (λ lock. lock.number) (held_of es)) ≡ map lock_info (held_of es)
 locks_shown es sorted =
-    ap (found_at info es) (lock_numbers es) ∙ numbers_say info es (granted es) (granted_found es sorted) ∙ sym (map_map lock_info lock_row (granted es))
+    ap (found_at info es) (lock_numbers es) ∙ numbers_say info es (granted es) (granted_found es sorted) ∙ sym (map_twice lock_info lock_row (granted es))
 
 pub locks_copied : (es : List Entry) → IsStrictlySortedBy nat_cmp (keys_of es) → found_at lock_row es (map (λ lock. lock.number) (held_of es)) ≡ held_of es
 locks_copied es sorted = ap (found_at lock_row es) (lock_numbers es) ∙ numbers_say lock_row es (granted es) (granted_found es sorted)

@@ -23,6 +23,7 @@ use Rattle.wl_machine.proofs.Untaken.{Distinct, without, untaken_distinct, untak
 use Rattle.wl_journal.specs.declared.entry.Entry.{Entry}
 use Rattle.wl_journal.specs.Books.{Book, Appends}
 use Rattle.wl_journal.specs.History.{recorded}
+use Rattle.wl_journal.proofs.Sums.{length-filter-le}
 use Rattle.wl_manager.specs.Keepers.{Kept, phases_at, cells_at}
 use Rattle.wl_manager.specs.Aborts.{Found, numbers_of, taken, aborted, take_entry, Tried}
 
@@ -104,10 +105,6 @@ untried book kept agent signal reason standing settled = record {
   cells = λ id. refl;
 }
 
-fewer : {X : Type 0} (p : X → Bool) (xs : List X) → length (filter p xs) ≤ length xs
-fewer p [] = omega arith
-fewer p (x ∷ xs) = elim (p x) as (λ b. length (cond b (x ∷ filter p xs) (filter p xs)) ≤ suc (length xs)) [ true ↦ (let rest = fewer p xs in omega (arith, rest)) | false ↦ (let rest = fewer p xs in omega (arith, rest)) ]
-
 both_parts : (found : Found) → length (aborted found) + length (taken found) ≡ length (numbers_of found)
 both_parts [] = refl
 both_parts (lock ∷ found) = at_flag lock.1 (both_parts found)
@@ -133,7 +130,7 @@ tried_few old old_kept agent signal reason new new_kept found rest tried standin
     let sum = length-append (numbers_of found) rest in
     let all : length (numbers_of found ++ rest) ≡ length (untaken_numbers old.state agent signal) = ap length tried.locks in
     let mapped = length-map (filter (is_abortable agent signal) old.state.held) (λ (lock : HeldRow). lock.number) in
-    let held = fewer (is_abortable agent signal) old.state.held in
+    let held = length-filter-le (is_abortable agent signal) old.state.held in
     let few = standing.few in
     let parts = both_parts found in
     omega (arith, sum, all, mapped, held, few, parts)

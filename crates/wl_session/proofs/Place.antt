@@ -15,17 +15,19 @@ use Rattle.wl_session.proofs.Order.{at_least, rises, below}
 abbrev none : Look
 none = (0, Pending)
 
+-- what the tests say of a lower number
+tests_behind : (low n : ℕ) → low < n → (ltb low n ≡ true) × (ltb n low ≡ false) × (eqb low n ≡ false)
+tests_behind low n lt = (lt-ltb low n lt, le-ltb n low (omega arith), ne_eqb low n (λ e. omega arith))
+
 -- the place of a number, one behind a look of a lower one
 at_behind : (l : Look) (ls : List Look) (n at : ℕ) → l.0 < n → IsAt ls n at → IsAt (l ∷ ls) n (suc at)
 at_behind l ls n at lt p =
-    let is_before : ltb l.0 n ≡ true = lt-ltb l.0 n lt in
-    let not_beyond : ltb n l.0 ≡ false = le-ltb n l.0 (omega arith) in
-    let other : eqb l.0 n ≡ false = ne_eqb l.0 n (λ e. omega arith) in
+    let is = tests_behind l.0 n lt in
     record {
       in_range = omega (arith, p.in_range);
-      lower = rw is_before (ap (λ (xs : List Look). l ∷ xs) p.lower);
-      higher = let next : suc at + 1 ≡ suc (at + 1) = omega arith in rw (next, not_beyond) p.higher;
-      phase = λ d. rw other (p.phase d);
+      lower = rw is.0 (ap (λ (xs : List Look). l ∷ xs) p.lower);
+      higher = let next : suc at + 1 ≡ suc (at + 1) = omega arith in rw (next, is.1) p.higher;
+      phase = λ d. rw is.2 (p.phase d);
     }
 
 pub found_at : (ls : List Look) (low n at : ℕ) → IsFrom low ls → at < length ls → (get_or ls at none).0 ≡ n → IsAt ls n at
@@ -48,14 +50,12 @@ found_at (l ∷ ls) low n (suc at) h lt same =
 -- the gap for a number, one behind a look of a lower one
 gap_behind : (l : Look) (ls : List Look) (n at : ℕ) → l.0 < n → IsGapFor ls n at → IsGapFor (l ∷ ls) n (suc at)
 gap_behind l ls n at lt p =
-    let is_before : ltb l.0 n ≡ true = lt-ltb l.0 n lt in
-    let not_beyond : ltb n l.0 ≡ false = le-ltb n l.0 (omega arith) in
-    let other : eqb l.0 n ≡ false = ne_eqb l.0 n (λ e. omega arith) in
+    let is = tests_behind l.0 n lt in
     record {
       in_range = omega (arith, p.in_range);
-      lower = rw is_before (ap (λ (xs : List Look). l ∷ xs) p.lower);
-      higher = rw not_beyond p.higher;
-      phase = rw other p.phase;
+      lower = rw is.0 (ap (λ (xs : List Look). l ∷ xs) p.lower);
+      higher = rw is.1 p.higher;
+      phase = rw is.2 p.phase;
     }
 
 pub gap_at : (ls : List Look) (low n at : ℕ) → IsFrom low ls → at ≤ length ls → ((j : ℕ) → j < at → (get_or ls j none).0 < n)

@@ -1,8 +1,9 @@
 //! Why the plain core refuses a command, memory aside.
 
-ghost use Rattle.std.specs.Prelude.{◌≡◌, ◌+◌, length, nat_le, OnOk, IfErr, Option, Some, None, true};
+ghost use Rattle.std.specs.Prelude.{◌≡◌, ◌+◌, length, nat_le, Some, None, true};
 ghost use Rattle.wl_machine.specs.Refusals.{refusal};
 
+use crate::limits::{AGENTS, NAME_BYTES, NUMBERS, REQUESTS, SIGNALS};
 use crate::owners::{
     has_agent, has_signal_in, is_inactive_in, is_worker_in, reason_of, signal_count,
 };
@@ -10,37 +11,11 @@ use crate::plain::PlainCore;
 use wl_machine::{Command, HeldRow, PendingRow};
 use wl_types::{Ask, Kind, Reason, Refusal};
 
-/// How many agents of a manager may be live.
-const AGENTS: usize = 4096;
-
-/// How many signals an agent may make.
-const SIGNALS: usize = 1024;
-
-/// How many requests of a manager may be live.
-const REQUESTS: usize = 65536;
-
-/// How many bytes a name may have.
-const NAME_BYTES: usize = 1024;
-
-/// The first number that is given to nobody: 2^53.
-const NUMBERS: u64 = 9007199254740992;
-
 /// Whether as many requests are live as may be.
 fn is_full(held: &[HeldRow], pending: &[PendingRow]) -> bool
     ensures { result ≡ nat_le 65536 (length held.now + length pending.now) }
 {
     pending.len() >= REQUESTS || held.len() >= REQUESTS - pending.len()
-}
-
-/// Ok where nothing is refused.
-pub(crate) fn unless_refused(refusal: Option<Refusal>) -> Result<(), Refusal>
-    ensures may { OnOk result (refusal ≡ None) }
-    ensures refused { IfErr result (λ r. refusal ≡ Some r) }
-{
-    match refusal {
-        Some(refusal) => Err(refusal),
-        None => Ok(()),
-    }
 }
 
 impl PlainCore {

@@ -1,37 +1,13 @@
 //! Why the indexed core refuses a command, memory aside: by look-ups.
 
-ghost use Rattle.std.specs.Prelude.{◌≡◌, OnOk, IfErr, Option, Some, None, true};
+ghost use Rattle.std.specs.Prelude.{◌≡◌, Some, None, true};
 ghost use Rattle.wl_machine.specs.Refusals.{refusal};
 
 use crate::index::IndexCore;
+pub(crate) use wl_core::limits::unless_refused;
+use wl_core::limits::{AGENTS, NAME_BYTES, NUMBERS, REQUESTS, SIGNALS};
 use wl_machine::Command;
 use wl_types::{Ask, Kind, Reason, Refusal};
-
-/// How many agents of a manager may be live.
-const AGENTS: usize = 4096;
-
-/// How many signals an agent may make.
-const SIGNALS: usize = 1024;
-
-/// How many requests of a manager may be live.
-const REQUESTS: usize = 65536;
-
-/// How many bytes a name may have.
-const NAME_BYTES: usize = 1024;
-
-/// The first number that is given to nobody: 2^53.
-const NUMBERS: u64 = 9007199254740992;
-
-/// Ok where nothing is refused.
-pub(crate) fn unless_refused(refusal: Option<Refusal>) -> Result<(), Refusal>
-    ensures may { OnOk result (refusal ≡ None) }
-    ensures refused { IfErr result (λ r. refusal ≡ Some r) }
-{
-    match refusal {
-        Some(refusal) => Err(refusal),
-        None => Ok(()),
-    }
-}
 
 impl IndexCore {
     pub(crate) fn open_refusal(&self) -> Option<Refusal>

@@ -11,7 +11,7 @@ use Rattle.wl_machine.specs.Grants.{Lists, lists_of, settle_names, in_use}
 use Rattle.wl_machine.specs.Step.{available, new_request, with_name}
 use Rattle.wl_index.specs.Rows.{Entry, Rows, held_of, pending_of}
 use Rattle.wl_index.specs.Names.{Placed, names_of}
-use Rattle.wl_index.proofs.Entries.{tags_length, held_more, pending_more}
+use Rattle.wl_index.proofs.Rows.{tags_length, held_more, pending_more}
 use Rattle.wl_index.proofs.Joins.{entry_now}
 use Rattle.wl_index.proofs.Events.{plain_gives, unavailable_gives, gives_as, with_rows, rows_as}
 use Rattle.wl_index.proofs.index.IndexCore.admit.Goals as goal

@@ -7,7 +7,7 @@ use Rattle.wl_machine.specs.Step.{request_ends, lock_ends}
 use Rattle.wl_index.specs.Rows.{held_of, pending_of}
 use Rattle.wl_index.specs.Names.{Placed, Ready, names_of}
 use Rattle.wl_index.specs.Ends.{ends_request, ends_lock, without_owned, owned_ends}
-use Rattle.wl_index.proofs.Entries.{live_count, tags_length}
+use Rattle.wl_index.proofs.Rows.{live_count, tags_length}
 use Rattle.wl_index.proofs.Events.{settled_is}
 use Rattle.wl_index.proofs.index.IndexCore.end_owned.Goals as goal
 

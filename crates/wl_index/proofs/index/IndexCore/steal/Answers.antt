@@ -12,7 +12,7 @@ use Rattle.wl_machine.specs.Grants.{Lists, lists_of, settle_names, in_use, grant
 use Rattle.wl_machine.specs.Step.{new_request, with_name, lock_ends}
 use Rattle.wl_index.specs.Rows.{Entry, held_of, pending_of}
 use Rattle.wl_index.specs.Names.{Placed, WaitsAlone, names_of}
-use Rattle.wl_index.proofs.Entries.{tags_length, is_request, held_more}
+use Rattle.wl_index.proofs.Rows.{tags_length, is_request, held_more}
 use Rattle.wl_index.proofs.Joins.{entry_now}
 use Rattle.wl_index.proofs.Underway.{all_still}
 use Rattle.wl_index.proofs.Events.{gives_as, with_rows, rows_as}

@@ -8,7 +8,7 @@ use Rattle.wl_machine.specs.State.{State}
 use Rattle.wl_machine.specs.Grants.{Lists, lists_of, settle_names}
 use Rattle.wl_index.specs.Rows.{held_of, pending_of, lock_row}
 use Rattle.wl_index.specs.Names.{Placed, names_of}
-use Rattle.wl_index.proofs.Entries.{live_count, tags_length}
+use Rattle.wl_index.proofs.Rows.{live_count, tags_length}
 use Rattle.wl_index.proofs.Events.{release_gives}
 use Rattle.wl_index.proofs.index.IndexCoreLockCore.release.Goals as goal
 

@@ -7,7 +7,7 @@ use Rattle.std.specs.Cmp.Lexicographic.{slice_cmp}
 use Rattle.std.proofs.lemmas.Map.Text.{btree_map_updates_text}
 use Rattle.wl_index.specs.Lines.{Waiting}
 use Rattle.wl_index.specs.Names.{Placed, among, names_of}
-use Rattle.wl_index.proofs.Entries.{entry_last, undone}
+use Rattle.wl_index.proofs.Keyed.{entry_last, undone}
 use Rattle.wl_index.proofs.Joins.{names_joined}
 use Rattle.wl_index.proofs.names.Names.add.Goals as goal
 

@@ -5,7 +5,7 @@ use Rattle.std.specs.BTreeMap.{is_at, get_by_text}
 use Rattle.wl_index.specs.Rows.{other, held_of, pending_of}
 use Rattle.wl_index.specs.Lines.{without}
 use Rattle.wl_index.specs.Names.{Placed, Ready, names_of}
-use Rattle.wl_index.proofs.Entries.{found}
+use Rattle.wl_index.proofs.Keyed.{found}
 use Rattle.wl_index.proofs.Placed.{copied_some}
 use Rattle.std.specs.List.{AllByRecursion}
 use Rattle.wl_index.proofs.Joins.{places_written}

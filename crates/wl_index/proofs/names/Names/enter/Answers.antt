@@ -6,7 +6,7 @@ use Rattle.std.specs.BTreeMap.{is_at}
 use Rattle.wl_machine.specs.declared.rows.PendingRow.{PendingRow}
 use Rattle.wl_index.specs.Rows.{Entry, Rows, other, request_row, held_of, pending_of}
 use Rattle.wl_index.specs.Names.{Placed, Entered, IsBelow}
-use Rattle.wl_index.proofs.Entries.{is_request, held_more, pending_more}
+use Rattle.wl_index.proofs.Rows.{is_request, held_more, pending_more}
 use Rattle.wl_index.proofs.Joins.{entry_now, last_there, last_gone, last_waits, lines_below}
 use Rattle.wl_index.proofs.names.Names.enter.Goals as goal
 

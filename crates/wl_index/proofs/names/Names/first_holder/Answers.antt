@@ -5,10 +5,11 @@ use Rattle.std.specs.List.{AllByRecursion}
 use Rattle.std.specs.BTreeMap.{get_by_text}
 use Rattle.wl_machine.specs.declared.rows.HeldRow.{HeldRow}
 use Rattle.wl_machine.specs.Grants.{locks}
+use Rattle.wl_machine.proofs.Lists.{map_twice}
 use Rattle.wl_index.specs.Rows.{held_of, pending_of}
 use Rattle.wl_index.specs.Lines.{Waiting, Numbered, Matches, lock_and_mode}
 use Rattle.wl_index.specs.Names.{Placed, among, names_of}
-use Rattle.wl_index.proofs.Lists.{all_back, map_map}
+use Rattle.wl_index.proofs.Lists.{all_back}
 use Rattle.wl_index.proofs.Placed.{copied_some}
 use Rattle.wl_index.proofs.Joins.{line_found, not_found}
 use Rattle.wl_index.proofs.names.Names.first_holder.Goals as goal
@@ -32,7 +33,7 @@ returns-in-Some c =
     let matches = (all_back M a.split.front ((c.in-Some.place.now, a.line) ∷ a.split.back) (subst (AllByRecursion M) a.split.whole matched)).0 in
     let same : c.unwrap.result.now ≡ a.line = ap (λ o. unwrap_or o a.line) (sym (ap option_copied c.unwrap.ensures) ∙ c.get-in-Some.ensures.value ∙ a.there) in
     c.first_number.ensures ∙ ap (λ (w : Waiting). slice_get (map (λ (e : Numbered). e.0) w.holders) 0) same ∙ ap (λ l. slice_get (map (λ (e : Numbered). e.0) l) 0) matches.holders
-    ∙ ap (λ l. slice_get l 0) (map_map (λ (e : Numbered). e.0) lock_and_mode (locks a.line.name (held_of es))) ∙ ap (λ n. slice_get (map (λ (lock : HeldRow). lock.number) (locks n (held_of es))) 0) a.named
+    ∙ ap (λ l. slice_get l 0) (map_twice (λ (e : Numbered). e.0) lock_and_mode (locks a.line.name (held_of es))) ∙ ap (λ n. slice_get (map (λ (lock : HeldRow). lock.number) (locks n (held_of es))) 0) a.named
 
 pub returns-in-None : goal.returns-in-None
 returns-in-None c =

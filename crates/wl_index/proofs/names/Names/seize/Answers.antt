@@ -6,7 +6,8 @@ use Rattle.std.specs.BTreeMap.{is_at, get_by_text}
 use Rattle.wl_index.specs.Rows.{held_of, pending_of}
 use Rattle.wl_index.specs.Lines.{seized}
 use Rattle.wl_index.specs.Names.{Placed, Ready, names_of}
-use Rattle.wl_index.proofs.Entries.{found, is_request}
+use Rattle.wl_index.proofs.Keyed.{found}
+use Rattle.wl_index.proofs.Rows.{is_request}
 use Rattle.wl_index.proofs.Placed.{copied_some}
 use Rattle.wl_index.proofs.Ends.{place_found}
 use Rattle.wl_index.proofs.Joins.{line_found, places_written}

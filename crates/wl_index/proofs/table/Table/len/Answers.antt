@@ -1,5 +1,5 @@
 use Rattle.std.proofs.Common.{◌∙◌, sym}
-use Rattle.wl_index.proofs.Entries.{live_count}
+use Rattle.wl_index.proofs.Rows.{live_count}
 use Rattle.wl_index.proofs.table.Table.len.Goals as goal
 
 pub returns-clause-live : goal.returns-clause-live

@@ -4,7 +4,9 @@ use Rattle.std.specs.Map.{keys_of, lookup}
 use Rattle.std.specs.BTreeMap.{is_at}
 use Rattle.wl_index.specs.Rows.{tags_of}
 use Rattle.wl_index.specs.Groups.{IsGrouped, without_tag}
-use Rattle.wl_index.proofs.Entries.{found, removed, ended_table}
+use Rattle.wl_index.proofs.Keyed.{found}
+use Rattle.wl_index.proofs.Rows.{removed}
+use Rattle.wl_index.proofs.Tables.{ended_table}
 use Rattle.wl_index.proofs.Tags.{tags_less, tagged}
 use Rattle.wl_index.proofs.table.Table.remove.Goals as goal
 
