@@ -1,9 +1,10 @@
 //! A client's end of a WebSocket.
 
-ghost use Rattle.std.specs.Prelude.{◌≡◌, ◌⊎◌, ◌||◌, IfOk, OnOk};
+ghost use Rattle.std.specs.Prelude.{◌≡◌, ◌⊎◌, ◌||◌, IfOk, IfErr, OnOk};
 ghost use Rattle.tungstenite.specs.Content.{text, binary};
 ghost use Rattle.tungstenite.specs.Socket.{content_of, has_kind};
 ghost use Rattle.wl_server.specs.Sockets.{Receives};
+ghost use Rattle.wl_server.specs.declared.fault.RelayFault.TheVariants.{Handshake, Memory};
 
 use crate::RelayFault;
 use crate::asking::{Asker, NoReply};
@@ -37,7 +38,9 @@ pub fn connect<'a, R: RandomSource, S: Read + Write + Drop>(
     rt: &'a R,
     alloc: Global,
     stream: S,
-) -> Result<Caller<S, RandomKeys<&'a R>>, RelayFault> {
+) -> Result<Caller<S, RandomKeys<&'a R>>, RelayFault>
+    ensures { IfErr result (λ fault. (fault ≡ Handshake) ⊎ (fault ≡ Memory)) }
+{
     let request = match request_of(alloc, "ws://localhost/") {
         Ok(request) => request,
         Err(_) => return Err(RelayFault::Memory),
