@@ -1,2 +1,4 @@
 mod Talks
 mod Looks
+mod Parts
+mod Sockets

@@ -1,3 +1,6 @@
 pub mod Talks
 pub mod Listening
 pub mod Peers
+pub mod Lines
+pub mod Sockets
+pub mod Relays

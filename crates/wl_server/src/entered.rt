@@ -33,6 +33,7 @@ impl Entered {
     pub fn end<R: Wait>(self, rt: &R) -> Option<Leaving>
         ensures { is_some result ≡ is_some (number_of self.client) }
     {
-        self.client.terminate(rt)
+        let Entered { client } = self;
+        client.terminate(rt)
     }
 }

@@ -6,6 +6,8 @@
 #![tactic(auto)]
 
 mod acting;
+mod asking;
+mod caller;
 mod crowd;
 mod entered;
 mod fault;
@@ -13,6 +15,7 @@ mod lines;
 mod link;
 mod listening;
 mod peer;
+mod piece;
 mod relaying;
 mod requests;
 mod serving;
@@ -21,6 +24,7 @@ mod talk;
 #[cfg(test)]
 mod tests;
 mod visit;
+mod writing;
 
 pub use crate::fault::{ListenFault, RelayFault, ServeEnd, ServeFault, Served};
 pub use crate::listening::serve;

@@ -1,13 +1,19 @@
 //! The lines of a reader.
 
-ghost use Rattle.std.specs.Prelude.{◌≡◌, ◌≤◌, ◌∷◌, ◌++◌, [], length, IfOk, IfSome};
+ghost use Rattle.std.specs.Prelude.{◌≡◌, ◌≢◌, ◌≤◌, ◌<◌, ◌∷◌, ◌++◌, [], length, drop, true, false, Ok, Err, None, Option, ℕ, List, IfSome, OnOk};
+ghost use Rattle.std.specs.Io.KnownBytes.{Consumes, IsAtEnd};
+ghost use Rattle.wl_server.specs.Lines.{HasNoLf, GivesLine, GivesTooLong, GivesPart, to_come};
 
+use crate::piece::Piece;
+use memchr::memchr;
 use std::alloc::Global;
-use std::io;
-use std::io::{BufRead, BufReader, ErrorKind, Read, Take};
+use std::io::Read;
+use std::sync::Wait;
 
 /// The bytes of a line at most, without its LF.
 const LIMIT: usize = 65_536;
+
+const LF: u8 = 10;
 
 /// Why there is no next line.
 #[derive(Clone, Copy, Debug, PartialEq, Eq, Drop)]
@@ -17,43 +23,104 @@ pub enum NoLine {
     Memory,
 }
 
-/// A reader, and the line that was read last.
+/// The first line and what follows its LF, if there is an LF.
+fn split_line(bytes: &[u8]) -> Option<(&[u8], &[u8])>
+    ensures none { result ≡ None → HasNoLf bytes.now }
+    ensures some { IfSome result (λ parts. HasNoLf parts.0.now × (bytes.now ≡ parts.0.now ++ 10 ∷ parts.1.now)) }
+{
+    let at = memchr(LF, bytes)?;
+    Some((&bytes[..at], &bytes[at + 1..]))
+}
+
+/// Adds bytes to a line.
+fn add(line: &mut Vec<u8>, part: &[u8]) -> Result<(), NoLine>
+    ensures added { OnOk result (line.new.items ≡ line.old.items ++ part.now) }
+    ensures short { OnOk result (length line.new.items ≤ 65536) }
+    ensures long { result ≡ Err NoLine.TooLong → (line.new.items ≡ line.old.items ++ part.now) × (65536 < length line.new.items) }
+{
+    if line.extend_from_slice(part).is_err() {
+        return Err(NoLine::Memory);
+    }
+    if line.len() > LIMIT {
+        return Err(NoLine::TooLong);
+    }
+    Ok(())
+}
+
+/// A reader, and what was read of it and is in no line yet.
 #[derive(Drop)]
 pub struct Lines<R> {
-    reader: Take<BufReader<R>>,
-    line: Vec<u8>,
+    reader: R,
+    piece: Piece,
 }
 
 impl<R: Read + Drop> Lines<R> {
-    pub fn new(alloc: Global, reader: R) -> io::Result<Lines<R>> {
-        Ok(Lines {
-            reader: BufReader::new(alloc, reader)?.take(0),
-            line: Vec::new(alloc),
-        })
+    pub fn new(alloc: Global, reader: R) -> Lines<R>
+        ensures { to_come R.remaining result ≡ R.remaining reader }
+    {
+        Lines {
+            reader,
+            piece: Piece::new(alloc),
+        }
     }
 
-    /// The next line without its LF, or none at the end. A last line without LF is one if it has a byte.
-    pub fn next_line(&mut self) -> Result<Option<&[u8]>, NoLine>
-        ensures short { IfOk result (λ next. IfSome next (λ line. length line.now ≤ 65536)) }
+    /// Adds to a line what the piece has of it, and answers whether it ended.
+    fn take_part(&mut self, line: &mut Vec<u8>) -> Result<bool, NoLine>
+        ensures ended { result ≡ Ok true → GivesPart (to_come R.remaining self.old) line.old.items line.new.items (10 ∷ []) (to_come R.remaining self.new) }
+        ensures open { result ≡ Ok false → GivesPart (to_come R.remaining self.old) line.old.items line.new.items [] (to_come R.remaining self.new) }
+        ensures used { result ≡ Ok false → self.new.piece ≡ [] }
+        ensures short { OnOk result (length line.new.items ≤ 65536) }
+        ensures long { result ≡ Err NoLine.TooLong → ((left : Option (List ℕ)) × GivesPart (to_come R.remaining self.old) line.old.items line.new.items [] left
+            × (65536 < length line.new.items)) }
     {
-        self.line.clear();
-        self.reader.set_limit(LIMIT as u64 + 1);
-        if let Err(error) = self.reader.read_until(b'\n', &mut self.line) {
-            return Err(if error.kind() == ErrorKind::OutOfMemory {
-                NoLine::Memory
-            } else {
-                NoLine::Read
-            });
+        let rest = self.piece.rest();
+        match split_line(rest) {
+            Some((part, _)) => {
+                let taken = part.len() + 1;
+                match add(line, part) {
+                    Ok(()) => {
+                        self.piece.skip(taken);
+                        Ok(true)
+                    }
+                    Err(fault) => Err(fault),
+                }
+            }
+            None => {
+                let taken = rest.len();
+                match add(line, rest) {
+                    Ok(()) => {
+                        self.piece.skip(taken);
+                        Ok(false)
+                    }
+                    Err(fault) => Err(fault),
+                }
+            }
         }
-        if self.line.is_empty() {
-            return Ok(None);
+    }
+
+    /// Puts the next line without its LF in place of what `line` has, and answers true, or false at the end. A last
+    /// line without LF is one if it has a byte.
+    pub fn next_line<W: Wait>(&mut self, rt: &W, line: &mut Vec<u8>) -> Result<bool, NoLine>
+        ensures given { result ≡ Ok true → GivesLine (to_come R.remaining self.old) line.new.items (to_come R.remaining self.new) }
+        ensures short { result ≡ Ok true → length line.new.items ≤ 65536 }
+        ensures end { result ≡ Ok false → IsAtEnd (to_come R.remaining self.old) }
+        ensures long { result ≡ Err NoLine.TooLong → GivesTooLong (to_come R.remaining self.old) 65536 }
+    {
+        line.clear();
+        for _ in rt.forever() {
+            match self.take_part(line) {
+                Ok(true) => return Ok(true),
+                Ok(false) => {}
+                Err(fault) => return Err(fault),
+            }
+            match self.piece.read(rt, &mut self.reader) {
+                Ok(()) => {}
+                Err(fault) => return Err(fault),
+            }
+            if self.piece.rest().is_empty() {
+                return Ok(!line.is_empty());
+            }
         }
-        if self.line.last() == Some(&b'\n') {
-            let _ = self.line.pop();
-        }
-        if self.line.len() > LIMIT {
-            return Err(NoLine::TooLong);
-        }
-        Ok(Some(&self.line))
+        unreachable!()
     }
 }

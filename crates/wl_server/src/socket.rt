@@ -27,12 +27,18 @@ struct Line<S> {
 }
 
 impl<S: Read> Read for Line<S> {
+    ghost remaining = { λ line. S.remaining line.stream };
+
     fn read(&mut self, buf: &mut [u8]) -> io::Result<usize> {
         self.stream.read(buf)
     }
 }
 
 impl<S: Write> Write for Line<S> {
+    ghost use Rattle.std.specs.Prelude.{None, if◌then◌else◌};
+
+    ghost contents = { λ line. if line.is_left then None else S.contents line.stream };
+
     fn write(&mut self, buf: &[u8]) -> io::Result<usize> {
         if self.is_left {
             return Ok(buf.len());
@@ -118,11 +124,15 @@ impl<S: Read + Write + Drop> Socket<S> {
 }
 
 impl<S: Read + Write + Drop> Link for Socket<S> {
+    ghost use Rattle.std.specs.Prelude.{None, if◌then◌else◌};
+    ghost use Rattle.tungstenite.specs.Content.{text};
+    ghost use Rattle.wl_server.specs.Sockets.{Sends};
+
     ghost hears = { λ old message new. Unit {0} };
 
     ghost closes = { λ old new. Unit {0} };
 
-    ghost says = { λ old text new. Unit {0} };
+    ghost says = { λ old words new. Sends (λ line. if line.is_left then None else S.contents line.stream) old.inner (text words) new.inner };
 
     ghost fails = { λ old fault new. Unit {0} };
 
