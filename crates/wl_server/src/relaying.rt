@@ -71,7 +71,9 @@ fn relay_lines<R: Wait, A: Asker, I: Read + Drop, O: Write>(
     let mut reply = Vec::new(alloc);
     let mut written: u64 = 0;
     for _ in rt.forever() {
-        match relay_line(rt, asker, &mut lines, writer, &mut line, &mut reply, written) {
+        match relay_line(
+            rt, asker, &mut lines, writer, &mut line, &mut reply, written,
+        ) {
             Ok(true) => {}
             Ok(false) => return Ok(written),
             Err(fault) => return Err(fault),

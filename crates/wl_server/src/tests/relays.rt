@@ -4,14 +4,13 @@ use super::frames::Narrow;
 use super::{NoGate, OPEN};
 use crate::{ListenFault, RelayFault, Served, relay, serve};
 use std::alloc::{AllocError, Global};
-use std::io;
 use std::io::{ErrorKind, Read, Write};
 use std::net::{Net, TcpListener, TcpStream};
 use std::random::RandomSource;
 use std::sync::Wait;
 use std::test::Fail;
-use std::thread;
 use std::thread::Threads;
+use std::{io, thread};
 use tungstenite::Message;
 use wl_service::Service;
 
