@@ -24,22 +24,22 @@ pub loop-preserved-else-not-is_idle-5 : goal.loop-preserved-else-not-is_idle-5
 loop-preserved-else-not-is_idle-5 g c =
     let (before, all) = c.loop.invariant in
     let so : c.is_idle.result ≡ true = search rules in
-    (before ++ c.in-Ok.message ∷ [], idles_more _ before c.in-Ok.message _ _ _ all (rw c.in-Ok.is at c.read.ensures) (idle c.in-Ok.message (sym c.is_idle.ensures ∙ so)))
+    (before ++ c.in-Ok.message ∷ [], idles_more g.S.Read.remaining before c.in-Ok.message c.args.socket.now c.loop.socket c.read.new.self all (rw c.in-Ok.is at c.read.ensures) (idle c.in-Ok.message (sym c.is_idle.ensures ∙ so)))
 
 pub loop-preserved-else-not-is_idle-6 : goal.loop-preserved-else-not-is_idle-6
 loop-preserved-else-not-is_idle-6 g c =
     let (before, all) = c.loop.invariant in
     let so : c.is_idle.result ≡ true = search rules in
-    (before ++ c.in-Ok.message ∷ [], idles_more _ before c.in-Ok.message _ _ _ all (rw c.in-Ok.is at c.read.ensures) (idle c.in-Ok.message (sym c.is_idle.ensures ∙ so)))
+    (before ++ c.in-Ok.message ∷ [], idles_more g.S.Read.remaining before c.in-Ok.message c.args.socket.now c.loop.socket c.read.new.self all (rw c.in-Ok.is at c.read.ensures) (idle c.in-Ok.message (sym c.is_idle.ensures ∙ so)))
 
 pub loop-preserved-else-not-is_idle-7 : goal.loop-preserved-else-not-is_idle-7
 loop-preserved-else-not-is_idle-7 g c =
     let (before, all) = c.loop.invariant in
     let so : c.is_idle.result ≡ true = search rules in
-    (before ++ c.in-Ok.message ∷ [], idles_more _ before c.in-Ok.message _ _ _ all (rw c.in-Ok.is at c.read.ensures) (idle c.in-Ok.message (sym c.is_idle.ensures ∙ so)))
+    (before ++ c.in-Ok.message ∷ [], idles_more g.S.Read.remaining before c.in-Ok.message c.args.socket.now c.loop.socket c.read.new.self all (rw c.in-Ok.is at c.read.ensures) (idle c.in-Ok.message (sym c.is_idle.ensures ∙ so)))
 
 pub loop-preserved-else-not-is_idle-8 : goal.loop-preserved-else-not-is_idle-8
 loop-preserved-else-not-is_idle-8 g c =
     let (before, all) = c.loop.invariant in
     let so : c.is_idle.result ≡ true = search rules in
-    (before ++ c.in-Ok.message ∷ [], idles_more _ before c.in-Ok.message _ _ _ all (rw c.in-Ok.is at c.read.ensures) (idle c.in-Ok.message (sym c.is_idle.ensures ∙ so)))
+    (before ++ c.in-Ok.message ∷ [], idles_more g.S.Read.remaining before c.in-Ok.message c.args.socket.now c.loop.socket c.read.new.self all (rw c.in-Ok.is at c.read.ensures) (idle c.in-Ok.message (sym c.is_idle.ensures ∙ so)))
