@@ -54,6 +54,12 @@ fn a_failed_write_leaves_a_part_of_the_next_reply(rt: HostRuntime) -> Result<(),
     Ok(())
 }
 
+/// The first bytes of the replies.
+fn replies_up_to(end: usize) -> &'static [u8] {
+    let replies = REPLIES.as_bytes();
+    &replies[..end.min(replies.len())]
+}
+
 #[test]
 fn refused_memory_leaves_the_lines_before_it(rt: HostRuntime) -> Result<(), Fail> {
     let limits = Limits {
@@ -68,7 +74,7 @@ fn refused_memory_leaves_the_lines_before_it(rt: HostRuntime) -> Result<(), Fail
         let result = run_lines(rt.alloc(), &mut answerer, &mut reader, &mut writer, limits);
         assert_eq!(rt; result, Err(ScriptFault::Memory(left)), "after {left}");
         assert!(rt;
-            writer.bytes.as_slice() == &REPLIES.as_bytes()[..end],
+            writer.bytes.as_slice() == replies_up_to(end),
             "after {left}"
         );
     }
