@@ -5,8 +5,12 @@ use crate::{AbortAnswer, LockCore, ReleaseAnswer, TakeAnswer};
 use std::test::Fail;
 use wl_types::{Change, Kind, Mode, Phase, Reason, Refusal};
 
+fn change(id: u64, phase: Phase) -> Change {
+    Change { id, phase }
+}
+
 #[test]
-fn each_call_answers(rt: HostRuntime) -> Result<(), Fail> {
+fn agents_come_and_go_and_windows_are_set(rt: HostRuntime) -> Result<(), Fail> {
     let alloc = rt.alloc();
     let mut core = opening(alloc);
     assert!(rt; core.may_open() == Ok(()));
@@ -17,44 +21,60 @@ fn each_call_answers(rt: HostRuntime) -> Result<(), Fail> {
     assert!(rt; core.request(1, &ask(alloc, "db", Mode::Shared)?) == Err(Refusal::InvalidState));
     assert!(rt; core.set_active(1, true) == Ok(()));
     assert!(rt; core.may_set(2) == Err(Refusal::NotAWindow));
+    assert!(rt; core.terminate(2) == Ok(()));
+    assert!(rt; core.terminate(2) == Err(Refusal::NoSuchAgent));
+    Ok(())
+}
+
+#[test]
+fn a_lock_is_granted_taken_and_released(rt: HostRuntime) -> Result<(), Fail> {
+    let alloc = rt.alloc();
+    let mut core = opening(alloc);
+    core.open(Kind::Window)?;
+    let wanted = ask(alloc, "db", Mode::Exclusive)?;
+    assert!(rt; core.may_request(1, &wanted) == Ok(()));
+    assert_eq!(rt; core.request(1, &wanted)?, 1);
+    assert!(rt; core.changes() == [change(1, Phase::Granted)].as_slice());
+    assert!(rt; core.take(1) == TakeAnswer::Taken);
+    assert!(rt; core.take(1) == TakeAnswer::NotGranted);
+    assert!(rt; core.release(1, 1) == ReleaseAnswer::Released);
+    assert!(rt; core.release(1, 1) == ReleaseAnswer::NotHeld);
+    Ok(())
+}
+
+#[test]
+fn an_abort_ends_what_was_not_taken(rt: HostRuntime) -> Result<(), Fail> {
+    let alloc = rt.alloc();
+    let mut core = opening(alloc);
+    core.open(Kind::Window)?;
     assert!(rt; core.may_signal(1) == Ok(()));
     assert_eq!(rt; core.new_signal(1)?, 1);
     let mut wanted = ask(alloc, "db", Mode::Exclusive)?;
     wanted.signal = Some(1);
-    assert!(rt; core.may_request(1, &wanted) == Ok(()));
-    assert_eq!(rt; core.request(1, &wanted)?, 1);
-    assert!(rt;
-        core.changes()
-            == [Change {
-                id: 1,
-                phase: Phase::Granted
-            }]
-            .as_slice()
-    );
+    core.request(1, &wanted)?;
     assert!(rt; core.untaken(1, 1, 0) == Some(1));
     assert!(rt; core.untaken(1, 1, 1) == None);
-    assert_eq!(rt; core.request(2, &ask(alloc, "db", Mode::Shared)?)?, 2);
-    assert!(rt; core.take(1) == TakeAnswer::Taken);
-    assert!(rt; core.take(1) == TakeAnswer::NotGranted);
+    assert!(rt; core.abort(1, 1, Reason::TimeoutError) == Ok(AbortAnswer::Done));
+    assert!(rt; core.changes() == [change(1, Phase::Aborted(Reason::TimeoutError))].as_slice());
+    assert!(rt; core.abort(1, 1, Reason::AbortError) == Ok(AbortAnswer::AlreadyAborted));
+    Ok(())
+}
+
+#[test]
+fn a_snapshot_shows_who_holds_and_who_waits(rt: HostRuntime) -> Result<(), Fail> {
+    let alloc = rt.alloc();
+    let mut core = opening(alloc);
+    core.open(Kind::Window)?;
+    core.open(Kind::Worker)?;
+    core.request(1, &ask(alloc, "db", Mode::Exclusive)?)?;
+    core.request(2, &ask(alloc, "db", Mode::Shared)?)?;
     let seen = core.snapshot(2)?;
     assert_eq!(rt; seen.held.as_slice().len(), 1);
     assert_eq!(rt; seen.held.as_slice()[0].client, 1);
     assert_eq!(rt; seen.pending.as_slice().len(), 1);
     assert_eq!(rt; seen.pending.as_slice()[0].name.as_str(), "db");
-    assert!(rt; core.abort(1, 1, Reason::TimeoutError) == Ok(AbortAnswer::Done));
-    assert!(rt; core.abort(1, 1, Reason::AbortError) == Ok(AbortAnswer::AlreadyAborted));
-    assert!(rt; core.release(1, 1) == ReleaseAnswer::Released);
-    assert!(rt; core.release(1, 1) == ReleaseAnswer::NotHeld);
     assert!(rt; core.terminate(2) == Ok(()));
-    assert!(rt;
-        core.changes()
-            == [Change {
-                id: 2,
-                phase: Phase::Released
-            }]
-            .as_slice()
-    );
-    assert!(rt; core.terminate(2) == Err(Refusal::NoSuchAgent));
+    assert!(rt; core.changes() == [change(2, Phase::Released)].as_slice());
     Ok(())
 }
 
