@@ -29,19 +29,20 @@ use wl_types::{Ask, Change, Memory, Mode, Name, Phase};
 #[derive(Drop)]
 pub struct Names {
     lines: BTreeMap<u64, Line>,
-    uses: BTreeMap<String, u64>,
+    uses: BTreeMap<Name, u64>,
 }
 
 impl Model for Names {
     ghost use Rattle.std.specs.Prelude.{List, ℕ};
-    ghost use Rattle.std.specs.BTreeMap.{get_by_text};
+    ghost use Rattle.std.specs.BTreeMap.{get};
+    ghost use Rattle.wl_types.specs.NameOrder.{name_cmp};
     ghost use Rattle.wl_index.specs.Names.{Placed, IsNames};
 
     ghost Value = { List Placed };
 
     ghost view = { λ n. n.lines.entries };
 
-    ghost invariant = { λ n. IsNames n.lines.entries (get_by_text n.uses) };
+    ghost invariant = { λ n. IsNames n.lines.entries (get name_cmp n.uses) };
 }
 
 impl Names {
@@ -70,7 +71,7 @@ impl Names {
         ensures places { AllByRecursion (λ e. e.0 < number + 1) self.new }
         ensures err { OnErr result (self.new ≡ self.old) }
     {
-        if let Some(place) = self.uses.get(name.as_str()) {
+        if let Some(place) = self.uses.get(name) {
             let place = *place;
             push_at(&mut self.lines, place, number, mode)?;
             return Ok(place);
@@ -88,9 +89,9 @@ impl Names {
     {
         let mut line = Line::new(alloc, name.copy(alloc)?);
         line.push(number, mode)?;
-        let text = String::from_str(alloc, name.as_str())?;
+        let key = name.copy(alloc)?;
         self.lines.insert(number, line)?;
-        let Ok(_) = self.uses.insert(text, number) else {
+        let Ok(_) = self.uses.insert(key, number) else {
             self.lines.remove(&number);
             return Err(Memory);
         };
@@ -103,7 +104,7 @@ impl Names {
         ensures { (row : PendingRow) → row.name ≡ name.now → row.mode ≡ mode
             → result ≡ (is_empty (queue row.name (pending_of table.now.entries)) && not (is_empty (grants (locks row.name (held_of table.now.entries)) (row ∷ [])))) }
     {
-        match self.uses.get(name.as_str()) {
+        match self.uses.get(name) {
             Some(place) => self.lines.get(place).unwrap().is_available(mode),
             None => true,
         }
@@ -177,7 +178,7 @@ impl Names {
         ensures touched_capacity { vec_capacity touched.old ≤ vec_capacity touched.new }
     {
         let request = table.remove(number).unwrap();
-        let place = *self.uses.get(request.name.as_str()).unwrap();
+        let place = *self.uses.get(&request.name).unwrap();
         remove_at(&mut self.lines, place, number);
         push_in_room(touched, place);
         push_in_room(changes, Change { id: number, phase });
@@ -190,7 +191,7 @@ impl Names {
         requires known { (m : List ℕ) → among m (names_of self.now) ≡ false → locks m (held_of table.now.entries) ≡ [] }
         ensures { result ≡ slice_get (map (λ lock. lock.number) (locks name.now (held_of table.now.entries))) 0 }
     {
-        match self.uses.get(name.as_str()) {
+        match self.uses.get(name) {
             Some(place) => self.lines.get(place).unwrap().first_number(),
             None => None,
         }
@@ -244,7 +245,7 @@ impl Names {
         ensures tags { tags_of table.new.entries ≡ tags_of table.old.entries }
         ensures capacity { vec_capacity touched.old ≤ vec_capacity touched.new }
     {
-        let place = *self.uses.get(name.as_str()).unwrap();
+        let place = *self.uses.get(name).unwrap();
         seize_at(&mut self.lines, place, number);
         table.grant(number);
         push_in_room(touched, place);
@@ -303,7 +304,7 @@ impl Names {
             return;
         }
         let line = self.lines.remove(&place).unwrap();
-        self.uses.remove(line.name().as_str());
+        self.uses.remove(line.name());
     }
 
     /// Processes the queues of the touched names, in the order in which the names came into use.

@@ -1,14 +1,13 @@
 use Rattle.std.proofs.Common.{◌≡◌, ◌∙◌, ◌<◌, ◌∷◌, ◌++◌, [], ap, subst, sym, nat_cmp, Some, rules}
 use Rattle.std.specs.List.{AllByRecursion}
 use Rattle.std.specs.Map.{remove_entry}
-use Rattle.std.specs.BTreeMap.{is_at, get_by_text, UpdatesBy}
-use Rattle.std.specs.String.{string_bytes, string_cmp}
-use Rattle.std.specs.Cmp.Lexicographic.{slice_cmp}
-use Rattle.std.proofs.lemmas.Map.Text.{btree_map_updates_text}
+use Rattle.std.specs.BTreeMap.{is_at, get, UpdatesBy}
+use Rattle.wl_types.specs.NameOrder.{name_cmp}
 use Rattle.wl_index.specs.Lines.{Waiting}
 use Rattle.wl_index.specs.Names.{Placed, among, names_of}
 use Rattle.wl_index.proofs.Keyed.{entry_last, undone}
 use Rattle.wl_index.proofs.Joins.{names_joined}
+use Rattle.wl_index.proofs.Named.{updated_by_name}
 use Rattle.wl_index.proofs.names.Names.add.Goals as goal
 
 pub returns-clause-added : goal.returns-clause-added
@@ -27,9 +26,9 @@ invariant_of-self-in-Ok c =
     let places : AllByRecursion (λ (e : Placed). e.0 < c.args.number) i.lines.entries = subst (AllByRecursion (λ (e : Placed). e.0 < c.args.number)) (sym c.self.view_is) c.requires.places in
     let pushed : c.push.new.self ≡ line = search rules in
     let last : c.insert.new.self.entries ≡ i.lines.entries ++ (c.args.number, line) ∷ [] = c.in_ok-insert.ensures.entries ∙ entry_last i.lines.entries c.args.number c.push.new.self places ∙ ap (λ l. i.lines.entries ++ (c.args.number, l) ∷ []) pushed in
-    let text : string_bytes c.in_ok-text.text ≡ c.args.name.now = search rules in
-    let updates = btree_map_updates_text c.args.name.now i.uses c.insert-2.new.self (Some c.args.number) (subst (λ n. UpdatesBy string_cmp (λ k. slice_cmp nat_cmp n (string_bytes k)) i.uses c.insert-2.new.self (Some c.args.number)) text c.in-Ok.ensures.updates) in
-    names_joined (get_by_text i.uses) i.lines.entries c.insert.new.self.entries c.args.number line (get_by_text c.insert-2.new.self) c.self.invariant (ap (λ v. among c.args.name.now (names_of v)) c.self.view_is ∙ c.requires.fresh) last c.in_ok-insert.ensures.ordered updates
+    let named : c.in_ok-key.key ≡ c.args.name.now = search rules in
+    let updates = updated_by_name c.args.name.now i.uses c.insert-2.new.self (Some c.args.number) (subst (λ n. UpdatesBy name_cmp (name_cmp n) i.uses c.insert-2.new.self (Some c.args.number)) named c.in-Ok.ensures.updates) in
+    names_joined (get name_cmp i.uses) i.lines.entries c.insert.new.self.entries c.args.number line (get name_cmp c.insert-2.new.self) c.self.invariant (ap (λ v. among c.args.name.now (names_of v)) c.self.view_is ∙ c.requires.fresh) last c.in_ok-insert.ensures.ordered updates
 
 pub invariant_of-self-in_default : goal.invariant_of-self-in_default
 invariant_of-self-in_default c =

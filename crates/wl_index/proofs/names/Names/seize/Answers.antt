@@ -2,7 +2,8 @@ use Rattle.std.proofs.Common.{◌≡◌, ◌∙◌, ◌<◌, [], ap, subst, sym,
 use Rattle.std.specs.Option.{IsSome, IfSome, option_copied}
 use Rattle.std.specs.List.{AllByRecursion}
 use Rattle.std.specs.Map.{set_value}
-use Rattle.std.specs.BTreeMap.{is_at, get_by_text}
+use Rattle.std.specs.BTreeMap.{is_at, get}
+use Rattle.wl_types.specs.NameOrder.{name_cmp}
 use Rattle.wl_index.specs.Rows.{held_of, pending_of}
 use Rattle.wl_index.specs.Lines.{seized}
 use Rattle.wl_index.specs.Names.{Placed, Ready, names_of}
@@ -22,7 +23,7 @@ unwrap-place-requires c =
     let w = waiter c.args.number name es c.requires.ordered c.requires.waits in
     let f = found c.args.number es w.request c.requires.ordered w.there in
     let ready : Ready i.lines.entries (held_of es) (pending_of es) c.args.touched.now.items = subst (λ v. Ready v (held_of es) (pending_of es) c.args.touched.now.items) (sym c.self.view_is) c.requires.ready in
-    copied_some c.get.result (subst (λ o. IsSome o) (sym (c.get.ensures.value ∙ ap (get_by_text i.uses) c.as_str.ensures)) (subst (λ n. IsSome (get_by_text i.uses n)) w.named (place_found c.args.number w.request es i.lines.entries c.args.touched.now.items (get_by_text i.uses) f c.self.invariant ready)))
+    copied_some c.get.result (subst (λ o. IsSome o) (sym c.get.ensures.value) (subst (λ n. IsSome (get name_cmp i.uses n)) w.named (place_found c.args.number w.request es i.lines.entries c.args.touched.now.items (get name_cmp i.uses) f c.self.invariant ready)))
 
 pub seize_at-requires-clause-there : goal.seize_at-requires-clause-there
 seize_at-requires-clause-there c =
@@ -33,8 +34,8 @@ seize_at-requires-clause-there c =
     let f = found c.args.number es w.request c.requires.ordered w.there in
     let ready : Ready i.lines.entries (held_of es) (pending_of es) c.args.touched.now.items = subst (λ v. Ready v (held_of es) (pending_of es) c.args.touched.now.items) (sym c.self.view_is) c.requires.ready in
     let place = c.unwrap-place.result.now in
-    let known : get_by_text i.uses name ≡ Some place = sym (c.get.ensures.value ∙ ap (get_by_text i.uses) c.as_str.ensures) ∙ ap option_copied c.unwrap-place.ensures in
-    let a = line_found name place i.lines.entries (get_by_text i.uses) c.self.invariant known in
+    let known : get name_cmp i.uses name ≡ Some place = sym c.get.ensures.value ∙ ap option_copied c.unwrap-place.ensures in
+    let a = line_found name place i.lines.entries (get name_cmp i.uses) c.self.invariant known in
     subst (λ o. IsSome o) (sym a.there) refl
 
 pub seize_at-requires-clause-gone : goal.seize_at-requires-clause-gone
@@ -46,8 +47,8 @@ seize_at-requires-clause-gone c =
     let f = found c.args.number es w.request c.requires.ordered w.there in
     let ready : Ready i.lines.entries (held_of es) (pending_of es) c.args.touched.now.items = subst (λ v. Ready v (held_of es) (pending_of es) c.args.touched.now.items) (sym c.self.view_is) c.requires.ready in
     let place = c.unwrap-place.result.now in
-    let known : get_by_text i.uses name ≡ Some place = sym (c.get.ensures.value ∙ ap (get_by_text i.uses) c.as_str.ensures) ∙ ap option_copied c.unwrap-place.ensures in
-    let a = line_found name place i.lines.entries (get_by_text i.uses) c.self.invariant known in
+    let known : get name_cmp i.uses name ≡ Some place = sym c.get.ensures.value ∙ ap option_copied c.unwrap-place.ensures in
+    let a = line_found name place i.lines.entries (get name_cmp i.uses) c.self.invariant known in
     subst (λ o. IfSome o (λ w. w.holders ≡ [])) (sym a.there) (line_free name place i.lines.entries (held_of es) (pending_of es) a ready.matched c.requires.gone)
 
 pub grant-requires : goal.grant-requires
@@ -63,10 +64,10 @@ invariant_of-self c =
     let f = found c.args.number es w.request c.requires.ordered w.there in
     let ready : Ready i.lines.entries (held_of es) (pending_of es) c.args.touched.now.items = subst (λ v. Ready v (held_of es) (pending_of es) c.args.touched.now.items) (sym c.self.view_is) c.requires.ready in
     let place = c.unwrap-place.result.now in
-    let known : get_by_text i.uses name ≡ Some place = sym (c.get.ensures.value ∙ ap (get_by_text i.uses) c.as_str.ensures) ∙ ap option_copied c.unwrap-place.ensures in
-    let a = line_found name place i.lines.entries (get_by_text i.uses) c.self.invariant known in
+    let known : get name_cmp i.uses name ≡ Some place = sym c.get.ensures.value ∙ ap option_copied c.unwrap-place.ensures in
+    let a = line_found name place i.lines.entries (get name_cmp i.uses) c.self.invariant known in
     let set : c.seize_at.new.lines.entries ≡ set_value (is_at (nat_cmp place)) i.lines.entries (seized c.args.number a.line) = subst (λ o. IfSome o (λ w. c.seize_at.new.lines.entries ≡ set_value (is_at (nat_cmp place)) i.lines.entries (seized c.args.number w))) a.there c.seize_at.ensures in
-    let done = one_seized c.args.number place name es c.grant.new.self.entries i.lines.entries c.seize_at.new.lines.entries c.args.touched.now.items (get_by_text i.uses) c.requires.ordered w c.self.invariant a ready c.requires.gone c.grant.ensures.held c.grant.ensures.pending set in
+    let done = one_seized c.args.number place name es c.grant.new.self.entries i.lines.entries c.seize_at.new.lines.entries c.args.touched.now.items (get name_cmp i.uses) c.requires.ordered w c.self.invariant a ready c.requires.gone c.grant.ensures.held c.grant.ensures.pending set in
     done.names_found
 
 pub returns-clause-ready : goal.returns-clause-ready
@@ -78,10 +79,10 @@ returns-clause-ready c =
     let f = found c.args.number es w.request c.requires.ordered w.there in
     let ready : Ready i.lines.entries (held_of es) (pending_of es) c.args.touched.now.items = subst (λ v. Ready v (held_of es) (pending_of es) c.args.touched.now.items) (sym c.self.view_is) c.requires.ready in
     let place = c.unwrap-place.result.now in
-    let known : get_by_text i.uses name ≡ Some place = sym (c.get.ensures.value ∙ ap (get_by_text i.uses) c.as_str.ensures) ∙ ap option_copied c.unwrap-place.ensures in
-    let a = line_found name place i.lines.entries (get_by_text i.uses) c.self.invariant known in
+    let known : get name_cmp i.uses name ≡ Some place = sym c.get.ensures.value ∙ ap option_copied c.unwrap-place.ensures in
+    let a = line_found name place i.lines.entries (get name_cmp i.uses) c.self.invariant known in
     let set : c.seize_at.new.lines.entries ≡ set_value (is_at (nat_cmp place)) i.lines.entries (seized c.args.number a.line) = subst (λ o. IfSome o (λ w. c.seize_at.new.lines.entries ≡ set_value (is_at (nat_cmp place)) i.lines.entries (seized c.args.number w))) a.there c.seize_at.ensures in
-    let done = one_seized c.args.number place name es c.grant.new.self.entries i.lines.entries c.seize_at.new.lines.entries c.args.touched.now.items (get_by_text i.uses) c.requires.ordered w c.self.invariant a ready c.requires.gone c.grant.ensures.held c.grant.ensures.pending set in
+    let done = one_seized c.args.number place name es c.grant.new.self.entries i.lines.entries c.seize_at.new.lines.entries c.args.touched.now.items (get name_cmp i.uses) c.requires.ordered w c.self.invariant a ready c.requires.gone c.grant.ensures.held c.grant.ensures.pending set in
     subst (λ t. Ready c.seize_at.new.lines.entries (held_of c.grant.new.self.entries) (pending_of c.grant.new.self.entries) t) (sym c.push_in_room.ensures.items) done.ready
 
 pub returns-clause-names : goal.returns-clause-names
@@ -93,10 +94,10 @@ returns-clause-names c =
     let f = found c.args.number es w.request c.requires.ordered w.there in
     let ready : Ready i.lines.entries (held_of es) (pending_of es) c.args.touched.now.items = subst (λ v. Ready v (held_of es) (pending_of es) c.args.touched.now.items) (sym c.self.view_is) c.requires.ready in
     let place = c.unwrap-place.result.now in
-    let known : get_by_text i.uses name ≡ Some place = sym (c.get.ensures.value ∙ ap (get_by_text i.uses) c.as_str.ensures) ∙ ap option_copied c.unwrap-place.ensures in
-    let a = line_found name place i.lines.entries (get_by_text i.uses) c.self.invariant known in
+    let known : get name_cmp i.uses name ≡ Some place = sym c.get.ensures.value ∙ ap option_copied c.unwrap-place.ensures in
+    let a = line_found name place i.lines.entries (get name_cmp i.uses) c.self.invariant known in
     let set : c.seize_at.new.lines.entries ≡ set_value (is_at (nat_cmp place)) i.lines.entries (seized c.args.number a.line) = subst (λ o. IfSome o (λ w. c.seize_at.new.lines.entries ≡ set_value (is_at (nat_cmp place)) i.lines.entries (seized c.args.number w))) a.there c.seize_at.ensures in
-    let done = one_seized c.args.number place name es c.grant.new.self.entries i.lines.entries c.seize_at.new.lines.entries c.args.touched.now.items (get_by_text i.uses) c.requires.ordered w c.self.invariant a ready c.requires.gone c.grant.ensures.held c.grant.ensures.pending set in
+    let done = one_seized c.args.number place name es c.grant.new.self.entries i.lines.entries c.seize_at.new.lines.entries c.args.touched.now.items (get name_cmp i.uses) c.requires.ordered w c.self.invariant a ready c.requires.gone c.grant.ensures.held c.grant.ensures.pending set in
     done.names_stay ∙ ap names_of c.self.view_is
 
 pub returns-clause-places : goal.returns-clause-places
@@ -108,8 +109,8 @@ returns-clause-places c n below =
     let f = found c.args.number es w.request c.requires.ordered w.there in
     let ready : Ready i.lines.entries (held_of es) (pending_of es) c.args.touched.now.items = subst (λ v. Ready v (held_of es) (pending_of es) c.args.touched.now.items) (sym c.self.view_is) c.requires.ready in
     let place = c.unwrap-place.result.now in
-    let known : get_by_text i.uses name ≡ Some place = sym (c.get.ensures.value ∙ ap (get_by_text i.uses) c.as_str.ensures) ∙ ap option_copied c.unwrap-place.ensures in
-    let a = line_found name place i.lines.entries (get_by_text i.uses) c.self.invariant known in
+    let known : get name_cmp i.uses name ≡ Some place = sym c.get.ensures.value ∙ ap option_copied c.unwrap-place.ensures in
+    let a = line_found name place i.lines.entries (get name_cmp i.uses) c.self.invariant known in
     let set : c.seize_at.new.lines.entries ≡ set_value (is_at (nat_cmp place)) i.lines.entries (seized c.args.number a.line) = subst (λ o. IfSome o (λ w. c.seize_at.new.lines.entries ≡ set_value (is_at (nat_cmp place)) i.lines.entries (seized c.args.number w))) a.there c.seize_at.ensures in
-    let done = one_seized c.args.number place name es c.grant.new.self.entries i.lines.entries c.seize_at.new.lines.entries c.args.touched.now.items (get_by_text i.uses) c.requires.ordered w c.self.invariant a ready c.requires.gone c.grant.ensures.held c.grant.ensures.pending set in
+    let done = one_seized c.args.number place name es c.grant.new.self.entries i.lines.entries c.seize_at.new.lines.entries c.args.touched.now.items (get name_cmp i.uses) c.requires.ordered w c.self.invariant a ready c.requires.gone c.grant.ensures.held c.grant.ensures.pending set in
     subst (AllByRecursion (λ (e : Placed). e.0 < n)) (sym set) (places_written n name place i.lines.entries (seized c.args.number a.line) a (subst (AllByRecursion (λ (e : Placed). e.0 < n)) (sym c.self.view_is) below))
