@@ -1,6 +1,7 @@
 -- A line's live requests: the sharers in front, and those that wait.
-use Rattle.std.proofs.Common.{◌≡◌, ℕ, ◌+◌, ◌-◌, ◌<◌, ◌==◌, Bool, true, false, cond, List, [], ◌∷◌, ◌++◌, length, take, refl, ap, subst, sym, ◌∙◌, arith, append_assoc}
+use Rattle.std.proofs.Common.{◌≡◌, ℕ, ◌-◌, ◌<◌, ◌==◌, Bool, true, false, cond, List, [], ◌∷◌, ◌++◌, length, take, refl, ap, subst, sym, ◌∙◌, arith, append_assoc, nat_eq}
 use Rattle.std.specs.Prelude.{filter, not, ◌&&◌, Option, Some, None, is_some, slice_get, IfSome, IsSome, ◌↔◌}
+use Rattle.std.specs.Option.{option_eq, unwrap_or}
 use Rattle.std.specs.List.{AllByRecursion}
 use Rattle.std.specs.List.Sorted.{IsStrictlySortedBy}
 use Rattle.std.specs.Map.{keys_of, remove_entry}
@@ -11,108 +12,112 @@ use Rattle.std.proofs.Math.Seq.{take-append_seam}
 use Rattle.std.proofs.lemmas.List.{length-append}
 use Rattle.std.proofs.lemmas.List.Elements.{filter-append}
 use Rattle.std.proofs.lemmas.Bool.{not-true}
-use Rattle.std.proofs.lemmas.Bool.Decides.{nat_tests}
 use Rattle.wl_types.specs.declared.words.Mode.{Mode}
-use Rattle.wl_types.specs.declared.words.Mode.TheVariants.{Exclusive}
+use Rattle.wl_types.specs.declared.words.Mode.TheVariants.{Exclusive, Shared}
 use Rattle.wl_machine.specs.Grants.{is_exclusive, is_empty}
-use Rattle.wl_index.specs.Lines.{Numbered, Waiting, excludes, admits, other_than, holders_of, holder_without, after_grant, without_admitted, IsLine}
+use Rattle.wl_index.specs.Lines.{Numbered, Waiting, excludes, admits, other_than, head_number, first_left, first_or, holders_of, holder_without, live_after, waits_from, after_grant, without_admitted, IsLine}
 use Rattle.wl_index.proofs.Lists.{all_append, all_filter}
 use Rattle.wl_index.proofs.Keyed.{removed_at, entry_last}
+use Rattle.wl_index.proofs.Waits.{seam, after_seam, heads_apart, head_left}
 
 -- the first of them are those in front
-pub fronts : (front waits : List Numbered) → take (length (front ++ waits) - length waits) (front ++ waits) ≡ front
+fronts : (front waits : List Numbered) → take (length (front ++ waits) - length waits) (front ++ waits) ≡ front
 fronts front waits =
     let sum = length-append front waits in
     let less : length (front ++ waits) - length waits ≡ length front = omega (arith, sum) in
     ap (λ n. take n (front ++ waits)) less ∙ take-append_seam front waits
 
-pub holders_front : (live waits : List Numbered) (is : IsLine live waits None) → holders_of None live waits ≡ is.front
-holders_front live waits is = ap (λ l. take (length l - length waits) l) is.whole ∙ fronts is.front waits
+holders_front : (live waits : List Numbered) (first : Option ℕ) (is : IsLine live waits first None) → holders_of None live waits ≡ is.front
+holders_front live waits first is = ap (λ l. take (length l - length waits) l) is.whole ∙ fronts is.front waits
 
-no_front : (front : List Numbered) → (length front == 0) ≡ is_empty front
-no_front [] = refl
-no_front (e ∷ front) = grind (arith, nat_tests)
+sorted_whole : (live waits : List Numbered) (first holder : Option ℕ) → (is : IsLine live waits first holder) → IsStrictlySortedBy nat_cmp (keys_of (is.front ++ waits))
+sorted_whole live waits first holder is = subst (λ l. IsStrictlySortedBy nat_cmp (keys_of l)) is.whole is.ordered
 
--- as many live as wait: nobody holds
-pub free_counts : (live waits : List Numbered) → IsLine live waits None → (length live == length waits) ≡ is_empty (holders_of None live waits)
-free_counts live waits is =
-    let sum : length live ≡ length is.front + length waits = ap length is.whole ∙ length-append is.front waits in
-    let same : (length live == length waits) ≡ (length is.front == 0) = by (length is.front == 0) refl sum in
-    same ∙ no_front is.front ∙ ap is_empty (sym (holders_front live waits is))
+same_head : (first : Option ℕ) → option_eq nat_eq first first ≡ true
+same_head None = refl
+same_head (Some n) = grind (arith)
+
+-- the first of the live waits: nobody holds
+free_heads : (live waits : List Numbered) (first : Option ℕ) → IsLine live waits first None → option_eq nat_eq (head_number live) first ≡ is_empty (holders_of None live waits)
+free_heads live waits first is = ap (λ l. option_eq nat_eq (head_number l) first) is.whole ∙ ap (option_eq nat_eq (head_number (is.front ++ waits))) is.leads ∙ by is.front refl (sorted_whole live waits first None is) ∙ ap is_empty (sym (holders_front live waits first is))
   where
-    by : (b : Bool) → (length is.front == 0) ≡ b → length live ≡ length is.front + length waits → (length live == length waits) ≡ (length is.front == 0)
-    by true h sum = grind (arith, nat_tests, h, sum)
-    by false h sum = grind (arith, nat_tests, h, sum)
+    by : (front : List Numbered) → is.front ≡ front → IsStrictlySortedBy nat_cmp (keys_of (is.front ++ waits)) → option_eq nat_eq (head_number (is.front ++ waits)) (head_number waits) ≡ is_empty is.front
+    by [] h sorted = rw h (same_head (head_number waits))
+    by (x ∷ front) h sorted = heads_apart is.front waits sorted x front h ∙ sym (ap is_empty h)
 
 none_shared : (front : List Numbered) → AllByRecursion (λ (e : Numbered). is_exclusive e.1 ≡ false) front → excludes front ≡ false
 none_shared [] all = refl
 none_shared (e ∷ front) all = rw all.0 (none_shared front all.1)
 
-pub excluded : (live waits : List Numbered) (holder : Option ℕ) → IsLine live waits holder → is_some holder ≡ excludes (holders_of holder live waits)
-excluded live waits None is = sym (ap excludes (holders_front live waits is) ∙ none_shared is.front is.shared)
-excluded live waits (Some number) is = refl
+pub excluded : (live waits : List Numbered) (first holder : Option ℕ) → IsLine live waits first holder → is_some holder ≡ excludes (holders_of holder live waits)
+excluded live waits first None is = sym (ap excludes (holders_front live waits first is) ∙ none_shared is.front is.shared)
+excluded live waits first (Some number) is = refl
 
-pub is_free : (live waits : List Numbered) (holder : Option ℕ) → IsLine live waits holder → (not (is_some holder) && (length live == length waits)) ≡ is_empty (holders_of holder live waits)
-is_free live waits None is = free_counts live waits is
-is_free live waits (Some number) is = refl
+pub is_free : (live waits : List Numbered) (first holder : Option ℕ) → IsLine live waits first holder → (not (is_some holder) && option_eq nat_eq (head_number live) first) ≡ is_empty (holders_of holder live waits)
+is_free live waits first None is = free_heads live waits first is
+is_free live waits first (Some number) is = refl
+
+-- nobody waits just where none is the first
+pub none_waits : (live waits : List Numbered) (first holder : Option ℕ) → IsLine live waits first holder → not (is_some first) ≡ is_empty waits
+none_waits live waits first holder is = ap (λ f. not (is_some f)) is.leads ∙ by waits
+  where
+    by : (ws : List Numbered) → not (is_some (head_number ws)) ≡ is_empty ws
+    by [] = refl
+    by (e ∷ ws) = refl
 
 -- ---- one more waits
 
-all_live : (live waits : List Numbered) (holder : Option ℕ) (number : ℕ) → IsLine live waits holder → AllByRecursion (λ (e : Numbered). e.0 < number) waits → AllByRecursion (λ (e : Numbered). e.0 < number) (holders_of holder live waits) → AllByRecursion (λ (e : Numbered). e.0 < number) live
-all_live live waits None number is below holders =
-    rw is.whole (all_append (λ (e : Numbered). e.0 < number) is.front waits (rw (← holders_front live waits is) holders) below)
-all_live live waits (Some n) number is below holders = rw (is.whole, is.alone refl) below
+all_live : (live waits : List Numbered) (first holder : Option ℕ) (number : ℕ) → IsLine live waits first holder → AllByRecursion (λ (e : Numbered). e.0 < number) waits → AllByRecursion (λ (e : Numbered). e.0 < number) (holders_of holder live waits) → AllByRecursion (λ (e : Numbered). e.0 < number) live
+all_live live waits first None number is below holders =
+    rw is.whole (all_append (λ (e : Numbered). e.0 < number) is.front waits (rw (← holders_front live waits first is) holders) below)
+all_live live waits first (Some n) number is below holders = rw (is.whole, is.alone refl) below
 
-pub live_last : (live waits : List Numbered) (holder : Option ℕ) (number : ℕ) (mode : Mode) → IsLine live waits holder → AllByRecursion (λ (e : Numbered). e.0 < number) waits → AllByRecursion (λ (e : Numbered). e.0 < number) (holders_of holder live waits)
-    → insert_entry nat_cmp live number mode ≡ live ++ (number, mode) ∷ []
-live_last live waits holder number mode is below holders = entry_last live number mode (all_live live waits holder number is below holders)
+first_of_more : (number : ℕ) (mode : Mode) (waits : List Numbered) → first_or number (head_number waits) ≡ head_number (waits ++ (number, mode) ∷ [])
+first_of_more number mode [] = refl
+first_of_more number mode (e ∷ waits) = refl
 
-abbrev more_is : (live waits more : List Numbered) (holder : Option ℕ) → IsLine live waits holder → IsStrictlySortedBy nat_cmp (keys_of (live ++ more)) → IsStrictlySortedBy nat_cmp (keys_of (waits ++ more)) → IsLine (live ++ more) (waits ++ more) holder
-more_is live waits more holder is live_ordered ordered = record {
-  front = is.front;
-  live_ordered = live_ordered;
-  ordered = ordered;
-  whole = ap (λ l. l ++ more) is.whole ∙ append_assoc is.front waits more;
-  shared = is.shared;
-  alone = is.alone;
-}
+-- a line after a step: those that wait, and the holders
+pub record Stepped (live : List Numbered) (first holder : Option ℕ) (waits holders : List Numbered) : Type 0 where
+  pub line : IsLine live (waits_from first live) first holder
+  pub waits_is : waits_from first live ≡ waits
+  pub holders_is : holders_of holder live (waits_from first live) ≡ holders
 
-more_holders : (live waits more : List Numbered) (holder : Option ℕ) → IsLine live waits holder → IsLine (live ++ more) (waits ++ more) holder → holders_of holder (live ++ more) (waits ++ more) ≡ holders_of holder live waits
-more_holders live waits more None is next =
-    ap (λ l. take (length l - length (waits ++ more)) l) (ap (λ l. l ++ more) is.whole ∙ append_assoc is.front waits more) ∙ fronts is.front (waits ++ more) ∙ sym (holders_front live waits is)
-more_holders live waits more (Some n) is next = refl
+stepped : (live waits holders : List Numbered) (first holder : Option ℕ) → IsLine live waits first holder → holders_of holder live waits ≡ holders → Stepped live first holder waits holders
+stepped live waits holders first holder is holds =
+    let there : waits_from first live ≡ waits = ap (λ f. waits_from f live) is.leads ∙ ap (waits_from (head_number waits)) is.whole ∙ seam is.front waits (sorted_whole live waits first holder is) in
+    record { line = rw there is; waits_is = there; holders_is = ap (holders_of holder live) there ∙ holds }
 
-pub record Pushed (live waits live' waits' : List Numbered) (holder : Option ℕ) (number : ℕ) (mode : Mode) : Type 0 where
-  pub line : IsLine live' waits' holder
-  pub waits_is : waits' ≡ waits ++ (number, mode) ∷ []
-  pub holders_is : holders_of holder live' waits' ≡ holders_of holder live waits
+-- the holders are the same where the same stand in front
+holders_same : (live waits live' waits' : List Numbered) (first first' holder : Option ℕ) (is : IsLine live waits first holder) (next : IsLine live' waits' first' holder) → next.front ≡ is.front → holders_of holder live' waits' ≡ holders_of holder live waits
+holders_same live waits live' waits' first first' None is next same = holders_front live' waits' first' next ∙ same ∙ sym (holders_front live waits first is)
+holders_same live waits live' waits' first first' (Some n) is next same = refl
 
-pub pushed : (live waits live' waits' : List Numbered) (holder : Option ℕ) (number : ℕ) (mode : Mode) → IsLine live waits holder → AllByRecursion (λ (e : Numbered). e.0 < number) waits → AllByRecursion (λ (e : Numbered). e.0 < number) (holders_of holder live waits)
-    → waits' ≡ insert_entry nat_cmp waits number mode → live' ≡ insert_entry nat_cmp live number mode → IsStrictlySortedBy nat_cmp (keys_of live') → IsStrictlySortedBy nat_cmp (keys_of waits') → Pushed live waits live' waits' holder number mode
-pushed live waits live' waits' holder number mode is below holders w l live_ordered ordered =
+pub pushed : (live live' : List Numbered) (first holder : Option ℕ) (number : ℕ) (mode : Mode) → IsLine live (waits_from first live) first holder
+    → AllByRecursion (λ (e : Numbered). e.0 < number) (waits_from first live) → AllByRecursion (λ (e : Numbered). e.0 < number) (holders_of holder live (waits_from first live))
+    → live' ≡ insert_entry nat_cmp live number mode → IsStrictlySortedBy nat_cmp (keys_of live')
+    → Stepped live' (first_or number first) holder (waits_from first live ++ (number, mode) ∷ []) (holders_of holder live (waits_from first live))
+pushed live live' first holder number mode is below holders inserted sorted =
+    let waits = waits_from first live in
     let more : List Numbered = (number, mode) ∷ [] in
-    let waits_is : waits' ≡ waits ++ more = w ∙ entry_last waits number mode below in
-    let live_is : live' ≡ live ++ more = l ∙ live_last live waits holder number mode is below holders in
-    let next = more_is live waits more holder is (subst (λ x. IsStrictlySortedBy nat_cmp (keys_of x)) live_is live_ordered) (subst (λ x. IsStrictlySortedBy nat_cmp (keys_of x)) waits_is ordered) in
-    record {
-      line = rw (waits_is, live_is) next;
-      waits_is = waits_is;
-      holders_is = rw (waits_is, live_is) (more_holders live waits more holder is next);
-    }
+    let live_is : live' ≡ live ++ more = inserted ∙ entry_last live number mode (all_live live waits first holder number is below holders) in
+    let next : IsLine live' (waits ++ more) (first_or number first) holder = record {
+      front = is.front;
+      whole = live_is ∙ ap (λ l. l ++ more) is.whole ∙ append_assoc is.front waits more;
+      ordered = sorted;
+      leads = ap (first_or number) is.leads ∙ first_of_more number mode waits;
+      shared = is.shared;
+      alone = is.alone;
+    } in
+    stepped live' (waits ++ more) (holders_of holder live waits) (first_or number first) holder next (holders_same live waits live' (waits ++ more) first (first_or number first) holder is next refl)
 
 -- ---- one ends
 
-pub record Removed (live waits live' waits' : List Numbered) (holder : Option ℕ) (number : ℕ) : Type 0 where
-  pub line : IsLine live' waits' (holder_without number holder)
-  pub waits_is : waits' ≡ filter (other_than number) waits
-  pub holders_is : holders_of (holder_without number holder) live' waits' ≡ filter (other_than number) (holders_of holder live waits)
-
-abbrev removed_line : (live waits : List Numbered) (holder : Option ℕ) (number : ℕ) → IsLine live waits holder → IsStrictlySortedBy nat_cmp (keys_of (filter (other_than number) live)) → IsStrictlySortedBy nat_cmp (keys_of (filter (other_than number) waits)) → IsLine (filter (other_than number) live) (filter (other_than number) waits) (holder_without number holder)
-removed_line live waits holder number is live_ordered ordered = record {
-  live_ordered = live_ordered;
-  ordered = ordered;
+removed_line : (live waits : List Numbered) (first holder : Option ℕ) (number : ℕ) → IsLine live waits first holder → IsStrictlySortedBy nat_cmp (keys_of (filter (other_than number) live)) → IsLine (filter (other_than number) live) (filter (other_than number) waits) (first_left number first live) (holder_without number holder)
+removed_line live waits first holder number is ordered = record {
   front = filter (other_than number) is.front;
   whole = ap (filter (other_than number)) is.whole ∙ filter-append (other_than number) is.front waits;
+  ordered = ordered;
+  leads = ap (λ f. first_left number f live) is.leads ∙ ap (first_left number (head_number waits)) is.whole ∙ head_left is.front waits number (sorted_whole live waits first holder is);
   shared = all_filter (λ (e : Numbered). is_exclusive e.1 ≡ false) (other_than number) is.front is.shared;
   alone = λ some. ap (filter (other_than number)) (is.alone (still holder some));
 }
@@ -121,11 +126,11 @@ removed_line live waits holder number is live_ordered ordered = record {
     still None some = some
     still (Some n) some = refl
 
-removed_holders : (live waits : List Numbered) (holder : Option ℕ) (number : ℕ) → IsLine live waits holder
+removed_holders : (live waits : List Numbered) (first holder : Option ℕ) (number : ℕ) → IsLine live waits first holder
     → holders_of (holder_without number holder) (filter (other_than number) live) (filter (other_than number) waits) ≡ filter (other_than number) (holders_of holder live waits)
-removed_holders live waits None number is =
-    ap (λ l. take (length l - length (filter (other_than number) waits)) l) (ap (filter (other_than number)) is.whole ∙ filter-append (other_than number) is.front waits) ∙ fronts (filter (other_than number) is.front) (filter (other_than number) waits) ∙ ap (filter (other_than number)) (sym (holders_front live waits is))
-removed_holders live waits (Some n) number is = by (n == number) refl
+removed_holders live waits first None number is =
+    ap (λ l. take (length l - length (filter (other_than number) waits)) l) (ap (filter (other_than number)) is.whole ∙ filter-append (other_than number) is.front waits) ∙ fronts (filter (other_than number) is.front) (filter (other_than number) waits) ∙ ap (filter (other_than number)) (sym (holders_front live waits first is))
+removed_holders live waits first (Some n) number is = by (n == number) refl
   where
     no_live : filter (other_than number) live ≡ filter (other_than number) waits
     no_live = ap (filter (other_than number)) (is.whole ∙ ap (λ f. f ++ waits) (is.alone refl))
@@ -134,64 +139,108 @@ removed_holders live waits (Some n) number is = by (n == number) refl
     by true h = rw (h, no_live) (fronts [] (filter (other_than number) waits))
     by false h = rw h refl
 
-pub removed_from : (live waits live' waits' : List Numbered) (holder : Option ℕ) (number : ℕ) → IsLine live waits holder → IsStrictlySortedBy nat_cmp (keys_of live') → IsStrictlySortedBy nat_cmp (keys_of waits')
-    → waits' ≡ remove_entry (is_at (nat_cmp number)) waits → live' ≡ remove_entry (is_at (nat_cmp number)) live → Removed live waits live' waits' holder number
-removed_from live waits live' waits' holder number is live_ordered ordered w l =
-    let waits_is : waits' ≡ filter (other_than number) waits = w ∙ removed_at number waits is.ordered in
-    let live_is : live' ≡ filter (other_than number) live = l ∙ removed_at number live is.live_ordered in
-    record {
-      line = rw (waits_is, live_is) (removed_line live waits holder number is (subst (λ x. IsStrictlySortedBy nat_cmp (keys_of x)) live_is live_ordered) (subst (λ x. IsStrictlySortedBy nat_cmp (keys_of x)) waits_is ordered));
-      waits_is = waits_is;
-      holders_is = rw (waits_is, live_is) (removed_holders live waits holder number is);
-    }
+pub removed_from : (live live' : List Numbered) (first holder : Option ℕ) (number : ℕ) → IsLine live (waits_from first live) first holder
+    → live' ≡ remove_entry (is_at (nat_cmp number)) live → IsStrictlySortedBy nat_cmp (keys_of live')
+    → Stepped live' (first_left number first live) (holder_without number holder) (filter (other_than number) (waits_from first live)) (filter (other_than number) (holders_of holder live (waits_from first live)))
+removed_from live live' first holder number is removed sorted =
+    let waits = waits_from first live in
+    let live_is : live' ≡ filter (other_than number) live = removed ∙ removed_at number live is.ordered in
+    rw live_is (stepped (filter (other_than number) live) (filter (other_than number) waits) (filter (other_than number) (holders_of holder live waits)) (first_left number first live) (holder_without number holder)
+    (removed_line live waits first holder number is (subst (λ l. IsStrictlySortedBy nat_cmp (keys_of l)) live_is sorted)) (removed_holders live waits first holder number is))
 
 -- ---- the first that waits holds
 
--- an exclusive one, where nobody holds
-pub taken_first : (live waits rest : List Numbered) (e : Numbered) → IsLine live waits None → is_empty (holders_of None live waits) ≡ true → waits ≡ e ∷ rest → live ≡ e ∷ rest
-taken_first live waits rest e is free first = is.whole ∙ ap (λ f. f ++ waits) (empty is.front (ap is_empty (sym (holders_front live waits is)) ∙ free)) ∙ first
-  where
-    empty : (l : List Numbered) → is_empty l ≡ true → l ≡ []
-    empty [] h = refl
-    empty (x ∷ l) h = absurd (cc)
-
--- a shared one
-pub shared_first : (live waits rest : List Numbered) (e : Numbered) (holder : Option ℕ) → IsLine live waits holder → is_some holder ≡ false → is_exclusive e.1 ≡ false → waits ≡ e ∷ rest
-    → IsLine live rest holder × (holders_of holder live rest ≡ holders_of holder live waits ++ e ∷ [])
-shared_first live waits rest e (Some n) is free mode first = absurd (cc)
-shared_first live waits rest e None is free mode first = (next, holders_front live rest next ∙ ap (λ f. f ++ e ∷ []) (sym (holders_front live waits is)))
-  where
-    next : IsLine live rest None
-    next = record {
-      front = is.front ++ e ∷ [];
-      live_ordered = is.live_ordered;
-      ordered = sorted_tail nat_cmp e.0 (keys_of rest) (subst (λ x. IsStrictlySortedBy nat_cmp (keys_of x)) first is.ordered);
-      whole = is.whole ∙ ap (λ w. is.front ++ w) first ∙ sym (append_assoc is.front (e ∷ []) rest);
-      shared = all_append (λ (x : Numbered). is_exclusive x.1 ≡ false) is.front (e ∷ []) is.shared (mode, tt);
-      alone = λ some. absurd (cc);
-    }
-
--- what was first has left
-pub popped : (waits rest : List Numbered) (e : Numbered) (first : Option Numbered) → Some e ≡ slice_get waits 0 → (IsSome first ↔ (0 < length waits)) → IfSome first (λ p. waits ≡ p ∷ rest) → waits ≡ e ∷ rest
-popped [] rest e first is variant removal = absurd (cc)
-popped (x ∷ waits) rest e None is variant removal = absurd (let some = variant.1 (omega arith) in cc)
-popped (x ∷ waits) rest e (Some p) is variant removal = removal ∙ ap (λ y. y ∷ rest) (sym (ap (λ l. head l p) removal) ∙ sym (ap (λ o. or_else o x) is))
-  where
-    head : List Numbered → Numbered → Numbered
-    head [] d = d
-    head (y ∷ ys) d = y
-
-    or_else : Option Numbered → Numbered → Numbered
-    or_else None d = d
-    or_else (Some y) d = y
+empty : (l : List Numbered) → is_empty l ≡ true → l ≡ []
+empty [] h = refl
+empty (x ∷ l) h = absurd (cc)
 
 abbrev pub line_now : List ℕ → List Numbered → List Numbered → Waiting
 line_now name waits holders = record { name = name; waits = waits; holders = holders }
 
-pub shared_grant : (name : List ℕ) (live waits rest : List Numbered) (e : Numbered) (holder : Option ℕ) → IsLine live waits holder → admits (line_now name waits (holders_of holder live waits)) e.1 ≡ true → is_exclusive e.1 ≡ false → waits ≡ e ∷ rest
-    → IsLine live rest holder × (line_now name rest (holders_of holder live rest) ≡ after_grant (line_now name waits (holders_of holder live waits)))
-shared_grant name live waits rest e holder is free mode first =
-    let open_now : not (excludes (holders_of holder live waits)) ≡ true = sym (ap (λ b. cond b (is_empty (holders_of holder live waits)) (not (excludes (holders_of holder live waits)))) mode) ∙ free in
-    let none : is_some holder ≡ false = excluded live waits holder is ∙ not-true (excludes (holders_of holder live waits)) open_now in
-    let next = shared_first live waits rest e holder is none mode first in
-    (next.0, rw next.1 (sym (ap (without_admitted (line_now name waits (holders_of holder live waits))) first ∙ ap (λ b. cond b (line_now name rest (holders_of holder live waits ++ e ∷ [])) (line_now name waits (holders_of holder live waits))) free)))
+first_after_it : (live waits rest : List Numbered) (e : Numbered) (first holder : Option ℕ) → (is : IsLine live waits first holder) → waits ≡ e ∷ rest → head_number (live_after e.0 live) ≡ head_number rest
+first_after_it live waits rest e first holder is begins =
+    let whole : live ≡ is.front ++ e ∷ rest = is.whole ∙ ap (λ w. is.front ++ w) begins in
+    ap head_number (ap (live_after e.0) whole ∙ after_seam is.front rest e (subst (λ l. IsStrictlySortedBy nat_cmp (keys_of l)) whole is.ordered))
+
+-- a shared one
+pub shared_grant : (name : List ℕ) (live rest : List Numbered) (e : Numbered) (first holder : Option ℕ) → IsLine live (waits_from first live) first holder → waits_from first live ≡ e ∷ rest
+    → admits (line_now name (waits_from first live) (holders_of holder live (waits_from first live))) e.1 ≡ true → is_exclusive e.1 ≡ false
+    → Stepped live (head_number (live_after e.0 live)) holder rest (holders_of holder live (waits_from first live) ++ e ∷ [])
+shared_grant name live rest e first holder is begins free mode = by holder is none
+  where
+    waits : List Numbered
+    waits = waits_from first live
+
+    admitted : not (excludes (holders_of holder live waits)) ≡ true
+    admitted = sym (ap (λ b. cond b (is_empty (holders_of holder live waits)) (not (excludes (holders_of holder live waits)))) mode) ∙ free
+
+    none : is_some holder ≡ false
+    none = excluded live waits first holder is ∙ not-true (excludes (holders_of holder live waits)) admitted
+
+    by : (h : Option ℕ) → IsLine live waits first h → is_some h ≡ false → Stepped live (head_number (live_after e.0 live)) h rest (holders_of h live waits ++ e ∷ [])
+    by (Some n) was some = absurd (cc)
+    by None was some =
+        let next : IsLine live rest (head_number (live_after e.0 live)) None = record {
+          front = was.front ++ e ∷ [];
+          whole = was.whole ∙ ap (λ w. was.front ++ w) begins ∙ sym (append_assoc was.front (e ∷ []) rest);
+          ordered = was.ordered;
+          leads = first_after_it live waits rest e first None was begins;
+          shared = all_append (λ (x : Numbered). is_exclusive x.1 ≡ false) was.front (e ∷ []) was.shared (mode, tt);
+          alone = λ is_one. absurd (cc);
+        } in
+        stepped live rest (holders_of None live waits ++ e ∷ []) (head_number (live_after e.0 live)) None next (holders_front live rest (head_number (live_after e.0 live)) next ∙ ap (λ f. f ++ e ∷ []) (sym (holders_front live waits first was)))
+
+exclusive_is : (mode : Mode) → is_exclusive mode ≡ true → mode ≡ Exclusive
+exclusive_is Shared is = absurd (cc)
+exclusive_is Exclusive is = refl
+
+-- an exclusive one, where nobody holds: it leaves the live
+pub exclusive_grant : (name : List ℕ) (live live' rest : List Numbered) (e : Numbered) (first holder : Option ℕ) → IsLine live (waits_from first live) first holder → waits_from first live ≡ e ∷ rest
+    → admits (line_now name (waits_from first live) (holders_of holder live (waits_from first live))) e.1 ≡ true → is_exclusive e.1 ≡ true
+    → ((x : Numbered) (l : List Numbered) → live ≡ x ∷ l → live' ≡ l)
+    → Stepped live' (head_number (live_after e.0 live)) (Some e.0) rest (holders_of holder live (waits_from first live) ++ e ∷ [])
+exclusive_grant name live live' rest e first holder is begins free mode popped = by holder is (sym (ap (λ b. cond b (is_empty (holders_of holder live waits)) (not (excludes (holders_of holder live waits)))) mode) ∙ free)
+  where
+    waits : List Numbered
+    waits = waits_from first live
+
+    by : (h : Option ℕ) → IsLine live waits first h → is_empty (holders_of h live waits) ≡ true → Stepped live' (head_number (live_after e.0 live)) (Some e.0) rest (holders_of h live waits ++ e ∷ [])
+    by (Some n) was none = absurd (cc)
+    by None was none =
+        let front : was.front ≡ [] = empty was.front (ap is_empty (sym (holders_front live waits first was)) ∙ none) in
+        let whole : live ≡ e ∷ rest = was.whole ∙ ap (λ f. f ++ waits) front ∙ begins in
+        let left : live' ≡ rest = popped e rest whole in
+        let next : IsLine live' rest (head_number (live_after e.0 live)) (Some e.0) = record {
+          front = [];
+          whole = left;
+          ordered = rw left (sorted_tail nat_cmp e.0 (keys_of rest) (subst (λ l. IsStrictlySortedBy nat_cmp (keys_of l)) whole was.ordered));
+          leads = first_after_it live waits rest e first None was begins;
+          shared = tt;
+          alone = λ is_one. refl;
+        } in
+        let holds : (e.0, Exclusive) ∷ [] ≡ holders_of None live waits ++ e ∷ [] =
+        ap (λ m. (e.0, m) ∷ []) (sym (exclusive_is e.1 mode)) ∙ ap (λ h. h ++ e ∷ []) (sym (empty (holders_of None live waits) none)) in
+        stepped live' rest (holders_of None live waits ++ e ∷ []) (head_number (live_after e.0 live)) (Some e.0) next holds
+
+-- the first of those that wait, and the rest
+pub record Begins (waits : List Numbered) (e : Numbered) : Type 0 where
+  pub rest : List Numbered
+  pub is : waits ≡ e ∷ rest
+
+pub begun : (waits : List Numbered) (e : Numbered) → Some e ≡ slice_get waits 0 → Begins waits e
+begun [] e is = absurd (cc)
+begun (x ∷ waits) e is = record { rest = waits; is = ap (λ y. y ∷ waits) (sym (ap (λ o. unwrap_or o x) is)) }
+
+-- what is left where the first has gone
+pub tail_left : (live live' : List Numbered) (first : Option Numbered) → (IsSome first ↔ (0 < length live)) → IfSome first (λ p. live ≡ p ∷ live') → (x : Numbered) (l : List Numbered) → live ≡ x ∷ l → live' ≡ l
+tail_left live live' None variant removal x l is = absurd (let some = variant.1 (subst (λ v. 0 < length v) (sym is) (omega arith)) in cc)
+tail_left live live' (Some p) variant removal x l is = ap tail (sym removal ∙ is)
+  where
+    tail : List Numbered → List Numbered
+    tail [] = []
+    tail (y ∷ ys) = ys
+
+-- the line after a grant
+pub granted : (name : List ℕ) (waits rest holders : List Numbered) (e : Numbered) → waits ≡ e ∷ rest → admits (line_now name waits holders) e.1 ≡ true
+    → after_grant (line_now name waits holders) ≡ line_now name rest (holders ++ e ∷ [])
+granted name waits rest holders e begins free = ap (without_admitted (line_now name waits holders)) begins ∙ ap (λ b. cond b (line_now name rest (holders ++ e ∷ [])) (line_now name waits holders)) free

@@ -1,8 +1,11 @@
 -- One name in use, and what it says of the machine's lists (own).
-use Rattle.std.specs.Prelude.{◌≡◌, ℕ, ◌-◌, ◌==◌, Bool, true, false, not, ◌&&◌, List, [], ◌∷◌, ◌++◌, map, filter, length, take, Option, Some, None, is_some, if◌then◌else◌}
+use Rattle.std.specs.Prelude.{◌≡◌, ℕ, ◌-◌, ◌==◌, Bool, true, false, not, ◌&&◌, List, [], ◌∷◌, ◌++◌, map, filter, length, take, Option, Some, None, is_some, nat_eq, if◌then◌else◌}
+use Rattle.std.specs.Option.{option_eq}
 use Rattle.std.specs.List.{list_any, AllByRecursion}
 use Rattle.std.specs.List.Sorted.{IsStrictlySortedBy}
 use Rattle.std.specs.Map.{keys_of}
+use Rattle.std.specs.BTreeMap.Range.{entries_between}
+use Rattle.std.specs.declared.ops.Bound.TheVariants.{Included, Excluded, Unbounded}
 use Rattle.std.specs.Ordering.{nat_cmp}
 use Rattle.wl_types.specs.declared.words.Mode.{Mode}
 use Rattle.wl_types.specs.declared.words.Mode.TheVariants.{Exclusive}
@@ -70,17 +73,32 @@ pub record Matches (w : Waiting) (held : List HeldRow) (pending : List PendingRo
   pub waits : w.waits ≡ map number_and_mode (queue w.name pending)
   pub holders : w.holders ≡ map lock_and_mode (locks w.name held)
 
+-- the number of the first
+abbrev pub head_number : List Numbered → Option ℕ
+head_number [] = None
+head_number (e ∷ rest) = Some e.0
+
+-- those that wait: of the live, those from the first that waits on
+abbrev pub waits_from : Option ℕ → List Numbered → List Numbered
+waits_from None live = []
+waits_from (Some first) live = entries_between nat_cmp (Included first) Unbounded live
+
+-- the live after a number
+abbrev pub live_after : ℕ → List Numbered → List Numbered
+live_after number live = entries_between nat_cmp (Excluded number) Unbounded live
+
 -- the holders: the exclusive one; else those of the live that don't wait, which stand before all that do
 abbrev pub holders_of : Option ℕ → List Numbered → List Numbered → List Numbered
 holders_of None live waits = take (length live - length waits) live
 holders_of (Some number) live waits = (number, Exclusive) ∷ []
 
--- the live requests of a line are its sharers, in front, and those that wait. An exclusive holder is not among them
-pub record IsLine (live waits : List Numbered) (exclusive : Option ℕ) : Type 0 where
+-- the live requests of a line are its sharers, in front, and those that wait, of which this is the first. An exclusive holder
+-- is not among them
+pub record IsLine (live waits : List Numbered) (first : Option ℕ) (exclusive : Option ℕ) : Type 0 where
   pub front : List Numbered
   pub whole : live ≡ front ++ waits
-  pub live_ordered : IsStrictlySortedBy nat_cmp (keys_of live)
-  pub ordered : IsStrictlySortedBy nat_cmp (keys_of waits)
+  pub ordered : IsStrictlySortedBy nat_cmp (keys_of live)
+  pub leads : first ≡ head_number waits
   pub shared : AllByRecursion (λ e. is_exclusive e.1 ≡ false) front
   pub alone : is_some exclusive ≡ true → front ≡ []
 
@@ -88,6 +106,15 @@ pub record IsLine (live waits : List Numbered) (exclusive : Option ℕ) : Type 0
 abbrev pub holder_without : ℕ → Option ℕ → Option ℕ
 holder_without number None = None
 holder_without number (Some n) = if n == number then None else Some n
+
+-- the first that waits, which is the new one where no other does
+abbrev pub first_or : ℕ → Option ℕ → Option ℕ
+first_or number None = Some number
+first_or number (Some other) = Some other
+
+-- the first that waits where one leaves
+abbrev pub first_left : ℕ → Option ℕ → List Numbered → Option ℕ
+first_left number first live = if option_eq nat_eq first (Some number) then head_number (live_after number live) else first
 
 -- held by a request that took it, which no longer waits
 abbrev pub seized : ℕ → Waiting → Waiting

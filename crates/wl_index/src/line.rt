@@ -4,33 +4,35 @@ ghost use Rattle.std.specs.List.{AllByRecursion};
 ghost use Rattle.std.specs.Map.{keys_of};
 ghost use Rattle.wl_types.specs.declared.words.Mode.TheVariants.{Exclusive};
 ghost use Rattle.wl_machine.specs.Grants.{is_empty};
-ghost use Rattle.wl_index.specs.Lines.{admits, excludes, next_grant, after_grant, is_busy, with_one_more, without, holder_without};
+ghost use Rattle.wl_index.specs.Lines.{admits, excludes, next_grant, after_grant, is_busy, with_one_more, without, holder_without, head_number, live_after, first_left, first_or};
 
 use std::alloc::Global;
 use std::collections::BTreeMap;
-use std::collections::btree_map::Keys;
+use std::collections::btree_map::Range;
 use std::marker::Model;
+use std::ops::Bound;
 use wl_machine::exclusive;
 use wl_types::{Memory, Mode, Name};
 
-/// Who waits for a name and who holds it. What may come to share it has its place among the live from the start, so
-/// that a grant takes no memory: it leaves the queue. An exclusive holder is kept apart.
+/// Who waits for a name and who holds it. Those that share it stand in front of those that wait, so that a grant takes
+/// no memory: it moves the mark of the first that waits. An exclusive holder is kept apart.
 #[derive(Drop)]
 pub struct Line {
     name: Name,
     live: BTreeMap<u64, Mode>,
-    queue: BTreeMap<u64, Mode>,
+    // The first of the live that waits.
+    first: Option<u64>,
     holder: Option<u64>,
 }
 
 impl Model for Line {
-    ghost use Rattle.wl_index.specs.Lines.{Waiting, holders_of, IsLine};
+    ghost use Rattle.wl_index.specs.Lines.{Waiting, holders_of, waits_from, IsLine};
 
     ghost Value = { Waiting };
 
-    ghost view = { λ l. record { name = l.name; waits = l.queue.entries; holders = holders_of l.holder l.live.entries l.queue.entries } };
+    ghost view = { λ l. record { name = l.name; waits = waits_from l.first l.live.entries; holders = holders_of l.holder l.live.entries (waits_from l.first l.live.entries) } };
 
-    ghost invariant = { λ l. IsLine l.live.entries l.queue.entries l.holder };
+    ghost invariant = { λ l. IsLine l.live.entries (waits_from l.first l.live.entries) l.first l.holder };
 }
 
 /// The exclusive holder, unless it has this number.
@@ -43,6 +45,45 @@ fn unless(holder: Option<u64>, number: u64) -> Option<u64>
     }
 }
 
+/// The least number of the live.
+fn first_of(live: &BTreeMap<u64, Mode>) -> Option<u64>
+    ensures { result ≡ head_number live.now.entries }
+{
+    let (number, _) = live.first_key_value()?;
+    Some(*number)
+}
+
+/// The least number of the live after this one.
+fn first_after(live: &BTreeMap<u64, Mode>, number: u64) -> Option<u64>
+    ensures { result ≡ head_number (live_after number live.now.entries) }
+{
+    let (after, _) = live
+        .range((Bound::Excluded(number), Bound::Unbounded))
+        .next()?;
+    Some(*after)
+}
+
+/// The first that waits once this number has left.
+fn first_left(live: &BTreeMap<u64, Mode>, first: Option<u64>, number: u64) -> Option<u64>
+    ensures { result ≡ first_left number first live.now.entries }
+{
+    if first == Some(number) {
+        first_after(live, number)
+    } else {
+        first
+    }
+}
+
+/// The first that waits, which is the new one where no other does.
+fn or_number(first: Option<u64>, number: u64) -> Option<u64>
+    ensures { result ≡ first_or number first }
+{
+    match first {
+        Some(other) => Some(other),
+        None => Some(number),
+    }
+}
+
 impl Line {
     pub fn new(alloc: Global, name: Name) -> Line
         ensures { result ≡ record { name = name; waits = []; holders = [] } }
@@ -50,7 +91,7 @@ impl Line {
         Line {
             name,
             live: BTreeMap::new(alloc),
-            queue: BTreeMap::new(alloc),
+            first: None,
             holder: None,
         }
     }
@@ -61,18 +102,21 @@ impl Line {
         &self.name
     }
 
-    /// The numbers of those that wait, in the order of the queue.
-    pub fn waiting(&self) -> Keys<'_, u64, Mode>
-        ensures { result ≡ keys_of self.now.waits }
+    /// Those that wait, in the order of the queue.
+    pub fn waiting(&self) -> Range<'_, u64, Mode>
+        ensures { result ≡ self.now.waits }
     {
-        self.queue.keys()
+        match self.first {
+            Some(first) => self.live.range(first..),
+            None => self.live.range(..0),
+        }
     }
 
     /// The first that waits.
     fn first(&self) -> Option<(u64, Mode)>
         ensures { result ≡ slice_get self.now.waits 0 }
     {
-        let (number, mode) = self.queue.first_key_value()?;
+        let (number, mode) = self.waiting().next()?;
         Some((*number, *mode))
     }
 
@@ -80,7 +124,7 @@ impl Line {
     fn is_free(&self) -> bool
         ensures { result ≡ is_empty self.now.holders }
     {
-        self.holder.is_none() && self.live.len() == self.queue.len()
+        self.holder.is_none() && first_of(&self.live) == self.first
     }
 
     /// Whether one of the holders is exclusive.
@@ -105,7 +149,7 @@ impl Line {
     pub fn is_available(&self, mode: Mode) -> bool
         ensures { result ≡ (is_empty self.now.waits && admits self.now mode) }
     {
-        self.queue.is_empty() && self.admits(mode)
+        self.first.is_none() && self.admits(mode)
     }
 
     /// A request that waits, after the others.
@@ -115,11 +159,8 @@ impl Line {
         ensures ok { OnOk result (self.new ≡ with_one_more self.old number mode) }
         ensures err { OnErr result (self.new ≡ self.old) }
     {
-        self.queue.insert(number, mode)?;
-        let Ok(_) = self.live.insert(number, mode) else {
-            self.queue.remove(&number);
-            return Err(Memory);
-        };
+        self.live.insert(number, mode)?;
+        self.first = or_number(self.first, number);
         Ok(())
     }
 
@@ -128,7 +169,7 @@ impl Line {
         ensures { self.new ≡ without number self.old }
     {
         self.holder = unless(self.holder, number);
-        self.queue.remove(&number);
+        self.first = first_left(&self.live, self.first, number);
         self.live.remove(&number);
     }
 
@@ -136,7 +177,7 @@ impl Line {
     pub fn is_busy(&self) -> bool
         ensures { result ≡ is_busy self.now }
     {
-        !(self.is_free() && self.queue.is_empty())
+        !(self.is_free() && self.first.is_none())
     }
 
     /// The first that waits holds, if it may.
@@ -150,7 +191,7 @@ impl Line {
         if !self.admits(mode) {
             return None;
         }
-        self.queue.pop_first();
+        self.first = first_after(&self.live, number);
         if exclusive(mode) {
             self.live.pop_first();
             self.holder = Some(number);

@@ -51,7 +51,7 @@ fn add_queue(alloc: Global, infos: &mut Infos, table: &Table, line: &Line) -> Re
     requires matched { Matches line.now (held_of table.now.entries) (pending_of table.now.entries) }
     ensures { OnOk result (infos.new ≡ infos.old ++ map request_info (queue line.now.name (pending_of table.now.entries))) }
 {
-    for number in line.waiting() {
+    for (number, _) in line.waiting() {
         infos.push(info_of(alloc, table, *number)?)?;
     }
     Ok(())

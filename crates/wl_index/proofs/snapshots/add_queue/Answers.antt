@@ -9,13 +9,13 @@ loop-number-init c =
     let es = c.args.table.now.entries in
     let all = c.into_iter-number-iterator.ensures.into_iter_gives ∙ c.waiting-number-items.ensures in
     record {
-      stand = subst (AllByRecursion (Stands es)) (sym (all ∙ ap keys_of c.requires.matched.waits)) (queue_stands c.args.line.now.name es c.requires.ordered);
-      shown = ap (λ numbers. c.args.infos.now ++ found_at info es numbers) all;
+      stand = subst (AllByRecursion (Stands es)) (sym (ap keys_of (all ∙ c.requires.matched.waits))) (queue_stands c.args.line.now.name es c.requires.ordered);
+      shown = ap (λ waits. c.args.infos.now ++ found_at info es (keys_of waits)) all;
     }
 
 pub returns : goal.returns
 returns c =
     let es = c.args.table.now.entries in
     let empty = c.in-None.ensures.steps.0 in
-    sym (append-nil c.loop-number.infos) ∙ ap (λ numbers. c.loop-number.infos ++ found_at info es numbers) (sym empty) ∙ c.loop-number.invariant.shown
+    sym (append-nil c.loop-number.infos) ∙ ap (λ waits. c.loop-number.infos ++ found_at info es (keys_of waits)) (sym empty) ∙ c.loop-number.invariant.shown
     ∙ ap (λ shown. c.args.infos.now ++ shown) (ap (λ waits. found_at info es (keys_of waits)) c.requires.matched.waits ∙ queue_shown c.args.line.now.name es c.requires.ordered)
