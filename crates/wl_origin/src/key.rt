@@ -6,6 +6,7 @@ ghost use Rattle.wl_origin.specs.Origin.{tuple_text};
 use crate::written::written;
 use std::alloc::Global;
 use std::cmp::Ordering;
+use std::hash::{Hash, Hasher};
 use std::marker::Model;
 use wl_types::Memory;
 
@@ -110,5 +111,19 @@ impl Ord for OriginKey {
             .cmp(&other.scheme)
             .then(self.host.cmp(&other.host))
             .then(self.port.cmp(&other.port))
+    }
+}
+
+impl Hash for OriginKey {
+    ghost use Rattle.wl_origin.specs.Origin.{tuple_writes, tuple_writes_alike};
+
+    ghost hash_input = { tuple_writes };
+
+    ghost respects_eq = { tuple_writes_alike };
+
+    fn hash<H: Hasher>(&self, state: &mut H) {
+        self.scheme.hash(state);
+        self.host.hash(state);
+        self.port.hash(state);
     }
 }

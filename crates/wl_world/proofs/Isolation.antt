@@ -7,8 +7,7 @@ use Rattle.std.specs.declared.cmp.Ordering.{Ordering}
 use Rattle.std.specs.declared.cmp.Ordering.TheVariants.{Less, Equal, Greater}
 use Rattle.std.proofs.lemmas.Slice.Eq.{bytes_eq-Decides}
 use Rattle.wl_types.specs.declared.words.Kind.{Kind}
-use Rattle.wl_origin.specs.Origin.{Tuple, tuple_cmp}
-use Rattle.wl_origin.proofs.Exact.{exact_tuples}
+use Rattle.wl_origin.specs.Origin.{Tuple, exact_tuples, tuple_cmp}
 use Rattle.wl_origin.specs.Standing.{standing_of}
 use Rattle.wl_origin.specs.declared.standing.KeyFault.{KeyFault}
 use Rattle.wl_machine.specs.declared.command.Command.TheVariants as command

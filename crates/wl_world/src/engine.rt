@@ -11,7 +11,7 @@ use crate::labels::serve_named;
 use crate::origin::Origin;
 use crate::serve_label::plain_text;
 use std::alloc::Global;
-use std::collections::{BTreeMap, HashMap};
+use std::collections::HashMap;
 use wl_codec::{Line, Outcome, Scratch, read_line_with};
 use wl_core::LockCore;
 use wl_origin::OriginKey;
@@ -22,7 +22,7 @@ use wl_types::Memory;
 #[derive(Drop)]
 pub struct Engine<C: LockCore> {
     alloc: Global,
-    realm: BTreeMap<OriginKey, Origin<C>>,
+    realm: HashMap<OriginKey, Origin<C>>,
     labels: HashMap<String, Label>,
     // Lent to the reading of each line.
     scratch: Scratch,
@@ -35,7 +35,7 @@ impl<C: LockCore<Seed = ()>> Engine<C> {
     {
         Engine {
             alloc,
-            realm: BTreeMap::new(alloc),
+            realm: HashMap::new(alloc),
             labels: HashMap::new(alloc),
             scratch: Scratch::new(alloc),
         }

@@ -11,7 +11,7 @@ use crate::origin::Origin;
 use crate::realm::enter_at;
 use crate::serve_label::plain_text;
 use std::alloc::Global;
-use std::collections::BTreeMap;
+use std::collections::HashMap;
 use wl_codec::{Body, Outcome};
 use wl_core::LockCore;
 use wl_origin::{KeyFault, OriginKey, Standing, key_of};
@@ -45,7 +45,7 @@ fn entered(alloc: Global, key: OriginKey, id: u64, outcome: Outcome) -> Result<O
 
 fn open_label<C: LockCore<Seed = ()>>(
     alloc: Global,
-    realm: &mut BTreeMap<OriginKey, Origin<C>>,
+    realm: &mut HashMap<OriginKey, Origin<C>>,
     id: u64,
     url: &str,
     kind: Kind,
@@ -78,7 +78,7 @@ fn open_label<C: LockCore<Seed = ()>>(
 
 pub(crate) fn serve_unopened<C: LockCore<Seed = ()>>(
     alloc: Global,
-    realm: &mut BTreeMap<OriginKey, Origin<C>>,
+    realm: &mut HashMap<OriginKey, Origin<C>>,
     id: u64,
     body: &Body,
 ) -> Result<Opening, Memory>

@@ -1,19 +1,17 @@
 //! The managers of all origins.
 
 ghost use Rattle.std.specs.Prelude.{◌≡◌, IfOk, OnOk, IsSome, string_bytes};
-ghost use Rattle.std.specs.BTreeMap.{get};
 ghost use Rattle.wl_codec.specs.Replies.{reply_text};
 ghost use Rattle.wl_machine.specs.declared.command.Command.TheVariants as command;
-ghost use Rattle.wl_origin.specs.Origin.{tuple_cmp};
 ghost use Rattle.wl_world.specs.Agents.{served};
 ghost use Rattle.wl_world.specs.Labels.{closes, with_origin};
 ghost use Rattle.wl_world.specs.Origins.{stepped};
-ghost use Rattle.wl_world.specs.Realms.{realm_of, seen};
+ghost use Rattle.wl_world.specs.Realms.{realm_of};
 
 use crate::origin::Origin;
 use crate::serve::{Answer, serve};
 use std::alloc::Global;
-use std::collections::BTreeMap;
+use std::collections::HashMap;
 use wl_codec::{Body, Outcome};
 use wl_core::LockCore;
 use wl_origin::OriginKey;
@@ -23,7 +21,7 @@ use wl_types::{Kind, Memory};
 /// Gives a manager to a key that has none.
 fn seat<C: LockCore>(
     alloc: Global,
-    realm: &mut BTreeMap<OriginKey, Origin<C>>,
+    realm: &mut HashMap<OriginKey, Origin<C>>,
     key: &OriginKey,
     origin: Origin<C>,
 ) -> Result<(), Memory>
@@ -37,7 +35,7 @@ fn seat<C: LockCore>(
 /// A line of an agent of this origin.
 pub(crate) fn serve_at<C: LockCore<Seed = ()>>(
     alloc: Global,
-    realm: &mut BTreeMap<OriginKey, Origin<C>>,
+    realm: &mut HashMap<OriginKey, Origin<C>>,
     key: &OriginKey,
     agent: u64,
     session: &mut Session,
@@ -65,7 +63,7 @@ pub(crate) fn serve_at<C: LockCore<Seed = ()>>(
 /// A new agent of this origin.
 pub(crate) fn enter_at<C: LockCore<Seed = ()>>(
     alloc: Global,
-    realm: &mut BTreeMap<OriginKey, Origin<C>>,
+    realm: &mut HashMap<OriginKey, Origin<C>>,
     key: &OriginKey,
     kind: Kind,
     body: &Body,

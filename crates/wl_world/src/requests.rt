@@ -78,7 +78,7 @@ impl Requests {
     pub(crate) fn news_of(&self, alloc: Global, agent: u64) -> Result<Vec<(u64, Phase)>, Memory>
         ensures { IfOk result (λ news. news.items ≡ news_of agent self.now) }
     {
-        news_in(alloc, &self.rolls, agent)
+        news_in(alloc, &self.live, &self.rolls, agent)
     }
 
     /// The agent was told its news.

@@ -1,64 +1,84 @@
-//! The requests of an origin by number, and of each agent which are its own and what is news of them.
+//! The requests of an origin by number, and of each agent a roll of numbers that its requests are found by.
 
-ghost use Rattle.std.specs.Prelude.{◌≡◌, ◌∷◌, ◌++◌, List, [], map, IfOk, OnOk, IsSome, ℕ};
-ghost use Rattle.std.specs.BTreeMap.{get, insert_entry};
-ghost use Rattle.std.specs.BTreeSet.{insert_key};
-ghost use Rattle.std.specs.Map.{values_of};
+ghost use Rattle.std.specs.Prelude.{◌≡◌, ◌∷◌, ◌++◌, List, [], map, filter, is_some, IfOk, IsSome, OnOk, Some, None, ℕ};
+ghost use Rattle.std.specs.BTreeMap.{get};
+ghost use Rattle.std.specs.List.{Contains, flat_map};
+ghost use Rattle.std.specs.List.Sorted.{IsStrictlySortedBy};
+ghost use Rattle.std.specs.Map.{keys_of, values_of};
 ghost use Rattle.std.specs.Ordering.{nat_cmp};
-ghost use Rattle.wl_session.specs.Told.{Look};
-ghost use Rattle.wl_world.specs.Requests.{IsRising, noted, told, waiting, with_change, without};
-ghost use Rattle.wl_world.specs.Rolls.{IsHeld, IsIndex, IsOwn, IsPart, IsToldOne, kept};
+ghost use Rattle.wl_world.specs.Requests.{IsRising, has_ended, news_of, noted, told, waiting, with_change, without};
+ghost use Rattle.wl_world.specs.Rolls.{IsCovered, IsEach, IsEachAt, IsEnrolled, IsIndex, found, leave_one, looks_of, tell_one};
 
 use crate::requests::Request;
 use std::alloc::Global;
-use std::collections::{BTreeMap, BTreeSet};
+use std::collections::BTreeMap;
 use wl_types::{Change, Memory, Phase};
 
-/// The numbers of an agent's requests, and those that are news, each with the phase that its request has come to.
+/// Numbers that have left stay on a roll until they are as many as those that are live, and this many more.
+const SPARE: usize = 16;
+
+/// Where an agent's requests are found: each of them is among its own, and is noted if there is news of it. Numbers
+/// of requests that have left may be among its own too, and one may be noted twice.
 #[derive(Drop)]
 pub(crate) struct Roll {
-    pub own: BTreeSet<u64>,
-    pub news: BTreeMap<u64, Phase>,
+    pub own: Vec<u64>,
+    pub noted: Vec<u64>,
+    // How many of its own are live, which says only when to look for those that are not.
+    pub count: usize,
 }
 
-/// Gives the agent a roll, if it has none.
-fn seat(alloc: Global, rolls: &mut BTreeMap<u64, Roll>, agent: u64) -> Result<(), Memory>
-    ensures seated { OnOk result (IsSome (get nat_cmp rolls.new agent)) }
-    ensures same { OnOk result ((other : ℕ) → kept (get nat_cmp rolls.new other) ≡ kept (get nat_cmp rolls.old other)) }
+/// Only the numbers of live requests stay.
+fn retain_live(live: &BTreeMap<u64, Request>, own: &mut Vec<u64>)
+    ensures { own.new.items ≡ filter (λ number. is_some (found number live.now.entries)) own.old.items }
 {
-    if rolls.contains_key(&agent) {
-        return Ok(());
+    own.retain(|number| live.contains_key(number));
+}
+
+/// Numbers that have left are taken off a roll once they are most of it, so that its length follows what is live, and
+/// no number is looked up twice on average.
+fn clean(live: &BTreeMap<u64, Request>, roll: &mut Roll)
+    ensures own { (number : ℕ) → IsSome (found number live.now.entries) → Contains roll.old.own.items number → Contains roll.new.own.items number }
+    ensures noted { roll.new.noted.items ≡ roll.old.noted.items }
+{
+    if roll.own.len() / 2 > roll.count.saturating_add(SPARE) {
+        retain_live(live, &mut roll.own);
+        roll.count = roll.own.len();
     }
-    let roll = Roll {
-        own: BTreeSet::new(alloc),
-        news: BTreeMap::new(alloc),
-    };
-    rolls.insert(agent, roll)?;
+}
+
+/// An agent has another request.
+fn enroll(live: &BTreeMap<u64, Request>, roll: &mut Roll, number: u64) -> Result<(), Memory>
+    ensures { OnOk result (IsEnrolled live.now.entries (Some roll.old) (Some roll.new) number) }
+{
+    clean(live, roll);
+    roll.own.push(number)?;
+    roll.noted.push(number)?;
+    roll.count = roll.count.saturating_add(1);
     Ok(())
 }
 
-/// The agent has another request, which waits.
-fn enroll(
+/// An agent has another request, and a roll if it had none.
+fn enter(
     alloc: Global,
+    live: &BTreeMap<u64, Request>,
     rolls: &mut BTreeMap<u64, Roll>,
     agent: u64,
     number: u64,
 ) -> Result<(), Memory>
-    ensures mine { OnOk result (kept (get nat_cmp rolls.new agent) ≡ record {
-      own = insert_key nat_cmp (kept (get nat_cmp rolls.old agent)).own number;
-      news = insert_entry nat_cmp (kept (get nat_cmp rolls.old agent)).news number Phase.Pending;
-    }) }
-    ensures others { OnOk result ((other : ℕ) → (other ≡ agent → ⊥) → kept (get nat_cmp rolls.new other) ≡ kept (get nat_cmp rolls.old other)) }
+    ensures mine { OnOk result (IsEnrolled live.now.entries (get nat_cmp rolls.old agent) (get nat_cmp rolls.new agent) number) }
+    ensures others { OnOk result ((other : ℕ) → (other ≡ agent → ⊥) → get nat_cmp rolls.new other ≡ get nat_cmp rolls.old other) }
 {
-    seat(alloc, rolls, agent)?;
-    match rolls.get_mut(&agent) {
-        Some(roll) => {
-            roll.own.insert(number)?;
-            roll.news.insert(number, Phase::Pending)?;
-            Ok(())
-        }
-        None => unreachable!(),
+    if let Some(roll) = rolls.get_mut(&agent) {
+        return enroll(live, roll, number);
     }
+    let mut roll = Roll {
+        own: Vec::new(alloc),
+        noted: Vec::new(alloc),
+        count: 0,
+    };
+    enroll(live, &mut roll, number)?;
+    rolls.insert(agent, roll)?;
+    Ok(())
 }
 
 /// A new request waits.
@@ -74,7 +94,7 @@ pub(crate) fn add(
     ensures index { OnOk result (IsIndex live.new.entries rolls.new.entries) }
     ensures added { OnOk result (values_of live.new.entries ≡ values_of live.old.entries ++ waiting agent number ∷ []) }
 {
-    enroll(alloc, rolls, agent, number)?;
+    enter(alloc, live, rolls, agent, number)?;
     let request = Request {
         number,
         agent,
@@ -103,7 +123,7 @@ fn note(
     };
     match rolls.get_mut(&agent) {
         Some(roll) => {
-            roll.news.insert(change.id, change.phase)?;
+            roll.noted.push(change.id)?;
             Ok(())
         }
         None => unreachable!(),
@@ -129,59 +149,113 @@ pub(crate) fn note_all(
 /// The news of an agent, by number.
 pub(crate) fn news_in(
     alloc: Global,
+    live: &BTreeMap<u64, Request>,
     rolls: &BTreeMap<u64, Roll>,
     agent: u64,
 ) -> Result<Vec<(u64, Phase)>, Memory>
-    ensures { IfOk result (λ news. news.items ≡ (kept (get nat_cmp rolls.now agent)).news) }
+    requires { IsIndex live.now.entries rolls.now.entries }
+    ensures { IfOk result (λ news. news.items ≡ news_of agent (values_of live.now.entries)) }
 {
     match rolls.get(&agent) {
-        Some(roll) => listed(alloc, &roll.news),
+        Some(roll) => {
+            let numbers = in_order(&roll.noted)?;
+            looks_at(alloc, live, agent, &numbers)
+        }
         None => Ok(Vec::new(alloc)),
     }
 }
 
-fn listed(alloc: Global, news: &BTreeMap<u64, Phase>) -> Result<Vec<(u64, Phase)>, Memory>
-    ensures { IfOk result (λ list. list.items ≡ news.now.entries) }
+/// The numbers in order, each once.
+fn in_order(numbers: &Vec<u64>) -> Result<Vec<u64>, Memory>
+    ensures sorted { IfOk result (λ sorted. IsStrictlySortedBy nat_cmp sorted.items) }
+    ensures all { IfOk result (λ sorted. (number : ℕ) → Contains numbers.now.items number → Contains sorted.items number) }
 {
-    let mut list = Vec::new(alloc);
-    for (number, phase) in news {
-        list.push((*number, *phase))?;
-    }
-    Ok(list)
+    let mut sorted = numbers.clone()?;
+    sorted.sort_unstable();
+    sorted.dedup();
+    Ok(sorted)
 }
 
-/// The first news of an agent is told: its request leaves if it has ended, or has no news then.
-fn tell_one(
-    live: &mut BTreeMap<u64, Request>,
-    own: &mut BTreeSet<u64>,
+/// What is news of these requests of an agent, one after another.
+fn looks_at(
+    alloc: Global,
+    live: &BTreeMap<u64, Request>,
+    agent: u64,
+    numbers: &[u64],
+) -> Result<Vec<(u64, Phase)>, Memory>
+    ensures { IfOk result (λ looks. looks.items ≡ flat_map (λ number. looks_of agent (found number live.now.entries)) numbers.now) }
+{
+    let mut looks = Vec::new(alloc);
+    for number in numbers {
+        look_at(live, agent, *number, &mut looks)?;
+    }
+    Ok(looks)
+}
+
+/// What is news of this request comes to the end of a list, if it is the agent's.
+fn look_at(
+    live: &BTreeMap<u64, Request>,
     agent: u64,
     number: u64,
-    phase: Phase,
-)
-    ensures { (rest : List Look) → IsPart agent live.old.entries own.old.keys ((number, phase) ∷ rest) → IsToldOne agent live.old.entries live.new.entries own.new.keys rest }
+    looks: &mut Vec<(u64, Phase)>,
+) -> Result<(), Memory>
+    ensures { OnOk result (looks.new.items ≡ looks.old.items ++ looks_of agent (found number live.now.entries)) }
 {
-    if phase.is_end() {
-        live.remove(&number);
-        own.remove(&number);
-    } else if let Some(request) = live.get_mut(&number) {
-        request.news = None;
+    if let Some(request) = live.get(&number)
+        && request.agent == agent
+        && let Some(phase) = request.news
+    {
+        looks.push((request.number, phase))?;
+    }
+    Ok(())
+}
+
+/// Whether a request is the agent's and has ended.
+fn has_ended(agent: u64, request: &Request) -> bool
+    ensures { result ≡ has_ended agent request.now }
+{
+    request.agent == agent && matches!(request.news, Some(phase) if phase.is_end())
+}
+
+/// A request of the agent was told: it leaves if it has ended, or has no news then.
+fn tell_at(live: &mut BTreeMap<u64, Request>, agent: u64, number: u64)
+    ensures ordered { IsStrictlySortedBy nat_cmp (keys_of live.new.entries) }
+    ensures each { IsEachAt (tell_one agent) number live.old.entries live.new.entries }
+{
+    if let Some(request) = live.get_mut(&number) {
+        if has_ended(agent, request) {
+            live.remove(&number);
+        } else if request.agent == agent {
+            request.news = None;
+        }
     }
 }
 
-/// All news of an agent is told.
-fn tell_all(
-    live: &mut BTreeMap<u64, Request>,
-    own: &mut BTreeSet<u64>,
-    agent: u64,
-    news: &BTreeMap<u64, Phase>,
-)
-    requires { IsPart agent live.old.entries own.old.keys news.now.entries }
-    ensures part { IsPart agent live.new.entries own.new.keys [] }
-    ensures told { values_of live.new.entries ≡ told agent (values_of live.old.entries) }
+/// All that is noted of an agent was told.
+fn tell_all(live: &mut BTreeMap<u64, Request>, agent: u64, numbers: &[u64])
+    requires ordered { IsStrictlySortedBy nat_cmp (keys_of live.old.entries) }
+    requires covered { IsCovered (tell_one agent) live.old.entries numbers.now }
+    ensures ordered { IsStrictlySortedBy nat_cmp (keys_of live.new.entries) }
+    ensures each { IsEach (tell_one agent) live.old.entries live.new.entries }
 {
-    for (number, phase) in news {
-        tell_one(live, own, agent, *number, *phase);
+    for number in numbers {
+        tell_at(live, agent, *number);
     }
+}
+
+/// All that is on an agent's roll as noted was told.
+fn tell_roll(live: &mut BTreeMap<u64, Request>, agent: u64, roll: &mut Roll)
+    requires ordered { IsStrictlySortedBy nat_cmp (keys_of live.old.entries) }
+    requires covered { IsCovered (tell_one agent) live.old.entries roll.old.noted.items }
+    ensures ordered { IsStrictlySortedBy nat_cmp (keys_of live.new.entries) }
+    ensures each { IsEach (tell_one agent) live.old.entries live.new.entries }
+    ensures own { roll.new.own.items ≡ roll.old.own.items }
+{
+    let before = live.len();
+    tell_all(live, agent, &roll.noted);
+    roll.noted.clear();
+    let left = before.saturating_sub(live.len());
+    roll.count = roll.count.saturating_sub(left);
 }
 
 /// The agent was told its news.
@@ -191,19 +265,32 @@ pub(crate) fn tell(live: &mut BTreeMap<u64, Request>, rolls: &mut BTreeMap<u64, 
     ensures told { values_of live.new.entries ≡ told agent (values_of live.old.entries) }
 {
     if let Some(roll) = rolls.get_mut(&agent) {
-        tell_all(live, &mut roll.own, agent, &roll.news);
-        roll.news.clear();
+        tell_roll(live, agent, roll);
     }
 }
 
-/// The requests of these numbers leave, which are all of an agent.
-fn remove_all(live: &mut BTreeMap<u64, Request>, agent: u64, own: &BTreeSet<u64>)
-    requires { IsOwn agent live.old.entries own.now.keys }
-    ensures held { IsHeld live.new.entries }
-    ensures left { values_of live.new.entries ≡ without agent (values_of live.old.entries) }
+/// A request leaves if it is the agent's.
+fn leave_at(live: &mut BTreeMap<u64, Request>, agent: u64, number: u64)
+    requires { IsStrictlySortedBy nat_cmp (keys_of live.old.entries) }
+    ensures ordered { IsStrictlySortedBy nat_cmp (keys_of live.new.entries) }
+    ensures each { IsEachAt (leave_one agent) number live.old.entries live.new.entries }
 {
-    for number in own {
-        live.remove(number);
+    if let Some(request) = live.get(&number)
+        && request.agent == agent
+    {
+        live.remove(&number);
+    }
+}
+
+/// All requests of an agent leave.
+fn leave_all(live: &mut BTreeMap<u64, Request>, agent: u64, numbers: &[u64])
+    requires ordered { IsStrictlySortedBy nat_cmp (keys_of live.old.entries) }
+    requires covered { IsCovered (leave_one agent) live.old.entries numbers.now }
+    ensures ordered { IsStrictlySortedBy nat_cmp (keys_of live.new.entries) }
+    ensures each { IsEach (leave_one agent) live.old.entries live.new.entries }
+{
+    for number in numbers {
+        leave_at(live, agent, *number);
     }
 }
 
@@ -214,7 +301,7 @@ pub(crate) fn leave(live: &mut BTreeMap<u64, Request>, rolls: &mut BTreeMap<u64,
     ensures left { values_of live.new.entries ≡ without agent (values_of live.old.entries) }
 {
     if let Some(roll) = rolls.remove(&agent) {
-        remove_all(live, agent, &roll.own);
+        leave_all(live, agent, &roll.own);
     }
 }
 

@@ -1,14 +1,24 @@
-use Rattle.std.proofs.Common.{sym, ap, ◌∙◌}
-use Rattle.std.specs.Map.{values_of}
-use Rattle.wl_world.specs.Rolls.{Kept, kept}
-use Rattle.wl_world.proofs.Held.{left_done}
-use Rattle.wl_world.proofs.Indexed.{left_rolls}
+use Rattle.std.proofs.Common.{sym, subst, ◌∙◌}
+use Rattle.wl_world.specs.Rolls.{IsCovered, leave_one, own_of}
+use Rattle.wl_world.proofs.Covered.{left_covered, left_index}
+use Rattle.wl_world.proofs.Passed.{left_values}
+use Rattle.wl_world.proofs.Walks.{none_left}
 use Rattle.wl_world.proofs.rolls.leave.Goals as goal
+
+pub leave_all-requires-clause-covered : goal.leave_all-requires-clause-covered
+leave_all-requires-clause-covered c =
+    let covered = subst (λ o. IsCovered (leave_one c.args.agent) c.args.live.now.entries (own_of o)) (sym c.remove.ensures.value ∙ c.in-Some.is) (left_covered c.args.live.now.entries c.args.rolls.now.entries c.requires c.args.agent) in
+    subst (IsCovered (leave_one c.args.agent) c.args.live.now.entries) (sym c.deref.ensures.value) covered
 
 pub returns-in-Some-clause-index : goal.returns-in-Some-clause-index
 returns-in-Some-clause-index c =
-    left_rolls c.args.live.now.entries c.remove_all.new.live.entries c.args.rolls.now.entries c.remove.new.self.entries c.args.agent c.requires c.remove_all.ensures.held c.remove_all.ensures.left c.remove.ensures.updates.0
+    left_index c.args.live.now.entries c.leave_all.new.live.entries c.args.rolls.now.entries c.remove.new.self.entries c.requires c.leave_all.ensures.ordered c.args.agent c.leave_all.ensures.each c.remove.ensures.updates.0
+
+pub returns-in-Some-clause-left : goal.returns-in-Some-clause-left
+returns-in-Some-clause-left c = left_values c.args.live.now.entries c.leave_all.new.live.entries c.requires.ordered c.leave_all.ensures.ordered c.args.agent c.leave_all.ensures.each
 
 pub returns-in_default-clause-left : goal.returns-in_default-clause-left
 returns-in_default-clause-left c =
-    sym (left_done c.args.agent (values_of c.args.live.now.entries) (ap (λ (k : Kept). k.own) (ap kept (sym c.in_default.is ∙ c.remove.ensures.value) ∙ c.requires.each c.args.agent)))
+    let live = c.args.live.now.entries in
+    let covered = subst (λ o. IsCovered (leave_one c.args.agent) c.args.live.now.entries (own_of o)) (sym c.remove.ensures.value ∙ c.in_default.is) (left_covered c.args.live.now.entries c.args.rolls.now.entries c.requires c.args.agent) in
+    left_values live live c.requires.ordered c.requires.ordered c.args.agent (none_left (leave_one c.args.agent) live covered)

@@ -1,6 +1,13 @@
-use Rattle.wl_world.specs.Rolls.{IsToldOne}
+use Rattle.std.proofs.Common.{drop, nat_cmp}
+use Rattle.std.specs.List.Sorted.{IsStrictlySortedBy}
+use Rattle.std.specs.Map.{keys_of}
+use Rattle.wl_world.specs.Rolls.{tell_one}
+use Rattle.wl_world.proofs.Walks.{IsUnderWay}
 use Rattle.wl_world.proofs.rolls.tell_all.Given as goal
 
 -- what is left to tell
 abbrev pub invariant-loop-number : goal.invariant-loop-number
-invariant-loop-number l = IsToldOne l.agent l.fn.live.entries l.live.entries l.own.keys l.number-iterator
+invariant-loop-number l = record {
+  ordered : IsStrictlySortedBy nat_cmp (keys_of l.live.entries);
+  under_way : IsUnderWay (tell_one l.agent) l.fn.live.entries l.live.entries (drop l.number-index l.numbers);
+}

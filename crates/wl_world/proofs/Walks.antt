@@ -1,0 +1,108 @@
+-- Requests by number, to each of which the same is done: all that stand at some of the numbers, one after another.
+use Rattle.std.proofs.Common.{◌≡◌, ◌⊎◌, ℕ, suc, ◌<◌, ◌+◌, ◌==◌, Bool, true, false, cond, List, [], ◌∷◌, drop, length, get_or, refl, sym, ap, subst, ◌∙◌, inl, inr, arith, drop-cons, add-one}
+use Rattle.std.specs.Prelude.{Option, Some, None}
+use Rattle.std.specs.List.{Contains}
+use Rattle.std.specs.BTreeMap.{is_at}
+use Rattle.std.specs.Option.{option_and_then}
+use Rattle.std.specs.Ordering.{nat_cmp}
+use Rattle.std.proofs.lemmas.Bool.Decides.{nat_tests}
+use Rattle.std.proofs.lemmas.Map.Made.{Contains-tail}
+use Rattle.wl_world.specs.declared.requests.Request.{Request}
+use Rattle.wl_world.specs.Requests.{has_ended}
+use Rattle.wl_world.specs.Rolls.{IsCovered, IsEach, IsEachAt, found, leave_one, tell_one}
+
+-- ---- one number
+
+pub same_number : (n k : ℕ) → is_at (nat_cmp n) k ≡ (k == n)
+same_number n k = grind (arith, nat_tests)
+
+pub alike : (k n : ℕ) → (k == n) ≡ true → k ≡ n
+alike k n h = grind (arith, nat_tests, h)
+
+pub itself : (k : ℕ) → (k == k) ≡ true
+itself k = grind (arith, nat_tests)
+
+pub apart : (k n : ℕ) → (k == n) ≡ false → k ≡ n → ⊥
+apart k n h e = grind (arith, nat_tests, h, e)
+
+-- what was written at one number is what f makes of what stood there
+pub each_at : (f : Request → Option Request) (n : ℕ) (before after : List (ℕ × Request)) (w : Option Request)
+    → ((q : ℕ) → found q after ≡ cond (is_at (nat_cmp n) q) w (found q before)) → w ≡ option_and_then f (found n before) → IsEachAt f n before after
+each_at f n before after w updates is q = updates q ∙ by (q == n) refl
+  where
+    by : (b : Bool) → (q == n) ≡ b → cond (is_at (nat_cmp n) q) w (found q before) ≡ cond (is_at (nat_cmp n) q) (option_and_then f (found q before)) (found q before)
+    by true h = rw (same_number n q, h) (is ∙ ap (λ k. option_and_then f (found k before)) (sym (alike q n h)))
+    by false h = rw (same_number n q, h) refl
+
+-- nothing was written, since f does nothing there
+pub each_at_same : (f : Request → Option Request) (n : ℕ) (live : List (ℕ × Request)) → option_and_then f (found n live) ≡ found n live → IsEachAt f n live live
+each_at_same f n live settled q = by (q == n) refl
+  where
+    by : (b : Bool) → (q == n) ≡ b → found q live ≡ cond (is_at (nat_cmp n) q) (option_and_then f (found q live)) (found q live)
+    by true h = rw (same_number n q, h) (subst (λ k. found k live ≡ option_and_then f (found k live)) (sym (alike q n h)) (sym settled))
+    by false h = rw (same_number n q, h) refl
+
+-- ---- one number after another
+
+-- f was done at some numbers, and these are the others at which it may do anything
+pub record IsUnderWay (f : Request → Option Request) (start now : List (ℕ × Request)) (rest : List ℕ) : Type 0 where
+  pub same : (q : ℕ) → option_and_then f (found q now) ≡ option_and_then f (found q start)
+  pub covered : IsCovered f now rest
+
+-- f done twice is f done once
+abbrev pub IsIdempotent : (Request → Option Request) → Type 0
+IsIdempotent f = (o : Option Request) → option_and_then f (option_and_then f o) ≡ option_and_then f o
+
+pub one_more : (f : Request → Option Request) → IsIdempotent f → (n : ℕ) (rest : List ℕ) (start before after : List (ℕ × Request)) → IsUnderWay f start before (n ∷ rest) → IsEachAt f n before after → IsUnderWay f start after rest
+one_more f once n rest start before after way each = record { same = λ q. same q (q == n) refl; covered = λ q. covered q (q == n) refl }
+  where
+    same : (q : ℕ) (b : Bool) → (q == n) ≡ b → option_and_then f (found q after) ≡ option_and_then f (found q start)
+    same q true h =
+        let is : found q after ≡ option_and_then f (found q before) = each q ∙ rw (same_number n q, h) refl in
+        ap (option_and_then f) is ∙ once (found q before) ∙ way.same q
+    same q false h =
+        let is : found q after ≡ found q before = each q ∙ rw (same_number n q, h) refl in
+        ap (option_and_then f) is ∙ way.same q
+
+    covered : (q : ℕ) (b : Bool) → (q == n) ≡ b → (option_and_then f (found q after) ≡ found q after) ⊎ Contains rest q
+    covered q true h =
+        let is : found q after ≡ option_and_then f (found q before) = each q ∙ rw (same_number n q, h) refl in
+        inl (ap (option_and_then f) is ∙ once (found q before) ∙ sym is)
+    covered q false h =
+        let is : found q after ≡ found q before = each q ∙ rw (same_number n q, h) refl in
+        elim (way.covered q) [
+          | inl settled ↦ inl (ap (option_and_then f) is ∙ settled ∙ sym is)
+          | inr has ↦ inr (Contains-tail n rest q (λ e. apart q n h (sym e)) has)
+        ]
+
+-- the next of them
+pub one_more_of : (f : Request → Option Request) → IsIdempotent f → (n i : ℕ) (numbers : List ℕ) (start before after : List (ℕ × Request)) → i < length numbers → n ≡ get_or numbers i 0
+    → IsUnderWay f start before (drop i numbers) → IsEachAt f n before after → IsUnderWay f start after (drop (i + 1) numbers)
+one_more_of f once n i numbers start before after within is way each =
+    let turn : drop i numbers ≡ n ∷ drop (i + 1) numbers = rw add-one (drop-cons numbers i 0 within ∙ ap (λ k. k ∷ drop (suc i) numbers) (sym is)) in
+    one_more f once n (drop (i + 1) numbers) start before after (subst (IsUnderWay f start before) turn way) each
+
+-- all are done
+pub all_done : (f : Request → Option Request) (start now : List (ℕ × Request)) → IsUnderWay f start now [] → IsEach f start now
+all_done f start now way q = elim (way.covered q) [ inl settled ↦ sym settled ∙ way.same q | inr has ↦ absurd (omega (arith, has.1)) ]
+
+-- where f does nothing, it was done
+pub none_left : (f : Request → Option Request) (live : List (ℕ × Request)) → IsCovered f live [] → IsEach f live live
+none_left f live covered = all_done f live live (record { same = λ q. refl; covered = covered })
+
+pub told_twice : (agent : ℕ) → IsIdempotent (tell_one agent)
+told_twice agent None = refl
+told_twice agent (Some r) = by (has_ended agent r) (r.agent == agent) refl
+  where
+    by : (b c : Bool) → (r.agent == agent) ≡ c → option_and_then (tell_one agent) (cond b None (Some (cond c (record r { news = None }) r))) ≡ cond b None (Some (cond c (record r { news = None }) r))
+    by true c h = refl
+    by false true h = rw h refl
+    by false false h = rw h refl
+
+pub left_twice : (agent : ℕ) → IsIdempotent (leave_one agent)
+left_twice agent None = refl
+left_twice agent (Some r) = by (r.agent == agent) refl
+  where
+    by : (b : Bool) → (r.agent == agent) ≡ b → option_and_then (leave_one agent) (cond b None (Some r)) ≡ cond b None (Some r)
+    by true h = refl
+    by false h = rw h refl
