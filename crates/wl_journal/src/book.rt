@@ -15,6 +15,9 @@ use wl_core::{Command, LockCore, PlainCore, Reply};
 use wl_types::{Memory, Refusal, Snapshot};
 
 mod recording;
+mod requesting;
+
+pub use requesting::copy_ask;
 
 /// A core that keeps a journal: it does what its core does, and records each command that the core accepted, with its
 /// reply. What changes nothing isn't recorded: queries, refusals, `NotGranted`, `NotHeld`, `AlreadyAborted`. An

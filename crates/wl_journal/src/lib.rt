@@ -12,5 +12,5 @@ mod room;
 mod tests;
 
 pub use auditing::{AuditFault, audit};
-pub use book::{Book, Sight};
+pub use book::{Book, Sight, copy_ask};
 pub use entry::Entry;

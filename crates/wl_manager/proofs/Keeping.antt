@@ -1,5 +1,5 @@
 -- What holds under the lock, command by command.
-use Rattle.std.proofs.Common.{◌≡◌, ◌≢◌, ℕ, ◌+◌, ◌≤◌, List, [], ◌∷◌, ◌++◌, length, refl, arith, true, false, sym, ap, ◌∙◌, cond, eq-eqb, ne_eqb, append-nil, Bool, inl, inr, subst, length-append}
+use Rattle.std.proofs.Common.{◌≡◌, ◌≢◌, ℕ, ◌+◌, ◌<◌, ◌≤◌, nat_le, List, [], ◌∷◌, ◌++◌, length, refl, arith, true, false, sym, ap, ◌∙◌, cond, eq-eqb, ne_eqb, append-nil, Bool, inl, inr, subst, length-append}
 use Rattle.std.specs.Prelude.{◌==◌, ◌&&◌, ◌^◌, filter, not, IsTrue, Option, Some, None, Result, Ok, Err, OnErr}
 use mathlib.Core.Logic.{dite}
 use native.Mathlib.Decide.{ℕ_discrete}
@@ -8,6 +8,7 @@ use Rattle.wl_types.specs.declared.phases.Phase.{Phase}
 use Rattle.wl_types.specs.declared.phases.Phase.TheVariants.{Pending}
 use Rattle.wl_types.specs.declared.phases.Change.{Change}
 use Rattle.wl_types.specs.declared.words.Reason.{Reason}
+use Rattle.wl_types.specs.declared.refusal.Refusal.{Refusal}
 use Rattle.wl_types.specs.declared.ask.Ask.{Ask}
 use Rattle.wl_cell.specs.Seats.{KeeperSeat, may_settle}
 use Rattle.wl_machine.specs.declared.command.Command.{Command}
@@ -15,12 +16,14 @@ use Rattle.wl_machine.specs.declared.command.Command.TheVariants.{Request, Abort
 use Rattle.wl_machine.specs.declared.command.Reply.{Reply}
 use Rattle.wl_machine.specs.declared.command.Reply.TheVariants as reply
 use Rattle.wl_machine.specs.State.{State}
-use Rattle.wl_machine.specs.Step.{Gives, Outcome, request_step, new_request, available}
+use Rattle.wl_machine.specs.Refusals.{refusal}
+use Rattle.wl_machine.specs.Step.{Gives, Outcome, request_step, new_request, available, unless_refused}
 use Rattle.wl_machine.specs.Laws.{phases_of}
 use Rattle.wl_machine.specs.OneMove.{phases_in, MovesOnce, is_plain_move, table_of, entering, is_take}
 use Rattle.wl_machine.specs.Standing.{IsStanding}
 use Rattle.wl_machine.proofs.OneMove.{is_refused, by_step, moves_by_step, numbers_by_step, entrants, askers, no_change, nothing_entered}
 use Rattle.wl_machine.proofs.Standing.{standing_by_step}
+use Rattle.wl_core.proofs.Free.{request_unspent}
 use Rattle.wl_journal.specs.Books.{Book, Appends}
 use Rattle.wl_journal.specs.History.{recorded}
 use Rattle.wl_manager.specs.Keepers.{Kept, seat_at, phases_of_seat, cells_of_seat, phases_at, cells_at, ends_request, MaySettle, after}
@@ -259,6 +262,17 @@ request_number s agent ask new id changes gives = number (ap (λ (o : Outcome). 
 
     number : (request_step s agent ask).reply ≡ reply.Request id → s.next.request ≡ id
     number is = let same : reply.Request s.next.request ≡ reply.Request id = sym said ∙ is in cc
+
+-- and another comes after it
+pub request_small : (s : State) (agent : ℕ) (ask : Ask) (new : State) (id : ℕ) (changes : List Change) → Gives s (Request agent ask) new (reply.Request id) changes → id < 9007199254740992
+request_small s agent ask new id changes gives =
+    let number = request_number s agent ask new id changes gives in
+    let unspent : nat_le 9007199254740992 s.next.request ≡ false = request_unspent s agent ask (free (refusal s (Request agent ask)) gives) in
+    grind arith
+  where
+    free : (o : Option Refusal) → unless_refused o s (Request agent ask) ≡ record { state = new; reply = reply.Request id; changes = changes } → o ≡ None
+    free None is = refl
+    free (Some r) is = absurd (let wrong : reply.Refused r ≡ reply.Request id = ap (λ (o : Outcome). o.reply) is in cc)
 
 -- a keeper was put under the next number, and those of ended requests were let go
 pub record Puts (old : Inner) (seat : KeeperSeat) (changes : List Change) (put mid : Kept) : Type 0 where

@@ -7,7 +7,7 @@ ghost use Rattle.wl_types.specs.declared.refusal.Refusal.TheVariants.{NoSuchAgen
 ghost use Rattle.wl_manager.specs.Agents.{is_released, entries_of_abort};
 
 use crate::count::Count;
-use crate::locked::Leaving;
+use crate::locked::{Asking, Leaving};
 use crate::manager::Manager;
 use crate::news::News;
 use crate::ticket::Ticket;
@@ -55,8 +55,10 @@ impl<C: LockCore, T: Count> Agent<C, T> {
         let Ok(manager) = Arc::try_clone(&self.manager) else {
             return Err(Refusal::Memory);
         };
+        // Made before the lock is taken, so that others wait for less.
+        let asking = Asking::new(self.manager.alloc, ask, &self.news);
         let mut locked = self.manager.locked.lock(rt);
-        let (number, owner) = locked.request(self.number, ask, &self.news, &mut self.share)?;
+        let (number, owner) = locked.request_made(self.number, ask, asking, &mut self.share)?;
         let tells = tells_of_another(locked.changes(), number);
         locked.trim();
         drop(locked);

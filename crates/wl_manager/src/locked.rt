@@ -15,10 +15,12 @@ use wl_journal::{Book, Sight};
 use wl_types::{Kind, Numbers, Refusal};
 
 mod abort;
+mod asking;
 mod commands;
 mod journal;
 mod tally;
 
+pub(crate) use asking::Asking;
 pub use tally::{Leaving, TallyFault};
 
 /// A journal, the keepers of its requests, and what was counted. Its type says what holds whenever the lock is free.

@@ -35,7 +35,7 @@ pub trait Visitor {
 /// what is live, so that a manager's memory grows with that alone.
 #[derive(Drop)]
 pub struct Manager<C: LockCore, T: Count> {
-    alloc: Global,
+    pub(crate) alloc: Global,
     pub(crate) locked: Mutex<Locked<C, T>>,
     // Notified after each command that changed a request for which somebody may wait.
     pub(crate) settled: Condvar,

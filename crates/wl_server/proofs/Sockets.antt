@@ -2,10 +2,10 @@
 use Rattle.std.proofs.Common.{◌≡◌, ◌≤◌, ◌⊎◌, ◌||◌, inl, inr, true, arith, subst, refl, ℕ, List, [], ◌∷◌, ◌++◌, Option, Ok}
 use Rattle.tungstenite.specs.Connection.{write_step}
 use Rattle.tungstenite.specs.Content.{Content, text, binary}
-use Rattle.tungstenite.specs.Socket.{Socket, Reads, Writes, kind_of, has_kind}
+use Rattle.tungstenite.specs.Socket.{Socket, Reads, Writes, content_of, kind_of, has_kind}
 use Rattle.tungstenite.specs.declared.message.Message.{Message}
 use Rattle.tungstenite.specs.declared.message.Message.TheVariants as Kind
-use Rattle.wl_server.specs.Sockets.{Idles, Sends}
+use Rattle.wl_server.specs.Sockets.{Idles, Hears, Sends}
 
 module _ {S : Type 0} (remaining : S → Option (List ℕ)) where
   -- and one more
@@ -15,6 +15,12 @@ module _ {S : Type 0} (remaining : S → Option (List ℕ)) where
   idles_more (x ∷ ms) m old now new before came idle =
       let (next, first, passes, rest) = before in
       (next, first, passes, idles_more ms m next now new rest came idle)
+
+  -- and then one with a text or with bytes
+  pub heard : (ms : List Message) (m : Message) (old now new : Socket S) (words : List ℕ) → Idles remaining old ms now → Reads remaining now new (Ok m)
+      → (content_of m ≡ text words) ⊎ (content_of m ≡ binary words) → Hears remaining old words new
+  heard ms m old now new words before came (inl is) = inl (ms, now, m, before, came, is)
+  heard ms m old now new words before came (inr is) = inr (ms, now, m, before, came, is)
 
 -- a ping or a pong
 pub idle : (m : Message) → (has_kind 2 m || has_kind 3 m) ≡ true → 2 ≤ kind_of m

@@ -16,6 +16,10 @@ module _ {S : Type 0} (remaining : S → Option (List ℕ)) where
   Receives old content new = (idle : List Message) × (middle : Socket S) × (m : Message)
       × Idles old idle middle × Reads remaining middle new (Ok m) × (content_of m ≡ content)
 
+  -- after some of these this message was read, as a text or as bytes
+  abbrev pub Hears : Socket S → List ℕ → Socket S → Type 0
+  Hears old message new = Receives old (text message) new ⊎ Receives old (binary message) new
+
 module _ {S : Type 0} (contents : S → Option (List ℕ)) where
   -- a message left as one frame, and nothing waits to be sent
   abbrev pub Sends : Socket S → Content → Socket S → Type 0

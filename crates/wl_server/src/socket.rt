@@ -1,5 +1,10 @@
 //! A WebSocket as a link.
 
+ghost use Rattle.std.specs.Prelude.{◌≡◌, ◌≤◌, ◌⊎◌, IfSome, IfNone};
+ghost use Rattle.tungstenite.specs.Content.{text, binary};
+ghost use Rattle.tungstenite.specs.Socket.{content_of, kind_of};
+ghost use Rattle.wl_server.specs.Talks.{data_bytes};
+
 use crate::ServeFault;
 use crate::link::{Data, Link, Sending};
 use std::alloc::Global;
@@ -89,6 +94,18 @@ pub fn accept<S: Read + Write + Drop>(alloc: Global, stream: S) -> Result<Socket
     }
 }
 
+/// What a text or a binary message has; none of a ping, a pong or a close frame.
+fn data_of(message: Message) -> Option<Data>
+    ensures given { IfSome result (λ given. (content_of message ≡ text (data_bytes given)) ⊎ (content_of message ≡ binary (data_bytes given))) }
+    ensures idle { IfNone result (2 ≤ kind_of message) }
+{
+    match message {
+        Message::Text(text) => Some(Data::Text(text)),
+        Message::Binary(bytes) => Some(Data::Binary(bytes)),
+        Message::Ping(_) | Message::Pong(_) | Message::Close(_) => None,
+    }
+}
+
 fn fault_of(error: &Error) -> ServeFault {
     match error {
         Error::Capacity(_) => ServeFault::TooLong,
@@ -126,9 +143,9 @@ impl<S: Read + Write + Drop> Socket<S> {
 impl<S: Read + Write + Drop> Link for Socket<S> {
     ghost use Rattle.std.specs.Prelude.{None, if◌then◌else◌};
     ghost use Rattle.tungstenite.specs.Content.{text};
-    ghost use Rattle.wl_server.specs.Sockets.{Sends};
+    ghost use Rattle.wl_server.specs.Sockets.{Hears, Sends};
 
-    ghost hears = { λ old message new. Unit {0} };
+    ghost hears = { λ old message new. Hears (λ line. S.remaining line.stream) old.inner message new.inner };
 
     ghost closes = { λ old new. Unit {0} };
 
@@ -139,11 +156,14 @@ impl<S: Read + Write + Drop> Link for Socket<S> {
     fn receive<R: Wait>(&mut self, rt: &R) -> Result<Option<Data>, ServeFault> {
         for _ in rt.forever() {
             match self.inner.read() {
-                Ok(Message::Text(text)) => return Ok(Some(Data::Text(text))),
-                Ok(Message::Binary(bytes)) => return Ok(Some(Data::Binary(bytes))),
-                Ok(Message::Close(_)) => self.closing = true,
-                // The crate answers a ping before its next read.
-                Ok(Message::Ping(_) | Message::Pong(_)) => {}
+                Ok(message) => {
+                    let is_close = message.is_close();
+                    if let Some(data) = data_of(message) {
+                        return Ok(Some(data));
+                    }
+                    // The crate answers a ping before its next read.
+                    self.closing |= is_close;
+                }
                 Err(error) => {
                     return if self.closing {
                         Ok(None)

@@ -1,5 +1,5 @@
-//! The book as a core. A call that may be refused for want of memory asks first whether the core would refuse it
-//! otherwise, then grows the journal, then calls the core, and records what the core accepted.
+//! The book as a core. A call that may be refused for want of memory grows the journal, then calls the core, and records
+//! what the core accepted. Only where the growth is refused it asks whether the core would refuse the call otherwise.
 
 ghost use Rattle.std.specs.Prelude.{◌≡◌, [], IfOk, IfErr, OnErr, OnOk, Some};
 ghost use Rattle.wl_types.specs.Refusals.{refused_or_memory};
@@ -10,12 +10,12 @@ ghost use Rattle.wl_machine.specs.Step.{Gives};
 ghost use Rattle.wl_journal.specs.History.{recorded};
 ghost use Rattle.wl_journal.specs.Books.{Appends};
 
-use crate::book::Book;
+use crate::book::{Book, copy_ask};
 use crate::entry::Entry;
 use crate::room::make_room;
 use std::alloc::Global;
 use wl_core::{AbortAnswer, Command, LockCore, PlainCore, ReleaseAnswer, Reply, TakeAnswer};
-use wl_types::{Ask, Change, Kind, Memory, Numbers, Reason, Refusal, Snapshot, Text};
+use wl_types::{Ask, Change, Kind, Memory, Numbers, Reason, Refusal, Snapshot};
 
 impl<C: LockCore> LockCore for Book<C> {
     type Seed = C::Seed;
@@ -58,8 +58,10 @@ impl<C: LockCore> LockCore for Book<C> {
         ensures not_recorded { OnErr result (Some self.new.total ≡ Some self.old.total) }
     {
         self.is_quiet = true;
-        self.core.may_open()?;
-        make_room(&mut self.entries, self.owed + 2)?;
+        let Ok(()) = make_room(&mut self.entries, self.owed + 2) else {
+            self.core.may_open()?;
+            return Err(Refusal::Memory);
+        };
         let agent = self.core.open(kind)?;
         self.is_quiet = false;
         self.entries.push_reserved(Entry {
@@ -120,20 +122,12 @@ impl<C: LockCore> LockCore for Book<C> {
         ensures nothing_added { OnErr result (Appends self.old self.new []) }
         ensures not_recorded { OnErr result (Some self.new.total ≡ Some self.old.total) }
     {
-        self.is_quiet = true;
-        self.core.may_request(agent, ask)?;
         let Ok(copy) = copy_ask(self.alloc, ask) else {
+            self.is_quiet = true;
+            self.core.may_request(agent, ask)?;
             return Err(Refusal::Memory);
         };
-        make_room(&mut self.entries, self.owed + 3)?;
-        let id = self.core.request(agent, ask)?;
-        self.is_quiet = false;
-        self.entries.push_reserved(Entry {
-            command: Command::Request(agent, copy),
-            reply: Reply::Request(id),
-        });
-        self.owed += 2;
-        Ok(id)
+        self.request_kept(agent, copy)
     }
 
     fn set_active(&mut self, agent: u64, active: bool) -> Result<(), Refusal>
@@ -147,8 +141,10 @@ impl<C: LockCore> LockCore for Book<C> {
         ensures not_recorded { OnErr result (Some self.new.total ≡ Some self.old.total) }
     {
         self.is_quiet = true;
-        self.core.may_set(agent)?;
-        make_room(&mut self.entries, self.owed + 1)?;
+        let Ok(()) = make_room(&mut self.entries, self.owed + 1) else {
+            self.core.may_set(agent)?;
+            return Err(Refusal::Memory);
+        };
         self.core.set_active(agent, active)?;
         self.is_quiet = false;
         self.entries.push_reserved(Entry {
@@ -169,8 +165,10 @@ impl<C: LockCore> LockCore for Book<C> {
         ensures not_recorded { OnErr result (Some self.new.total ≡ Some self.old.total) }
     {
         self.is_quiet = true;
-        self.core.may_signal(agent)?;
-        make_room(&mut self.entries, self.owed + 2)?;
+        let Ok(()) = make_room(&mut self.entries, self.owed + 2) else {
+            self.core.may_signal(agent)?;
+            return Err(Refusal::Memory);
+        };
         let signal = self.core.new_signal(agent)?;
         self.is_quiet = false;
         self.entries.push_reserved(Entry {
@@ -257,17 +255,4 @@ impl<C: LockCore> LockCore for Book<C> {
     fn copy_plain(&self) -> Result<PlainCore, Memory> {
         self.core.copy_plain()
     }
-}
-
-/// An equal ask, with a text of its own.
-fn copy_ask(alloc: Global, ask: &Ask) -> Result<Ask, Memory>
-    ensures { IfOk result (λ copy. copy ≡ ask.now) }
-{
-    Ok(Ask {
-        name: Text::of(alloc, ask.name.as_str())?,
-        mode: ask.mode,
-        if_available: ask.if_available,
-        steal: ask.steal,
-        signal: ask.signal,
-    })
 }

@@ -8,13 +8,13 @@ ghost use Rattle.wl_manager.specs.Keepers.{cells_at};
 ghost use Rattle.wl_manager.specs.Locked.{Does, Stays};
 
 use crate::count::Count;
-use crate::locked::Locked;
+use crate::locked::{Asking, Locked};
 use crate::news::News;
 use std::alloc::Global;
 use std::sync::Arc;
-use wl_cell::{Owner, cell};
+use wl_cell::Owner;
 use wl_core::{Command, LockCore, ReleaseAnswer, Reply};
-use wl_types::{Ask, Refusal};
+use wl_types::{Ask, Memory, Refusal};
 
 impl<C: LockCore, T: Count> Locked<C, T> {
     /// A new signal of an agent.
@@ -106,18 +106,42 @@ impl<C: LockCore, T: Count> Locked<C, T> {
         ensures refused { IfErr result (λ r. r ≡ refused_or_memory (refusal self.old.book.state (Command.Request agent ask.now))) }
         ensures unchanged { OnErr result (Stays self.old self.new × (share.new ≡ share.old)) }
     {
-        self.book.may_request(agent, ask)?;
-        let Ok((keeper, owner)) = cell(self.alloc) else {
-            return Err(Refusal::Memory);
+        let asking = Asking::new(self.alloc, ask, news);
+        self.request_made(agent, ask, asking, share)
+    }
+
+    /// As `request`, of an ask for which this was made, or memory was refused.
+    pub(crate) fn request_made(
+        &mut self,
+        agent: u64,
+        ask: &Ask,
+        asking: Result<Asking, Memory>,
+        share: &mut T::Share,
+    ) -> Result<(u64, Owner), Refusal>
+        requires parts { T.COUNTS ≡ true → 0 < T.parts share.old }
+        requires ask { IfOk asking (λ asking. asking.ask ≡ ask.now) }
+        ensures requested { IfOk result (λ r. Does self.old self.new (Command.Request agent ask.now) (Reply.Request r.0)) }
+        ensures owner { IfOk result (λ r. cells_at r.0 self.new.kept ≡ r.1.cell ∷ []) }
+        ensures counted { OnOk result (T.COUNTS ≡ true → T.amount share.new ≡ T.amount share.old + 1) }
+        ensures parts { T.COUNTS ≡ true → T.parts share.new ≡ T.parts share.old }
+        ensures opened { (self.new.opened ≡ self.old.opened) × (self.new.handed ≡ self.old.handed) }
+        ensures refused { IfErr result (λ r. r ≡ refused_or_memory (refusal self.old.book.state (Command.Request agent ask.now))) }
+        ensures unchanged { OnErr result (Stays self.old self.new × (share.new ≡ share.old)) }
+    {
+        let Ok(asking) = asking else {
+            return Err(self.without_memory(agent, ask));
         };
-        let Ok(news) = Arc::try_clone(news) else {
-            return Err(Refusal::Memory);
-        };
-        let Ok(_) = self.keepers.put(self.next, keeper, news) else {
-            return Err(Refusal::Memory);
+        let Asking {
+            ask: kept,
+            keeper,
+            owner,
+            news,
+        } = asking;
+        let Ok(()) = self.keepers.put(self.next, keeper, news) else {
+            return Err(self.without_memory(agent, ask));
         };
         self.keepers.let_go(self.book.changes());
-        let id = match self.book.request(agent, ask) {
+        let id = match self.book.request_kept(agent, kept) {
             Ok(id) => id,
             Err(refusal) => {
                 self.keepers.remove(self.next);
@@ -128,6 +152,16 @@ impl<C: LockCore, T: Count> Locked<C, T> {
         self.next = id + 1;
         T::add(&mut self.total, share, 1);
         Ok((id, owner))
+    }
+
+    // Why a request isn't admitted for which memory was refused.
+    fn without_memory(&self, agent: u64, ask: &Ask) -> Refusal
+        ensures { result ≡ refused_or_memory (refusal self.now.book.state (Command.Request agent ask.now)) }
+    {
+        match self.book.may_request(agent, ask) {
+            Ok(()) => Refusal::Memory,
+            Err(refusal) => refusal,
+        }
     }
 }
 
