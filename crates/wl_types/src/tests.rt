@@ -2,6 +2,7 @@ use crate::{
     Ask, Infos, Kind, LockInfo, Memory, Mode, Name, Phase, Reason, Refusal, Text, client_text,
 };
 use std::alloc::Global;
+use std::cmp::Ordering;
 use std::test::Fail;
 
 fn ask(alloc: Global, name: &str, mode: Mode) -> Result<Ask, Memory> {
@@ -43,6 +44,22 @@ fn a_name_has_at_most_1024_bytes_and_is_not_reserved(rt: HostRuntime) -> Result<
     }
     euros.push_str("xx")?;
     assert!(rt; Name::of(alloc, euros.as_str()) == Err(Refusal::NameTooLong));
+    Ok(())
+}
+
+#[test]
+fn names_of_one_number_are_ordered_by_their_bytes(rt: HostRuntime) -> Result<(), Fail> {
+    let alloc = rt.alloc();
+    let below = Name::of(alloc, "Aa")?;
+    let above = Name::of(alloc, "BB")?;
+    // Each gives 65 * 31 + 97 = 66 * 31 + 66 = 2112.
+    assert!(rt; below < above);
+    assert!(rt; below.cmp(&above) == Ordering::Less);
+    assert!(rt; above.cmp(&below) == Ordering::Greater);
+    assert!(rt; above.cmp(&above.copy(alloc)?) == Ordering::Equal);
+    // 122 is less than 2112, and so z comes before Aa.
+    let short = Name::of(alloc, "z")?;
+    assert!(rt; short.partial_cmp(&below) == Some(Ordering::Less));
     Ok(())
 }
 
