@@ -1,13 +1,13 @@
 //! The requests of an origin by number, and of each agent a roll of numbers that its requests are found by.
 
-ghost use Rattle.std.specs.Prelude.{◌≡◌, ◌∷◌, ◌++◌, List, [], map, filter, is_some, IfOk, IsSome, OnOk, Some, None, ℕ};
+ghost use Rattle.std.specs.Prelude.{◌≡◌, ◌∷◌, ◌++◌, List, [], map, filter, is_some, true, IfOk, IsSome, OnOk, Some, None, ℕ};
 ghost use Rattle.std.specs.BTreeMap.{get};
 ghost use Rattle.std.specs.List.{Contains, flat_map};
-ghost use Rattle.std.specs.List.Sorted.{IsStrictlySortedBy};
+ghost use Rattle.std.specs.List.Sorted.{IsStrictlyIncreasing, IsStrictlySortedBy};
 ghost use Rattle.std.specs.Map.{keys_of, values_of};
 ghost use Rattle.std.specs.Ordering.{nat_cmp};
 ghost use Rattle.wl_world.specs.Requests.{IsRising, has_ended, news_of, noted, told, waiting, with_change, without};
-ghost use Rattle.wl_world.specs.Rolls.{IsCovered, IsEach, IsEachAt, IsEnrolled, IsIndex, found, leave_one, looks_of, tell_one};
+ghost use Rattle.wl_world.specs.Rolls.{AreLooks, IsCovered, IsEach, IsEachAt, IsEnrolled, IsIndex, found, leave_one, looks_of, tell_one};
 
 use crate::requests::Request;
 use std::alloc::Global;
@@ -104,6 +104,21 @@ pub(crate) fn add(
     Ok(())
 }
 
+/// A number is noted. What is news already, as the last that was, isn't noted again.
+fn jot(roll: &mut Roll, number: u64) -> Result<(), Memory>
+    ensures own { roll.new.own.items ≡ roll.old.own.items }
+    ensures noted { OnOk result ((other : ℕ) → Contains roll.old.noted.items other → Contains roll.new.noted.items other) }
+    ensures news { OnOk result (Contains roll.new.noted.items number) }
+{
+    if let Some(last) = roll.noted.last()
+        && *last == number
+    {
+        return Ok(());
+    }
+    roll.noted.push(number)?;
+    Ok(())
+}
+
 /// A change finds its request.
 fn note(
     live: &mut BTreeMap<u64, Request>,
@@ -123,7 +138,7 @@ fn note(
     };
     match rolls.get_mut(&agent) {
         Some(roll) => {
-            roll.noted.push(change.id)?;
+            jot(roll, change.id)?;
             Ok(())
         }
         None => unreachable!(),
@@ -157,12 +172,37 @@ pub(crate) fn news_in(
     ensures { IfOk result (λ news. news.items ≡ news_of agent (values_of live.now.entries)) }
 {
     match rolls.get(&agent) {
-        Some(roll) => {
-            let numbers = in_order(&roll.noted)?;
-            looks_at(alloc, live, agent, &numbers)
-        }
+        Some(roll) => looks_in(alloc, live, agent, &roll.noted),
         None => Ok(Vec::new(alloc)),
     }
+}
+
+/// What is news of these requests of an agent, by number. Numbers in order, as most are, are looked up as they stand.
+fn looks_in(
+    alloc: Global,
+    live: &BTreeMap<u64, Request>,
+    agent: u64,
+    numbers: &Vec<u64>,
+) -> Result<Vec<(u64, Phase)>, Memory>
+    ensures { IfOk result (λ looks. AreLooks agent live.now.entries numbers.now.items looks.items) }
+{
+    if is_rising(numbers) {
+        return looks_at(alloc, live, agent, numbers);
+    }
+    let sorted = in_order(numbers)?;
+    looks_at(alloc, live, agent, &sorted)
+}
+
+/// Whether each number is greater than the one before.
+fn is_rising(numbers: &[u64]) -> bool
+    ensures { result ≡ true → IsStrictlyIncreasing numbers.now }
+{
+    for place in 1..numbers.len() {
+        if numbers[place] <= numbers[place - 1] {
+            return false;
+        }
+    }
+    true
 }
 
 /// The numbers in order, each once.
