@@ -14,7 +14,7 @@ use std::alloc::Global;
 use std::collections::BTreeMap;
 use wl_types::{Change, Memory, Phase};
 
-/// Numbers that have left stay on a roll until they are as many as those that are live, and this many more.
+/// A roll has at most twice as many numbers as its agent has live requests, and twice this many more.
 const SPARE: usize = 16;
 
 /// Where an agent's requests are found: each of them is among its own, and is noted if there is news of it. Numbers
@@ -34,8 +34,8 @@ fn retain_live(live: &BTreeMap<u64, Request>, own: &mut Vec<u64>)
     own.retain(|number| live.contains_key(number));
 }
 
-/// Numbers that have left are taken off a roll once they are most of it, so that its length follows what is live, and
-/// no number is looked up twice on average.
+/// Numbers that have left are taken off a roll once they are most of it. So its length follows what is live, and a
+/// request costs two look-ups here at most, on average.
 fn clean(live: &BTreeMap<u64, Request>, roll: &mut Roll)
     ensures own { (number : ℕ) → IsSome (found number live.now.entries) → Contains roll.old.own.items number → Contains roll.new.own.items number }
     ensures noted { roll.new.noted.items ≡ roll.old.noted.items }
