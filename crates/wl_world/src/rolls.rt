@@ -14,7 +14,8 @@ use std::alloc::Global;
 use std::collections::BTreeMap;
 use wl_types::{Change, Memory, Phase};
 
-/// A roll has at most twice as many numbers as its agent has live requests, and twice this many more.
+/// As a request comes, a roll has at most about twice as many numbers as its agent has live requests, and twice this
+/// many more.
 const SPARE: usize = 16;
 
 /// Where an agent's requests are found: each of them is among its own, and is noted if there is news of it. Numbers
