@@ -10,7 +10,7 @@ use Rattle.std.specs.Ordering.{nat_cmp}
 use Rattle.std.specs.Cmp.{nat_cmp_is, nat_cmp_total}
 use Rattle.std.specs.declared.cmp.Ordering.TheVariants.{Greater}
 use Rattle.std.proofs.lemmas.List.{map-append}
-use Rattle.std.proofs.lemmas.List.Elements.{Contains-append_left, Contains-push, All-weaker, recursion_from_All}
+use Rattle.std.proofs.lemmas.List.Elements.{All-weaker, recursion_from_All}
 use Rattle.std.proofs.lemmas.Map.Views.{All-found}
 use Rattle.std.proofs.lemmas.Option.{none-some}
 use Rattle.wl_types.specs.declared.phases.Phase.{Phase}
@@ -145,8 +145,8 @@ module _ (live live2 : List (ℕ × Request)) (rolls rolls2 : List (ℕ × Roll)
 
   -- a change of the request r
   pub noted_index : (change : Change) (r : Request) (roll roll2 : Roll) → ((q : ℕ) → found q live2 ≡ cond (is_at (nat_cmp change.id) q) (Some (record r { news = Some change.phase })) (found q live)) → found change.id live ≡ Some r → found r.agent rolls ≡ Some roll
-      → roll2.own.items ≡ roll.own.items → roll2.noted.items ≡ roll.noted.items ++ change.id ∷ [] → IsWritten r.agent (Some roll2) rolls rolls2 → IsIndex live2 rolls2
-  noted_index change r roll roll2 changed there at own noted written = record {
+      → roll2.own.items ≡ roll.own.items → ((n : ℕ) → Contains roll.noted.items n → Contains roll2.noted.items n) → Contains roll2.noted.items change.id → IsWritten r.agent (Some roll2) rolls rolls2 → IsIndex live2 rolls2
+  noted_index change r roll roll2 changed there at own kept jotted written = record {
     ordered = ordered;
     numbers = λ n s is. numbers n s is (n == change.id) refl;
     own = λ n s is. subst (λ l. Contains l n) (sym (read_same own_of r.agent (Some roll2) rolls rolls2 written (own ∙ ap own_of (sym at)) s.agent)) (owned n s is (n == change.id) refl);
@@ -171,17 +171,17 @@ module _ (live live2 : List (ℕ × Request)) (rolls rolls2 : List (ℕ × Roll)
           subst (λ a. Contains (own_of (found a rolls)) n) (ap (λ (x : Request). x.agent) (new n s is h)) (subst (λ k. Contains (own_of (found r.agent rolls)) k) (sym (alike n change.id h)) (index.own change.id r there))
       owned n s is false h = index.own n s (old n s is h)
 
-      at_agent : (q : ℕ) → (q == r.agent) ≡ true → noted_of (found q rolls2) ≡ noted_of (found r.agent rolls) ++ change.id ∷ []
-      at_agent q h = ap noted_of (here r.agent (Some roll2) rolls rolls2 written q h) ∙ noted ∙ ap (λ o. noted_of o ++ change.id ∷ []) (sym at)
+      at_agent : (q : ℕ) → (q == r.agent) ≡ true → noted_of (found q rolls2) ≡ roll2.noted.items
+      at_agent q h = ap noted_of (here r.agent (Some roll2) rolls rolls2 written q h)
 
       more : (n q : ℕ) (b : Bool) → (q == r.agent) ≡ b → Contains (noted_of (found q rolls)) n → Contains (noted_of (found q rolls2)) n
-      more n q true h has = subst (λ l. Contains l n) (sym (at_agent q h)) (Contains-append_left (noted_of (found r.agent rolls)) (change.id ∷ []) n (subst (λ a. Contains (noted_of (found a rolls)) n) (alike q r.agent h) has))
+      more n q true h has = subst (λ l. Contains l n) (sym (at_agent q h)) (kept n (subst (λ o. Contains (noted_of o) n) (ap (λ a. found a rolls) (alike q r.agent h) ∙ at) has))
       more n q false h has = subst (λ o. Contains (noted_of o) n) (sym (elsewhere r.agent (Some roll2) rolls rolls2 written q h)) has
 
       news : (n : ℕ) (s : Request) (phase : Phase) → found n live2 ≡ Some s → s.news ≡ Some phase → (b : Bool) → (n == change.id) ≡ b → Contains (noted_of (found s.agent rolls2)) n
       news n s phase is loud true h =
           let mine : (s.agent == r.agent) ≡ true = subst (λ (x : Request). (x.agent == r.agent) ≡ true) (new n s is h) (itself r.agent) in
-          subst (λ l. Contains l n) (sym (at_agent s.agent mine)) (subst (λ k. Contains (noted_of (found r.agent rolls) ++ change.id ∷ []) k) (sym (alike n change.id h)) (Contains-push (noted_of (found r.agent rolls)) change.id))
+          subst (λ l. Contains l n) (sym (at_agent s.agent mine)) (subst (Contains roll2.noted.items) (sym (alike n change.id h)) jotted)
       news n s phase is loud false h = more n s.agent (s.agent == r.agent) refl (index.noted n s phase (old n s is h) loud)
 
   -- one request more

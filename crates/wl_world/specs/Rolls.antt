@@ -1,6 +1,6 @@
 -- How the requests of an origin are held: all by number, and of each agent a roll that they are found by (own).
 use Rattle.std.specs.Prelude.{◌≡◌, ◌⊎◌, ℕ, ◌==◌, List, [], Option, Some, None, IsSome, cond, if◌then◌else◌}
-use Rattle.std.specs.List.{Contains}
+use Rattle.std.specs.List.{Contains, flat_map}
 use Rattle.std.specs.List.Sorted.{IsStrictlySortedBy}
 use Rattle.std.specs.Map.{keys_of, lookup}
 use Rattle.std.specs.Option.{option_and_then}
@@ -45,6 +45,13 @@ pub record IsEnrolled (live : List (ℕ × Request)) (before after : Option Roll
 abbrev pub looks_of : ℕ → Option Request → List Look
 looks_of agent None = []
 looks_of agent (Some request) = if request.agent == agent then look_of request.number request.news else []
+
+-- the looks of an agent's requests at some numbers in order, which have all of these
+pub record AreLooks (agent : ℕ) (live : List (ℕ × Request)) (numbers : List ℕ) (looks : List Look) : Type 0 where
+  pub sorted : List ℕ
+  pub in_order : IsStrictlySortedBy nat_cmp sorted
+  pub all : (number : ℕ) → Contains numbers number → Contains sorted number
+  pub looks_are : looks ≡ flat_map (λ number. looks_of agent (found number live)) sorted
 
 -- a request of the agent that was told leaves if it has ended, and has no news then
 abbrev pub tell_one : ℕ → Request → Option Request

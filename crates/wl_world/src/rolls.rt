@@ -1,20 +1,21 @@
 //! The requests of an origin by number, and of each agent a roll of numbers that its requests are found by.
 
-ghost use Rattle.std.specs.Prelude.{◌≡◌, ◌∷◌, ◌++◌, List, [], map, filter, is_some, IfOk, IsSome, OnOk, Some, None, ℕ};
+ghost use Rattle.std.specs.Prelude.{◌≡◌, ◌∷◌, ◌++◌, List, [], map, filter, is_some, true, IfOk, IsSome, OnOk, Some, None, ℕ};
 ghost use Rattle.std.specs.BTreeMap.{get};
 ghost use Rattle.std.specs.List.{Contains, flat_map};
-ghost use Rattle.std.specs.List.Sorted.{IsStrictlySortedBy};
+ghost use Rattle.std.specs.List.Sorted.{IsStrictlyIncreasing, IsStrictlySortedBy};
 ghost use Rattle.std.specs.Map.{keys_of, values_of};
 ghost use Rattle.std.specs.Ordering.{nat_cmp};
 ghost use Rattle.wl_world.specs.Requests.{IsRising, has_ended, news_of, noted, told, waiting, with_change, without};
-ghost use Rattle.wl_world.specs.Rolls.{IsCovered, IsEach, IsEachAt, IsEnrolled, IsIndex, found, leave_one, looks_of, tell_one};
+ghost use Rattle.wl_world.specs.Rolls.{AreLooks, IsCovered, IsEach, IsEachAt, IsEnrolled, IsIndex, found, leave_one, looks_of, tell_one};
 
 use crate::requests::Request;
 use std::alloc::Global;
 use std::collections::BTreeMap;
 use wl_types::{Change, Memory, Phase};
 
-/// Numbers that have left stay on a roll until they are as many as those that are live, and this many more.
+/// As a request comes, a roll has at most about twice as many numbers as its agent has live requests, and twice this
+/// many more.
 const SPARE: usize = 16;
 
 /// Where an agent's requests are found: each of them is among its own, and is noted if there is news of it. Numbers
@@ -34,8 +35,8 @@ fn retain_live(live: &BTreeMap<u64, Request>, own: &mut Vec<u64>)
     own.retain(|number| live.contains_key(number));
 }
 
-/// Numbers that have left are taken off a roll once they are most of it, so that its length follows what is live, and
-/// no number is looked up twice on average.
+/// Numbers that have left are taken off a roll once they are most of it. So its length follows what is live, and a
+/// request costs two look-ups here at most, on average.
 fn clean(live: &BTreeMap<u64, Request>, roll: &mut Roll)
     ensures own { (number : ℕ) → IsSome (found number live.now.entries) → Contains roll.old.own.items number → Contains roll.new.own.items number }
     ensures noted { roll.new.noted.items ≡ roll.old.noted.items }
@@ -104,6 +105,21 @@ pub(crate) fn add(
     Ok(())
 }
 
+/// A number is noted. What is news already, as the last that was, isn't noted again.
+fn jot(roll: &mut Roll, number: u64) -> Result<(), Memory>
+    ensures own { roll.new.own.items ≡ roll.old.own.items }
+    ensures noted { OnOk result ((other : ℕ) → Contains roll.old.noted.items other → Contains roll.new.noted.items other) }
+    ensures news { OnOk result (Contains roll.new.noted.items number) }
+{
+    if let Some(last) = roll.noted.last()
+        && *last == number
+    {
+        return Ok(());
+    }
+    roll.noted.push(number)?;
+    Ok(())
+}
+
 /// A change finds its request.
 fn note(
     live: &mut BTreeMap<u64, Request>,
@@ -123,7 +139,7 @@ fn note(
     };
     match rolls.get_mut(&agent) {
         Some(roll) => {
-            roll.noted.push(change.id)?;
+            jot(roll, change.id)?;
             Ok(())
         }
         None => unreachable!(),
@@ -157,12 +173,37 @@ pub(crate) fn news_in(
     ensures { IfOk result (λ news. news.items ≡ news_of agent (values_of live.now.entries)) }
 {
     match rolls.get(&agent) {
-        Some(roll) => {
-            let numbers = in_order(&roll.noted)?;
-            looks_at(alloc, live, agent, &numbers)
-        }
+        Some(roll) => looks_in(alloc, live, agent, &roll.noted),
         None => Ok(Vec::new(alloc)),
     }
+}
+
+/// What is news of these requests of an agent, by number. Numbers in order, as most are, are looked up as they stand.
+fn looks_in(
+    alloc: Global,
+    live: &BTreeMap<u64, Request>,
+    agent: u64,
+    numbers: &Vec<u64>,
+) -> Result<Vec<(u64, Phase)>, Memory>
+    ensures { IfOk result (λ looks. AreLooks agent live.now.entries numbers.now.items looks.items) }
+{
+    if is_rising(numbers) {
+        return looks_at(alloc, live, agent, numbers);
+    }
+    let sorted = in_order(numbers)?;
+    looks_at(alloc, live, agent, &sorted)
+}
+
+/// Whether each number is greater than the one before.
+fn is_rising(numbers: &[u64]) -> bool
+    ensures { result ≡ true → IsStrictlyIncreasing numbers.now }
+{
+    for place in 1..numbers.len() {
+        if numbers[place] <= numbers[place - 1] {
+            return false;
+        }
+    }
+    true
 }
 
 /// The numbers in order, each once.

@@ -1,4 +1,4 @@
-use Rattle.std.proofs.Common.{sym, ap, ◌∙◌, Some, refl}
+use Rattle.std.proofs.Common.{sym, ap, ◌∙◌, Some}
 use Rattle.std.specs.Option.{is_some, option_copied_mut}
 use Rattle.wl_world.proofs.Covered.{noted_each, noted_index, unnoted_each}
 use Rattle.wl_world.proofs.Passed.{noted_values}
@@ -15,12 +15,12 @@ returns-clause-index c =
     let r = c.in-Some.request.now in
     let s = record r { news = Some c.args.change.phase } in
     let roll = c.in-Some-get_mut.roll.now in
-    let after = record roll { noted = c.push.new.self } in
+    let after = c.jot.new.roll in
     let at = sym c.get_mut.ensures.value ∙ ap option_copied_mut c.in-Some.is in
     let seated = sym c.get_mut-2.ensures.value ∙ ap option_copied_mut c.in-Some-get_mut.is in
     let written = c.get_mut.follows.holds s in
     noted_index c.args.live.now.entries (c.get_mut.follows.lender s).entries c.args.rolls.now.entries (c.get_mut-2.follows.lender after).entries c.requires written.4 c.args.change r roll after
-    (written.3 (ap is_some at)).0 at seated refl c.in_ok-push-in-Some-get_mut.ensures.items ((c.get_mut-2.follows.holds after).3 (ap is_some seated)).0
+    (written.3 (ap is_some at)).0 at seated c.jot.ensures.own c.in_ok-jot-in-Some-get_mut.ensures.noted c.in_ok-jot-in-Some-get_mut.ensures.news ((c.get_mut-2.follows.holds after).3 (ap is_some seated)).0
 
 pub returns-clause-noted : goal.returns-clause-noted
 returns-clause-noted c =
