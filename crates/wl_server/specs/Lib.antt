@@ -3,4 +3,5 @@ pub mod Listening
 pub mod Peers
 pub mod Lines
 pub mod Sockets
+pub mod Serving
 pub mod Relays

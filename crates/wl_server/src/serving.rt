@@ -1,5 +1,7 @@
 //! One connection over a stream.
 
+ghost use Rattle.wl_server.specs.Serving.{IsServed};
+
 use crate::peer::Peer;
 use crate::socket::accept;
 use crate::talk::{Gate, talk};
@@ -26,7 +28,9 @@ pub fn serve_one<R: Wait, S: Read + Write + Drop>(
     alloc: Global,
     stream: S,
     service: &Service,
-) -> ServeEnd {
+) -> ServeEnd
+    ensures { IsServed S.remaining S.contents result }
+{
     serve_gated(rt, alloc, stream, &Open, 1, service)
 }
 
@@ -38,7 +42,9 @@ pub fn serve_gated<R: Wait, S: Read + Write + Drop, G: Gate>(
     gate: &G,
     connection: u64,
     service: &Service,
-) -> ServeEnd {
+) -> ServeEnd
+    ensures { IsServed S.remaining S.contents result }
+{
     gate.enter(connection);
     match accept(alloc, stream) {
         Ok(socket) => {

@@ -1,9 +1,11 @@
 //! A WebSocket as a link.
 
-ghost use Rattle.std.specs.Prelude.{◌≡◌, ◌≤◌, ◌⊎◌, IfSome, IfNone};
+ghost use Rattle.std.specs.Prelude.{◌≡◌, ◌≤◌, ◌⊎◌, IfSome, IfNone, IfOk, IfErr};
 ghost use Rattle.tungstenite.specs.Content.{text, binary};
 ghost use Rattle.tungstenite.specs.Socket.{content_of, kind_of};
 ghost use Rattle.wl_server.specs.Talks.{data_bytes};
+ghost use Rattle.wl_server.specs.Serving.{Begins};
+ghost use Rattle.wl_server.specs.declared.fault.ServeFault.TheVariants.{Handshake, Memory};
 
 use crate::ServeFault;
 use crate::link::{Data, Link, Sending};
@@ -69,7 +71,10 @@ pub struct Socket<S> {
 }
 
 /// Shakes hands with the peer of a stream.
-pub fn accept<S: Read + Write + Drop>(alloc: Global, stream: S) -> Result<Socket<S>, ServeFault> {
+pub fn accept<S: Read + Write + Drop>(alloc: Global, stream: S) -> Result<Socket<S>, ServeFault>
+    ensures begins { IfOk result (λ socket. Begins socket.inner) }
+    ensures fault { IfErr result (λ fault. (fault ≡ Handshake) ⊎ (fault ≡ Memory)) }
+{
     let line = Line {
         stream,
         is_left: false,
