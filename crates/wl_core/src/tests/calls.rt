@@ -61,7 +61,7 @@ fn an_abort_ends_what_was_not_taken(rt: HostRuntime) -> Result<(), Fail> {
 }
 
 #[test]
-fn a_snapshot_shows_who_holds_and_who_waits(rt: HostRuntime) -> Result<(), Fail> {
+fn a_snapshot_shows_who_holds_and_who_waits_until_they_end(rt: HostRuntime) -> Result<(), Fail> {
     let alloc = rt.alloc();
     let mut core = opening(alloc);
     core.open(Kind::Window)?;
@@ -74,7 +74,9 @@ fn a_snapshot_shows_who_holds_and_who_waits(rt: HostRuntime) -> Result<(), Fail>
     assert_eq!(rt; seen.pending.as_slice().len(), 1);
     assert_eq!(rt; seen.pending.as_slice()[0].name.as_str(), "db");
     assert!(rt; core.terminate(2) == Ok(()));
-    assert!(rt; core.changes() == [change(2, Phase::Released)].as_slice());
+    assert!(rt; core.changes() == [change(2, Phase::Aborted(Reason::AbortError))].as_slice());
+    assert!(rt; core.terminate(1) == Ok(()));
+    assert!(rt; core.changes() == [change(1, Phase::Released)].as_slice());
     Ok(())
 }
 
