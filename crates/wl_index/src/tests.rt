@@ -1,6 +1,7 @@
 //! That calls succeed with ample memory, and answer as the plain core's. The tests are short, since each call's facts
 //! add to what the checker carries through a function.
 
+mod growth;
 mod random;
 mod runs;
 
