@@ -6,6 +6,7 @@ use Rattle.std.proofs.lemmas.List.Elements.{recursion_from_All, All-filter, filt
 use Rattle.std.proofs.lemmas.List.Sums.{fold_more}
 use Rattle.wl_session.specs.Told.{Look, IsByNumber, IsToldList, is_live, before, beyond, put, still_told}
 use Rattle.wl_session.specs.Places.{IsAt, IsGapFor}
+use Rattle.wl_session.specs.Upkeep.{IsKept}
 use Rattle.wl_session.proofs.Order.{from_filter, by_number_put}
 
 set_split : {X : Type 0} (xs : List X) (i : ℕ) (y : X) → i < length xs → set xs i y ≡ take i xs ++ y ∷ drop (i + 1) xs
@@ -22,6 +23,9 @@ insert_is_put ls l at p = rw (p.lower, p.higher) refl
 filter_all : (p : Look → Bool) (ls : List Look) → AllByRecursion (λ l. p l ≡ true) ls → filter p ls ≡ ls
 filter_all p [] h = refl
 filter_all p (l ∷ ls) h = rw h.0 (ap (λ (xs : List Look). l ∷ xs) (filter_all p ls h.1))
+
+pub live_of_told : (ls : List Look) → IsToldList ls → filter is_live ls ≡ ls
+live_of_told ls t = filter_all is_live ls (recursion_from_All _ _ t.live)
 
 live_part : (p : Look → Bool) (ls : List Look) → All (λ l. is_live l ≡ true) ls → filter is_live (filter p ls) ≡ filter p ls
 live_part p ls live = filter_all is_live (filter p ls) (recursion_from_All _ _ (All-filter p (λ l. is_live l ≡ true) ls live))
@@ -73,7 +77,7 @@ live_first xs l =
     ∙ sym (filter-append is_live (before l.0 xs) (l ∷ beyond l.0 xs))
 
 pub still_told_none : (told : List Look) → IsToldList told → still_told told [] ≡ told
-still_told_none told t = filter_all is_live told (recursion_from_All _ _ t.live)
+still_told_none told t = live_of_told told t
 
 pub still_told_more : (told looks now next : List Look) (i : ℕ) (d : Look) → i < length looks → now ≡ still_told told (take i looks)
     → next ≡ filter is_live (put now (get_or looks i d)) → next ≡ still_told told (take (i + 1) looks)
@@ -81,3 +85,15 @@ still_told_more told looks now next i d lt so_far made =
     made ∙ ap (λ (xs : List Look). filter is_live (put xs (get_or looks i d))) so_far
     ∙ live_first (fold put told (take i looks)) (get_or looks i d)
     ∙ ap (filter is_live) (sym (fold_more put told looks i d lt))
+
+-- ends may leave before the looks are put or after them
+pub live_then_told : (xs looks : List Look) → filter is_live (fold put xs looks) ≡ still_told (filter is_live xs) looks
+live_then_told xs [] = sym (filter_all is_live (filter is_live xs) (recursion_from_All _ _ (filter_passes is_live xs)))
+live_then_told xs (l ∷ ls) =
+    live_then_told (put xs l) ls
+    ∙ ap (λ (now : List Look). still_told now ls) (sym (live_first xs l))
+    ∙ sym (live_then_told (put (filter is_live xs) l) ls)
+
+-- where ends leave at once, what is kept is a told list
+pub kept_is_told : (ls : List Look) → IsKept true ls → IsToldList ls
+kept_is_told ls k = record { by_number = k.by_number; live = k.live refl }

@@ -1,8 +1,9 @@
 -- Lists by number, and what `put` does to them.
 use Rattle.std.proofs.Common.{◌≡◌, ℕ, zero, suc, ◌+◌, ◌<◌, ◌≤◌, List, [], ◌∷◌, Bool, true, false, cond, map, filter, fold, length, get_or, ltb, eqb, refl, sym, ap, subst, inl, inr, ◌∙◌, arith}
-use Rattle.std.proofs.lemmas.Bool.{lt-ltb, le-ltb, ne_eqb, cases_lt}
+use Rattle.std.proofs.lemmas.Bool.{lt-ltb, le-ltb, ne_eqb, eq-eqb, cases_eq, cases_lt}
 use Rattle.wl_types.specs.declared.phases.Phase.TheVariants.{Pending}
-use Rattle.wl_session.specs.Told.{Look, IsFrom, IsByNumber, before, beyond, put, phase_in, released}
+use Rattle.wl_types.specs.Phases.{is_end}
+use Rattle.wl_session.specs.Told.{Look, IsFrom, IsByNumber, is_live, before, beyond, put, phase_in, released}
 
 pub from_lower : (ls : List Look) (low higher : ℕ) → low ≤ higher → IsFrom higher ls → IsFrom low ls
 from_lower [] low higher le h = tt
@@ -102,3 +103,22 @@ fold_behind x xs [] h = refl
 fold_behind x xs (l ∷ ls) h =
     ap (λ (now : List Look). fold put now ls) (put_behind x xs l (omega (arith, h.0)))
     ∙ fold_behind x (put xs l) ls (from_lower ls (x.0 + 1) (l.0 + 1) (omega (arith, h.0)) h.1)
+
+-- ---- what is live in a list
+
+-- of a request whose end was told, what is live says nothing
+pub live_says : (ls : List Look) (low n : ℕ) → IsFrom low ls → phase_in (filter is_live ls) n ≡ cond (is_end (phase_in ls n)) Pending (phase_in ls n)
+live_says [] low n h = refl
+live_says (l ∷ ls) low n h = elim (cases_eq l.0 n) [
+  | inl same ↦ here (eq-eqb l.0 n same) (is_end l.1) refl (below (filter is_live ls) (l.0 + 1) n (omega (arith, same)) (from_filter is_live ls (l.0 + 1) h.1)).not_told
+  | inr other ↦ later (ne_eqb l.0 n other) (is_end l.1) refl (live_says ls (l.0 + 1) n h.1)
+] where
+  here : eqb l.0 n ≡ true → (b : Bool) → is_end l.1 ≡ b → phase_in (filter is_live ls) n ≡ Pending
+      → phase_in (filter is_live (l ∷ ls)) n ≡ cond (is_end (phase_in (l ∷ ls) n)) Pending (phase_in (l ∷ ls) n)
+  here is true e rest = rw (is, e) rest
+  here is false e rest = rw (e, is, e) refl
+
+  later : eqb l.0 n ≡ false → (b : Bool) → is_end l.1 ≡ b → phase_in (filter is_live ls) n ≡ cond (is_end (phase_in ls n)) Pending (phase_in ls n)
+      → phase_in (filter is_live (l ∷ ls)) n ≡ cond (is_end (phase_in (l ∷ ls) n)) Pending (phase_in (l ∷ ls) n)
+  later is true e rest = rw (e, is) rest
+  later is false e rest = rw (e, is) rest

@@ -1,5 +1,6 @@
 pub mod Told
 pub mod Places
+pub mod Upkeep
 pub mod Step
 pub mod Planned
 pub mod Entries

@@ -11,7 +11,9 @@ mod session;
 #[cfg(test)]
 mod tests;
 mod told;
+mod upkeep;
 
 pub use outcomes::tells;
 pub use plan::{Action, Plan};
-pub use session::Session;
+pub use session::{Session, SessionOf};
+pub use upkeep::{AtOnce, InTime, Upkeep};

@@ -1,36 +1,45 @@
 //! A session of an agent.
 
-ghost use Rattle.std.specs.Prelude.{◌≡◌, ◌+◌, ◌≤◌, All, IfOk, OnOk, OnErr, length, true, vec_len, vec_capacity, string_bytes};
+ghost use Rattle.std.specs.Prelude.{◌≡◌, ◌+◌, ◌≤◌, All, IfOk, OnOk, OnErr, filter, length, true, vec_len, vec_capacity, string_bytes};
 ghost use Rattle.wl_codec.specs.Replies.{reply_text};
 ghost use Rattle.wl_session.specs.Planned.{plan_for};
 ghost use Rattle.wl_session.specs.Step.{reply, after, told_after, notices, closed};
-ghost use Rattle.wl_session.specs.Told.{IsByNumber, IsToldList, is_live, completed};
+ghost use Rattle.wl_session.specs.Told.{IsByNumber, is_live, completed};
+ghost use Rattle.wl_session.specs.Upkeep.{IsKept};
 
 use crate::outcomes::{opens, tells};
 use crate::plan::{Plan, plan_for};
-use crate::told::{completed, news, tell};
+use crate::told::{completed, news};
+use crate::upkeep::{AtOnce, Upkeep, make_room, tell};
 use std::alloc::Global;
-use std::marker::Model;
+use std::marker::{Model, PhantomData};
 use wl_codec::{Notices, Outcome, Reading, WireReply, write_reply};
 use wl_types::{Memory, Phase};
 
 /// What a label of a script, or a connection, knows of its agent: whether it is open, and the told list.
 #[derive(Drop)]
-pub struct Session {
+pub struct SessionOf<U: Upkeep> {
     alloc: Global,
     is_open: bool,
+    // What is live in it is the told list. Where ends don't leave at once it has some of them too.
     told: Vec<(u64, Phase)>,
+    upkeep: PhantomData<U>,
 }
 
-impl Model for Session {
+/// A session that can show its told list.
+pub type Session = SessionOf<AtOnce>;
+
+impl<U: Upkeep> Model for SessionOf<U> {
+    ghost use Rattle.std.specs.Prelude.{filter};
     ghost use Rattle.wl_session.specs.Step.{State};
-    ghost use Rattle.wl_session.specs.Told.{IsToldList};
+    ghost use Rattle.wl_session.specs.Told.{is_live};
+    ghost use Rattle.wl_session.specs.Upkeep.{IsKept};
 
     ghost Value = { State };
 
-    ghost view = { λ session. record { is_open = session.is_open; told = session.told.items } };
+    ghost view = { λ session. record { is_open = session.is_open; told = filter is_live session.told.items } };
 
-    ghost invariant = { λ session. IsToldList session.told.items };
+    ghost invariant = { λ session. IsKept U.AT_ONCE session.told.items };
 }
 
 fn notices(
@@ -40,7 +49,7 @@ fn notices(
     looks: &[(u64, Phase)],
 ) -> Result<Notices, Memory>
     requires { IsByNumber told.now }
-    ensures { IfOk result (λ found. found ≡ notices told.now outcome.now looks.now) }
+    ensures { IfOk result (λ found. found ≡ notices (filter is_live told.now) outcome.now looks.now) }
 {
     if tells(outcome) {
         news(alloc, outcome, told, looks)
@@ -50,36 +59,48 @@ fn notices(
 }
 
 /// Makes the told list what it is after the reply. It needs no memory.
-fn tell_after(
+fn tell_after<U: Upkeep>(
     alloc: Global,
     told: &mut Vec<(u64, Phase)>,
     outcome: &Outcome,
     looks: &[(u64, Phase)],
 )
-    requires list { IsToldList told.old.items }
+    requires kept { IsKept U.AT_ONCE told.old.items }
     requires room { vec_len told.old + length looks.now ≤ vec_capacity told.old }
-    ensures items { told.new.items ≡ told_after told.old.items outcome.now looks.now }
-    ensures list { IsToldList told.new.items }
+    ensures told { filter is_live told.new.items ≡ told_after (filter is_live told.old.items) outcome.now looks.now }
+    ensures kept { IsKept U.AT_ONCE told.new.items }
 {
     match outcome {
         Outcome::Client(_) | Outcome::Closed => *told = Vec::new(alloc),
         _ => {
             if tells(outcome) {
-                tell(told, looks);
+                tell::<U>(told, looks);
             }
         }
     }
 }
 
 impl Session {
+    /// The told list: the requests whose end wasn't told, each with the phase that was told last.
+    pub fn live(&self) -> &[(u64, Phase)]
+        ensures told { result.now ≡ self.now.told }
+        ensures by_number { IsByNumber result.now }
+        ensures live { All (λ look. is_live look ≡ true) result.now }
+    {
+        &self.told
+    }
+}
+
+impl<U: Upkeep> SessionOf<U> {
     /// A session that isn't open. It takes no memory before its first reply.
-    pub fn new(alloc: Global) -> Session
+    pub fn new(alloc: Global) -> SessionOf<U>
         ensures { result ≡ closed }
     {
-        Session {
+        SessionOf {
             alloc,
             is_open: false,
             told: Vec::new(alloc),
+            upkeep: PhantomData,
         }
     }
 
@@ -90,22 +111,14 @@ impl Session {
         plan_for(self.is_open, reading)
     }
 
-    /// The told list: the requests whose end wasn't told, each with the phase that was told last.
-    pub fn live(&self) -> &[(u64, Phase)]
-        ensures told { result.now ≡ self.now.told }
-        ensures by_number { IsByNumber result.now }
-        ensures live { All (λ look. is_live look ≡ true) result.now }
-    {
-        &self.told
-    }
-
     /// The text of the reply to a message, given the id that `plan` gave, the outcome, and the phases found of the
     /// requests whose phase may differ from the one told: a request that isn't named stays as it is. A new request
     /// is named, one that the agent released is named as `Released`, and a grant is taken before it is looked at.
     /// Looks play no part where `tells` says that the reply has no notices.
     ///
-    /// A look costs two searches by halves in the told list; an end that leaves, or a request that comes in elsewhere
-    /// than at the end, also moves the list behind it. At `Memory` the session is as it was.
+    /// A look costs two searches by halves in the told list. A request that comes in elsewhere than at the end also
+    /// moves the list behind it, and where ends leave at once so does an end; `InTime` says what they cost elsewhere.
+    /// At `Memory` the session is as it was.
     pub fn finish_changed(
         &mut self,
         id: Option<u64>,
@@ -120,7 +133,7 @@ impl Session {
     {
         // What needs memory comes first, so that nothing is half done where there is none.
         let notices = notices(self.alloc, self.told.as_slice(), &outcome, looks)?;
-        self.told.reserve(looks.len())?;
+        make_room::<U>(&mut self.told, looks.len())?;
         let reply = WireReply {
             id,
             notices,
@@ -128,7 +141,7 @@ impl Session {
         };
         let text = write_reply(self.alloc, &reply)?;
         self.is_open = opens(self.is_open, &reply.outcome);
-        tell_after(self.alloc, &mut self.told, &reply.outcome, looks);
+        tell_after::<U>(self.alloc, &mut self.told, &reply.outcome, looks);
         Ok(text)
     }
 

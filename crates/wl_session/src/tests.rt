@@ -1,6 +1,7 @@
 //! Whole replies of a session, in the order in which an agent would read them.
 
 mod growth;
+mod upkeep;
 
 use crate::{Action, Plan, Session, tells};
 use std::alloc::Global;

@@ -1,7 +1,8 @@
 //! The told list: by number, each request whose end wasn't told, with the phase that was told last.
 //!
 //! It is a sorted `Vec`, searched by halves. A new request has the highest number and goes to the end. A request
-//! that leaves from the middle moves those behind it.
+//! that leaves from the middle moves those behind it. So a list may also keep ends in their places (`Upkeep` says
+//! which does): the told list is what is live in it.
 
 ghost use Rattle.std.specs.Prelude.{◌≡◌, ◌+◌, ◌<◌, ◌≤◌, length, filter, fold, map, vec_len, vec_capacity, IfOk, IfErr, OnErr};
 ghost use Rattle.wl_session.specs.Places.{IsAt, IsGapFor};
@@ -25,19 +26,27 @@ fn place(list: &[(u64, Phase)], number: u64) -> Result<usize, usize>
     list.binary_search_by_key(&number, |look| look.0)
 }
 
+/// Of a request whose end was told, nothing was told since.
 fn phase_in(told: &[(u64, Phase)], number: u64) -> Phase
     requires { IsByNumber told.now }
-    ensures { result ≡ phase_in told.now number }
+    ensures { result ≡ phase_in (filter is_live told.now) number }
 {
     match place(told, number) {
-        Ok(at) => told[at].1,
+        Ok(at) => {
+            let phase = told[at].1;
+            if phase.is_end() {
+                Phase::Pending
+            } else {
+                phase
+            }
+        }
         Err(_) => Phase::Pending,
     }
 }
 
 fn phase_told(outcome: &Outcome, told: &[(u64, Phase)], number: u64) -> Phase
     requires { IsByNumber told.now }
-    ensures { result ≡ phase_told outcome.now told.now number }
+    ensures { result ≡ phase_told outcome.now (filter is_live told.now) number }
 {
     if is_new(outcome, number) {
         Phase::Pending
@@ -64,7 +73,8 @@ pub(crate) fn news(
     looks: &[(u64, Phase)],
 ) -> Result<Notices, Memory>
     requires { IsByNumber told.now }
-    ensures { IfOk result (λ notices. notices ≡ news outcome.now told.now looks.now) }
+    ensures { IfOk result (λ notices. notices
+        ≡ news outcome.now (filter is_live told.now) looks.now) }
 {
     let mut notices = Notices::new(alloc);
     for look in looks {
@@ -135,7 +145,7 @@ fn tell_each(told: &mut Vec<(u64, Phase)>, looks: &[(u64, Phase)])
 }
 
 /// Puts looks into a list with room for them.
-fn put_all(list: &mut Vec<(u64, Phase)>, looks: &[(u64, Phase)])
+pub(crate) fn put_all(list: &mut Vec<(u64, Phase)>, looks: &[(u64, Phase)])
     requires by_number { IsByNumber list.old.items }
     requires room { vec_len list.old + length looks.now ≤ vec_capacity list.old }
     ensures items { list.new.items ≡ fold put list.old.items looks.now }
@@ -146,8 +156,18 @@ fn put_all(list: &mut Vec<(u64, Phase)>, looks: &[(u64, Phase)])
     }
 }
 
-/// Puts what was found into a told list, which ends leave. It needs no memory.
-pub(crate) fn tell(told: &mut Vec<(u64, Phase)>, looks: &[(u64, Phase)])
+/// Ends leave a list.
+pub(crate) fn drop_ends(told: &mut Vec<(u64, Phase)>)
+    requires { IsByNumber told.old.items }
+    ensures items { told.new.items ≡ filter is_live told.old.items }
+    ensures list { IsToldList told.new.items }
+    ensures live { filter is_live told.new.items ≡ told.new.items }
+{
+    told.retain(|look| !look.1.is_end());
+}
+
+/// Puts what was found into a told list, which ends leave as they are told.
+pub(crate) fn tell_at_once(told: &mut Vec<(u64, Phase)>, looks: &[(u64, Phase)])
     requires list { IsToldList told.old.items }
     requires room { vec_len told.old + length looks.now ≤ vec_capacity told.old }
     ensures items { told.new.items ≡ still_told told.old.items looks.now }
@@ -157,16 +177,19 @@ pub(crate) fn tell(told: &mut Vec<(u64, Phase)>, looks: &[(u64, Phase)])
         return tell_each(told, looks);
     }
     put_all(told, looks);
-    told.retain(|look| !look.1.is_end());
+    drop_ends(told);
 }
 
-/// The list with each of its requests released.
+/// The told list with each of its requests released.
 fn all_released(alloc: Global, told: &[(u64, Phase)]) -> Result<Vec<(u64, Phase)>, Memory>
-    ensures { IfOk result (λ list. list.items ≡ map released told.now) }
+    ensures { IfOk result (λ list. list.items ≡ map released (filter is_live told.now)) }
 {
     let mut list = Vec::with_capacity(alloc, told.len())?;
     for look in told {
-        list.push((look.0, Phase::Released))?;
+        let (request, phase) = *look;
+        if !phase.is_end() {
+            list.push((request, Phase::Released))?;
+        }
     }
     Ok(list)
 }
@@ -189,7 +212,7 @@ pub(crate) fn completed(
     looks: &[(u64, Phase)],
 ) -> Result<Vec<(u64, Phase)>, Memory>
     requires { IsByNumber told.now }
-    ensures looks { IfOk result (λ list. list.items ≡ completed told.now looks.now) }
+    ensures looks { IfOk result (λ list. list.items ≡ completed (filter is_live told.now) looks.now) }
     ensures by_number { IfOk result (λ list. IsByNumber list.items) }
 {
     let mut list = all_released(alloc, told)?;

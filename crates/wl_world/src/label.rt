@@ -1,12 +1,12 @@
 //! What an opened label is.
 
 use wl_origin::OriginKey;
-use wl_session::Session;
+use wl_session::{InTime, SessionOf};
 use wl_types::Kind;
 
 /// The agent of an opened label: one of an origin, with what it was told, or an opaque one, and whether it is active.
 #[derive(Drop)]
 pub(crate) enum Label {
-    Agent(OriginKey, u64, Session),
+    Agent(OriginKey, u64, SessionOf<InTime>),
     Opaque(Kind, bool),
 }

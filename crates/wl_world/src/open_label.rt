@@ -15,7 +15,7 @@ use std::collections::HashMap;
 use wl_codec::{Body, Outcome};
 use wl_core::LockCore;
 use wl_origin::{KeyFault, OriginKey, Standing, key_of};
-use wl_session::Session;
+use wl_session::{InTime, SessionOf};
 use wl_types::{Kind, Memory};
 
 /// What a line is answered, and the label that it opened.
@@ -37,7 +37,7 @@ fn entered(alloc: Global, key: OriginKey, id: u64, outcome: Outcome) -> Result<O
             return Ok(Opening { text, label: None });
         }
     };
-    let mut session = Session::new(alloc);
+    let mut session = SessionOf::<InTime>::new(alloc);
     let text = session.finish_changed(Some(id), outcome, &[])?;
     let label = Some(Label::Agent(key, agent, session));
     Ok(Opening { text, label })

@@ -15,7 +15,7 @@ use std::collections::HashMap;
 use wl_codec::{Body, Outcome};
 use wl_core::LockCore;
 use wl_origin::OriginKey;
-use wl_session::Session;
+use wl_session::{InTime, SessionOf};
 use wl_types::{Kind, Memory};
 
 /// Gives a manager to a key that has none.
@@ -38,7 +38,7 @@ pub(crate) fn serve_at<C: LockCore<Seed = ()>>(
     realm: &mut HashMap<OriginKey, Origin<C>>,
     key: &OriginKey,
     agent: u64,
-    session: &mut Session,
+    session: &mut SessionOf<InTime>,
     id: u64,
     body: &Body,
 ) -> Result<Answer, Memory>

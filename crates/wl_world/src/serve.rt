@@ -9,7 +9,7 @@ use crate::origin::Origin;
 use std::alloc::Global;
 use wl_codec::{Body, Outcome};
 use wl_core::LockCore;
-use wl_session::{Session, tells};
+use wl_session::{InTime, SessionOf, tells};
 use wl_types::Memory;
 
 /// What a line is answered, and whether its label closed.
@@ -30,7 +30,7 @@ pub(crate) fn serve<C: LockCore>(
     alloc: Global,
     origin: &mut Origin<C>,
     agent: u64,
-    session: &mut Session,
+    session: &mut SessionOf<InTime>,
     id: u64,
     body: &Body,
 ) -> Result<Answer, Memory>

@@ -1,5 +1,5 @@
 use Rattle.std.proofs.Common.{◌≡◌, true, is_ok, subst, sym, refl, ◌∙◌}
-use Rattle.wl_session.specs.Told.{IsByNumber, put}
+use Rattle.wl_session.specs.Told.{IsByNumber}
 use Rattle.wl_session.proofs.Order.{by_number_put}
 use Rattle.wl_session.proofs.Edits.{set_is_put, insert_is_put}
 use Rattle.wl_session.proofs.told.put_in_room.Goals as goal

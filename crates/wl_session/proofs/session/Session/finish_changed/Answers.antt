@@ -1,5 +1,0 @@
-use Rattle.wl_session.proofs.News.{writable}
-use Rattle.wl_session.proofs.session.Session.finish_changed.Goals as goal
-
-pub write_reply-requires : goal.write_reply-requires
-write_reply-requires c = rw c.in_ok-notices.ensures (writable _ c.args.outcome c.args.looks.now)
