@@ -103,3 +103,13 @@ set_same p (e ∷ es) x there = by (p e.0) refl (set_same p es x)
     by : (b : Bool) → p e.0 ≡ b → (lookup p es ≡ Some x → set_value p es x ≡ es) → cond (p e.0) ((e.0, x) ∷ es) (e ∷ set_value p es x) ≡ e ∷ es
     by true h rest = rw h (ap (λ v. (e.0, v) ∷ es) (ap (λ o. unwrap_or o x) (sym (seen true h))))
     by false h rest = rw h (ap (λ l. e ∷ l) (rest (seen false h)))
+
+-- each entry is found by its number
+pub found_each : {X : Type 0} (es : List (ℕ × X)) → IsStrictlySortedBy nat_cmp (keys_of es) → AllByRecursion (λ (e : ℕ × X). lookup (is_at (nat_cmp e.0)) es ≡ Some e.1) es
+found_each [] sorted = tt
+found_each {X} (e ∷ es) sorted =
+    (rw (same_number e.0 e.0, number_same e.0) refl, later es (above_apart e.0 e.0 es (number_same e.0) (sorted_head nat_cmp e.0 (keys_of es) sorted)) (found_each es (sorted_tail nat_cmp e.0 (keys_of es) sorted)))
+  where
+    later : (l : List (ℕ × X)) → AllByRecursion (λ (x : ℕ × X). (x.0 == e.0) ≡ false) l → AllByRecursion (λ (x : ℕ × X). lookup (is_at (nat_cmp x.0)) es ≡ Some x.1) l → AllByRecursion (λ (x : ℕ × X). cond (is_at (nat_cmp x.0) e.0) (Some e.1) (lookup (is_at (nat_cmp x.0)) es) ≡ Some x.1) l
+    later [] apart all = tt
+    later (x ∷ l) apart all = let other : (e.0 == x.0) ≡ false = (let h = apart.0 in grind (arith, nat_tests, h)) in (rw (same_number x.0 e.0, other) all.0, later l apart.1 all.1)

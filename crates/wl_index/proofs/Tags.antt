@@ -1,100 +1,28 @@
--- The live requests of each agent and of each signal: one more, one less.
-use Rattle.std.proofs.Common.{◌≡◌, ℕ, ◌<◌, ◌==◌, Bool, true, false, cond, List, [], ◌∷◌, ◌++◌, map, refl, ap, subst, sym, ◌∙◌, arith, append-nil}
-use Rattle.std.specs.Prelude.{not, filter, Option, Some, if◌then◌else◌}
-use Rattle.std.specs.List.{AllByRecursion}
-use Rattle.std.proofs.lemmas.Bool.Decides.{nat_tests}
+-- The live requests on the lists of their agents and signals: one more, one less, and none of an agent.
+use Rattle.std.proofs.Common.{◌≡◌, ℕ, ◌<◌, ◌==◌, Bool, true, false, cond, List, [], ◌∷◌, ◌++◌, refl, ap, subst, sym, ◌∙◌}
+use Rattle.std.specs.Prelude.{not, filter, Option, Some, None, is_some}
+use Rattle.std.specs.List.{AllByRecursion, Contains, list_any}
+use Rattle.std.specs.List.Sorted.{IsStrictlySortedBy}
+use Rattle.std.specs.Map.{keys_of, lookup}
+use Rattle.std.specs.BTreeMap.{is_at}
+use Rattle.std.specs.Ordering.{nat_cmp}
 use Rattle.std.proofs.lemmas.List.{map-append}
-use Rattle.std.proofs.lemmas.List.Elements.{filter-append}
+use Rattle.wl_machine.specs.declared.rows.HeldRow.{HeldRow}
+use Rattle.wl_machine.specs.declared.rows.PendingRow.{PendingRow}
 use Rattle.wl_machine.specs.Step.{is_signal}
-use Rattle.wl_machine.proofs.Lists.{filter_map, filters_commute}
-use Rattle.wl_index.specs.declared.table.Request.{Request}
-use Rattle.wl_index.specs.Rows.{Entry, Tag, tag, tags_of, other}
-use Rattle.wl_index.specs.Groups.{Group, numbers_at, without_number, without_tag, of_agent, IsGrouped, IsTagged}
-use Rattle.wl_index.proofs.Lists.{all_append, all_weaker}
-use Rattle.wl_index.proofs.Keyed.{Found, number_same}
-
-flip : (a b : ℕ) (c : Bool) → (a == b) ≡ c → (b == a) ≡ c
-flip a b true h = grind (arith, nat_tests, h)
-flip a b false h = grind (arith, nat_tests, h)
-
--- a signal is that of a request with one, whichever comes first
-pub is_that : (of owner : ℕ) → is_signal of (Some owner) ≡ (of == owner)
-is_that of owner = flip of owner (of == owner) refl
-
--- ---- the numbers of those that pass
-
-abbrev numbers_of : (Tag → Bool) → List Tag → List ℕ
-numbers_of p tags = map (λ (t : Tag). t.number) (filter p tags)
-
-numbers_more : (p : Tag → Bool) (tags : List Tag) (t : Tag) → numbers_of p (tags ++ t ∷ []) ≡ (if p t then numbers_of p tags ++ t.number ∷ [] else numbers_of p tags)
-numbers_more p tags t = ap (map (λ (t : Tag). t.number)) (filter-append p tags (t ∷ [])) ∙ map-append (λ (t : Tag). t.number) (filter p tags) (filter p (t ∷ [])) ∙ by (p t)
-  where
-    by : (b : Bool) → numbers_of p tags ++ map (λ (t : Tag). t.number) (cond b (t ∷ []) []) ≡ (if b then numbers_of p tags ++ t.number ∷ [] else numbers_of p tags)
-    by true = refl
-    by false = append-nil (numbers_of p tags)
-
-numbers_less : (p : Tag → Bool) (number : ℕ) (tags : List Tag) → numbers_of p (without_tag number tags) ≡ without_number number (numbers_of p tags)
-numbers_less p number tags =
-    ap (map (λ (t : Tag). t.number)) (filters_commute p (λ (t : Tag). not (t.number == number)) tags)
-    ∙ sym (filter_map (λ n. not (n == number)) (λ (t : Tag). t.number) (filter p tags))
-
--- those of another are not touched
-numbers_apart : (p : Tag → Bool) (number : ℕ) (tags : List Tag) → AllByRecursion (λ (t : Tag). (t.number == number) ≡ true → p t ≡ false) tags → numbers_of p (without_tag number tags) ≡ numbers_of p tags
-numbers_apart p number [] all = refl
-numbers_apart p number (t ∷ tags) all = by (t.number == number) refl (numbers_apart p number tags all.1)
-  where
-    by : (b : Bool) → (t.number == number) ≡ b → numbers_of p (without_tag number tags) ≡ numbers_of p tags → numbers_of p (cond (not (t.number == number)) (t ∷ without_tag number tags) (without_tag number tags)) ≡ numbers_of p (t ∷ tags)
-    by true h rest = rw (h, all.0 h) rest
-    by false h rest = rw h (after (p t))
-      where
-        after : (k : Bool) → map (λ (t : Tag). t.number) (cond k (t ∷ filter p (without_tag number tags)) (filter p (without_tag number tags))) ≡ map (λ (t : Tag). t.number) (cond k (t ∷ filter p tags) (filter p tags))
-        after true = ap (λ l. t.number ∷ l) rest
-        after false = rest
-
--- ---- groups
-
-pub grouped_same : (tags : List Tag) (agents agents' signals signals' : List Group) → ((of : ℕ) → numbers_at of agents' ≡ numbers_at of agents) → ((of : ℕ) → numbers_at of signals' ≡ numbers_at of signals) → IsGrouped tags agents signals → IsGrouped tags agents' signals'
-grouped_same tags agents agents' signals signals' one two is = record { by_agent = λ of. one of ∙ is.by_agent of; by_signal = λ of. two of ∙ is.by_signal of }
-
-pub grouped_more : (number agent : ℕ) (signal : Option ℕ) (tags : List Tag) (agents agents' signals signals' : List Group)
-    → ((of : ℕ) → numbers_at of agents' ≡ (if of == agent then numbers_at of agents ++ number ∷ [] else numbers_at of agents))
-    → ((of : ℕ) → numbers_at of signals' ≡ (if is_signal of signal then numbers_at of signals ++ number ∷ [] else numbers_at of signals))
-    → IsGrouped tags agents signals → IsGrouped (tags ++ record { number = number; agent = agent; signal = signal } ∷ []) agents' signals'
-grouped_more number agent signal tags agents agents' signals signals' one two is =
-    let t : Tag = record { number = number; agent = agent; signal = signal } in
-    record {
-      by_agent = λ of. one of ∙ ap (λ l. if of == agent then l ++ number ∷ [] else l) (is.by_agent of) ∙ ap (λ b. if b then of_agent of tags ++ number ∷ [] else of_agent of tags) (sym (flip of agent (of == agent) refl)) ∙ sym (numbers_more (λ (t : Tag). t.agent == of) tags t);
-      by_signal = λ of. two of ∙ ap (λ l. if is_signal of signal then l ++ number ∷ [] else l) (is.by_signal of) ∙ sym (numbers_more (λ (t : Tag). is_signal of t.signal) tags t);
-    }
-
-pub grouped_less : (number agent : ℕ) (signal : Option ℕ) (tags : List Tag) (agents agents' signals signals' : List Group)
-    → ((of : ℕ) → numbers_at of agents' ≡ (if of == agent then without_number number (numbers_at of agents) else numbers_at of agents))
-    → ((of : ℕ) → numbers_at of signals' ≡ (if is_signal of signal then without_number number (numbers_at of signals) else numbers_at of signals))
-    → IsTagged number agent signal tags → IsGrouped tags agents signals → IsGrouped (without_tag number tags) agents' signals'
-grouped_less number agent signal tags agents agents' signals signals' one two tagged is =
-    record {
-      by_agent = λ of. one of ∙ ap (λ l. if of == agent then without_number number l else l) (is.by_agent of) ∙ by (λ (t : Tag). t.agent == of) (of == agent) (λ no. all_weaker (λ (t : Tag). (t.number == number) ≡ true → (t.agent ≡ agent) × (t.signal ≡ signal)) (λ (t : Tag). (t.number == number) ≡ true → (t.agent == of) ≡ false) tags (λ t known h. ap (λ a. a == of) (known h).0 ∙ flip of agent false no) tagged) refl;
-      by_signal = λ of. two of ∙ ap (λ l. if is_signal of signal then without_number number l else l) (is.by_signal of) ∙ by (λ (t : Tag). is_signal of t.signal) (is_signal of signal) (λ no. all_weaker (λ (t : Tag). (t.number == number) ≡ true → (t.agent ≡ agent) × (t.signal ≡ signal)) (λ (t : Tag). (t.number == number) ≡ true → is_signal of t.signal ≡ false) tags (λ t known h. ap (is_signal of) (known h).1 ∙ no) tagged) refl;
-    }
-  where
-    by : (p : Tag → Bool) (b : Bool) → (b ≡ false → AllByRecursion (λ (t : Tag). (t.number == number) ≡ true → p t ≡ false) tags) → {c : Bool} → c ≡ b → (if b then without_number number (numbers_of p tags) else numbers_of p tags) ≡ numbers_of p (without_tag number tags)
-    by p true apart is_b = sym (numbers_less p number tags)
-    by p false apart is_b = sym (numbers_apart p number tags (apart refl))
-
-below_spared : (number : ℕ) (l : List ℕ) → AllByRecursion (λ n. n < number) l → without_number number (l ++ number ∷ []) ≡ l
-below_spared number [] all = rw (number_same number) refl
-below_spared number (n ∷ l) all = let apart : (n == number) ≡ false = (let less = all.0 in grind (arith, nat_tests, less)) in rw apart (ap (λ t. n ∷ t) (below_spared number l all.1))
-
--- a number added above the others, and taken back
-pub added_back : (number owner of : ℕ) (old more back : List Group) → AllByRecursion (λ n. n < number) (numbers_at of old)
-    → numbers_at of more ≡ (if of == owner then numbers_at of old ++ number ∷ [] else numbers_at of old) → numbers_at of back ≡ (if of == owner then without_number number (numbers_at of more) else numbers_at of more) → numbers_at of back ≡ numbers_at of old
-added_back number owner of old more back below one two = two ∙ ap (λ l. if of == owner then without_number number l else l) one ∙ by (of == owner)
-  where
-    by : (b : Bool) → (if b then without_number number (if b then numbers_at of old ++ number ∷ [] else numbers_at of old) else (if b then numbers_at of old ++ number ∷ [] else numbers_at of old)) ≡ numbers_at of old
-    by true = below_spared number (numbers_at of old) below
-    by false = refl
-
--- ---- the tags of the live requests
+use Rattle.wl_machine.proofs.Covers.{alike}
+use Rattle.wl_machine.proofs.Lists.{and_first, and_second, any_map, filter_map, or_false}
+use Rattle.wl_index.specs.declared.ending.Owner.{Owner}
+use Rattle.wl_index.specs.declared.ending.Owner.TheVariants.{Signal, Agent}
+use Rattle.wl_index.specs.declared.groups.Group.{Group}
+use Rattle.wl_index.specs.Stamps.{by_stamp}
+use Rattle.wl_index.specs.Rows.{Entry, Tag, tag, tags_of, other, waits, waiting, holding, stamp_of, request_row, lock_row, pending_of, held_of}
+use Rattle.wl_index.specs.Groups.{at, own_of, signed_of, IsOn, IsRising, Keeps, IsGrouped, without_tag}
+use Rattle.wl_index.specs.Ends.{ends_request, ends_lock, HasNone, IsOwners}
+use Rattle.wl_index.proofs.Lists.{all_append, all_filter, any_by_stamp}
+use Rattle.wl_index.proofs.Keyed.{found_each, same_number}
+use Rattle.wl_index.proofs.Grouping.{updated, no_group_rises}
+use Rattle.wl_index.proofs.Rows.{holds_or_waits}
 
 pub tags_more : (es : List Entry) (e : Entry) → tags_of (es ++ e ∷ []) ≡ tags_of es ++ tag e ∷ []
 tags_more es e = map-append tag es (e ∷ [])
@@ -102,36 +30,97 @@ tags_more es e = map-append tag es (e ∷ [])
 pub tags_less : (number : ℕ) (es : List Entry) → tags_of (filter (other number) es) ≡ without_tag number (tags_of es)
 tags_less number es = sym (filter_map (λ (t : Tag). not (t.number == number)) tag es)
 
-numbers_below : (p : Tag → Bool) (next : ℕ) (es : List Entry) → AllByRecursion (λ (e : Entry). e.0 < next) es → AllByRecursion (λ n. n < next) (numbers_of p (tags_of es))
-numbers_below p next [] all = tt
-numbers_below p next (e ∷ es) all = by (p (tag e)) (numbers_below p next es all.1)
+abbrev is_on : List (ℕ × Group) → Tag → Type 0
+is_on groups t = IsOn (at t.agent groups) t.number t.signal
+
+-- lists that keep what is live
+pub grouped_kept : (es : List Entry) (before after : List (ℕ × Group)) → IsStrictlySortedBy nat_cmp (keys_of es) → ((a : ℕ) → Keeps es (at a before) (at a after)) → ((a : ℕ) → IsRising (at a after)) → IsGrouped (tags_of es) before → IsGrouped (tags_of es) after
+grouped_kept es before after sorted keeps rising is = record { on = all es (found_each es sorted) is.on; rising = rising }
   where
-    by : (b : Bool) → AllByRecursion (λ n. n < next) (numbers_of p (tags_of es)) → AllByRecursion (λ n. n < next) (map (λ (t : Tag). t.number) (cond b (tag e ∷ filter p (tags_of es)) (filter p (tags_of es))))
-    by true rest = (all.0, rest)
-    by false rest = rest
+    all : (l : List Entry) → AllByRecursion (λ (e : Entry). lookup (is_at (nat_cmp e.0)) es ≡ Some e.1) l → AllByRecursion (is_on before) (tags_of l) → AllByRecursion (is_on after) (tags_of l)
+    all [] there on = tt
+    all (e ∷ l) there on =
+        let live = ap is_some there.0 in
+        let k = keeps e.1.agent in
+        (record { own = k.own e.0 live on.0.own; signed = λ s is. k.signed s e.0 live (on.0.signed s is) }, all l there.1 on.1)
 
-pub agents_below : (next : ℕ) (es : List Entry) (agents signals : List Group) (of : ℕ) → IsGrouped (tags_of es) agents signals → AllByRecursion (λ (e : Entry). e.0 < next) es → AllByRecursion (λ n. n < next) (numbers_at of agents)
-agents_below next es agents signals of is all = subst (AllByRecursion (λ n. n < next)) (sym (is.by_agent of)) (numbers_below (λ (t : Tag). t.agent == of) next es all)
+-- one more
+pub grouped_more : (number agent : ℕ) (signal : Option ℕ) (tags : List Tag) (groups : List (ℕ × Group)) → IsOn (at agent groups) number signal → IsGrouped tags groups → IsGrouped (tags ++ record { number = number; agent = agent; signal = signal } ∷ []) groups
+grouped_more number agent signal tags groups on is = record { on = all_append (is_on groups) tags (record { number = number; agent = agent; signal = signal } ∷ []) is.on (on, tt); rising = is.rising }
 
-pub signals_below : (next : ℕ) (es : List Entry) (agents signals : List Group) (of : ℕ) → IsGrouped (tags_of es) agents signals → AllByRecursion (λ (e : Entry). e.0 < next) es → AllByRecursion (λ n. n < next) (numbers_at of signals)
-signals_below next es agents signals of is all = subst (AllByRecursion (λ n. n < next)) (sym (is.by_signal of)) (numbers_below (λ (t : Tag). is_signal of t.signal) next es all)
+-- one less
+pub grouped_less : (number : ℕ) (tags : List Tag) (groups : List (ℕ × Group)) → IsGrouped tags groups → IsGrouped (without_tag number tags) groups
+grouped_less number tags groups is = record { on = all_filter (is_on groups) (λ (t : Tag). not (t.number == number)) tags is.on; rising = is.rising }
 
--- of one number there is one request
-pub tagged : (number : ℕ) (r : Request) (es : List Entry) → Found number es r → IsTagged number r.agent r.signal (tags_of es)
-tagged number r es f =
-    let P : Tag → Type 0 = λ t. (t.number == number) ≡ true → (t.agent ≡ r.agent) × (t.signal ≡ r.signal) in
-    subst (λ l. AllByRecursion P (tags_of l)) (sym f.whole)
-    (subst (AllByRecursion P) (sym (map-append tag f.front ((number, r) ∷ f.back))) (all_append P (tags_of f.front) (tag (number, r) ∷ tags_of f.back) (others f.front f.low) ((λ h. (refl, refl)), others f.back f.high)))
+-- an agent that has none loses its lists
+pub grouped_gone : (agent : ℕ) (es : List Entry) (before after : List (ℕ × Group)) → ((q : ℕ) → at q after ≡ cond (is_at (nat_cmp agent) q) None (at q before)) → AllByRecursion (λ (e : Entry). (e.1.agent == agent) ≡ false) es → IsGrouped (tags_of es) before → IsGrouped (tags_of es) after
+grouped_gone agent es before after is none grouped =
+    record { on = all es none grouped.on; rising = updated (λ _ g. IsRising g) agent None before after is no_group_rises grouped.rising }
   where
-    others : (l : List Entry) → AllByRecursion (λ (e : Entry). (e.0 == number) ≡ false) l → AllByRecursion (λ (t : Tag). (t.number == number) ≡ true → (t.agent ≡ r.agent) × (t.signal ≡ r.signal)) (tags_of l)
-    others [] all = tt
-    others (e ∷ l) all = ((λ h. absurd (let no_one = all.0 in cc (no_one, h))), others l all.1)
+    all : (l : List Entry) → AllByRecursion (λ (e : Entry). (e.1.agent == agent) ≡ false) l → AllByRecursion (is_on before) (tags_of l) → AllByRecursion (is_on after) (tags_of l)
+    all [] others on = tt
+    all (e ∷ l) others on =
+        let same : at e.1.agent after ≡ at e.1.agent before = is e.1.agent ∙ ap (λ b. cond b None (at e.1.agent before)) (same_number agent e.1.agent ∙ others.0) in
+        (subst (λ g. IsOn g e.0 e.1.signal) (sym same) on.0, all l others.1 on.1)
 
--- the last request, taken back
-pub last_tagged : (number agent : ℕ) (signal : Option ℕ) (es : List Entry) → AllByRecursion (λ (e : Entry). e.0 < number) es → IsTagged number agent signal (tags_of es ++ record { number = number; agent = agent; signal = signal } ∷ [])
-last_tagged number agent signal [] all = ((λ h. (refl, refl)), tt)
-last_tagged number agent signal (e ∷ es) all = ((λ h. absurd (let less = all.0 in grind (arith, nat_tests, h, less))), last_tagged number agent signal es all.1)
+-- ---- what a look finds
 
-pub last_back : (number agent : ℕ) (signal : Option ℕ) (es : List Entry) → AllByRecursion (λ (e : Entry). e.0 < number) es → without_tag number (tags_of es ++ record { number = number; agent = agent; signal = signal } ∷ []) ≡ tags_of es
-last_back number agent signal [] all = rw (number_same number) refl
-last_back number agent signal (e ∷ es) all = let apart : (e.0 == number) ≡ false = (let less = all.0 in grind (arith, nat_tests, less)) in rw apart (ap (λ l. tag e ∷ l) (last_back number agent signal es all.1))
+pub numbers_below : (next n : ℕ) (es : List Entry) → AllByRecursion (λ (e : Entry). e.0 < next) es → is_some (at n es) ≡ true → n < next
+numbers_below next n [] all live = absurd (cc live)
+numbers_below next n (e ∷ es) all live = by (e.0 == n) refl (numbers_below next n es all.1)
+  where
+    seen : (b : Bool) → (e.0 == n) ≡ b → is_some (cond b (Some e.1) (at n es)) ≡ true
+    seen b h = sym (ap (λ c. is_some (cond c (Some e.1) (at n es))) (same_number n e.0 ∙ h)) ∙ live
+
+    by : (b : Bool) → (e.0 == n) ≡ b → (is_some (at n es) ≡ true → n < next) → n < next
+    by true h rest = subst (λ k. k < next) (alike e.0 n h) all.0
+    by false h rest = rest (seen false h)
+
+-- a request with a signal has that signal
+with_it : (number : ℕ) (signal : Option ℕ) → is_signal number signal ≡ true → signal ≡ Some number
+with_it number None is = absurd (cc is)
+with_it number (Some other) is = ap Some (alike other number is)
+
+pub owners_own : (agent : ℕ) (es : List Entry) (groups : List (ℕ × Group)) → AllByRecursion (is_on groups) (tags_of es) → IsOwners (Agent agent) es (own_of (at agent groups))
+owners_own agent [] groups on = tt
+owners_own agent (e ∷ es) groups on = ((λ is. subst (λ a. Contains (own_of (at a groups)) e.0) (alike e.1.agent agent is) on.0.own), owners_own agent es groups on.1)
+
+pub owners_signed : (agent signal : ℕ) (es : List Entry) (groups : List (ℕ × Group)) → AllByRecursion (is_on groups) (tags_of es) → IsOwners (Signal agent signal) es (signed_of signal (at agent groups))
+owners_signed agent signal [] groups on = tt
+owners_signed agent signal (e ∷ es) groups on =
+    ((λ is. subst (λ a. Contains (signed_of signal (at a groups)) e.0) (alike e.1.agent agent (and_first (e.1.agent == agent) (is_signal signal e.1.signal) is)) (on.0.signed signal (with_it signal e.1.signal (and_second (e.1.agent == agent) (is_signal signal e.1.signal) is)))), owners_signed agent signal es groups on.1)
+
+-- ---- none is left of an agent
+
+any_out : {X : Type 0} (p : X → Bool) (xs : List X) → list_any p (filter (λ x. not (p x)) xs) ≡ false
+any_out p [] = refl
+any_out {X} p (x ∷ xs) = by (p x) refl (any_out p xs)
+  where
+    by : (b : Bool) → p x ≡ b → list_any p (filter (λ x. not (p x)) xs) ≡ false → list_any p (cond (not b) (x ∷ filter (λ x. not (p x)) xs) (filter (λ x. not (p x)) xs)) ≡ false
+    by true h rest = rest
+    by false h rest = rw h rest
+
+-- each waits or holds
+neither : (p : Entry → Bool) (es : List Entry) → list_any p (filter waiting es) ≡ false → list_any p (filter holding es) ≡ false → AllByRecursion (λ (e : Entry). p e ≡ false) es
+neither p [] w h = tt
+neither p (e ∷ es) w h = by (neither p es) (waits e.1.stage) w (subst (λ b. list_any p (cond b (e ∷ filter holding es) (filter holding es)) ≡ false) (holds_or_waits e.1.stage) h)
+  where
+    by : (list_any p (filter waiting es) ≡ false → list_any p (filter holding es) ≡ false → AllByRecursion (λ (e : Entry). p e ≡ false) es) → (b : Bool) → list_any p (cond b (e ∷ filter waiting es) (filter waiting es)) ≡ false → list_any p (cond (not b) (e ∷ filter holding es) (filter holding es)) ≡ false → AllByRecursion (λ (e : Entry). p e ≡ false) (e ∷ es)
+    by rest true w h = let out = or_false (p e) (list_any p (filter waiting es)) w in (out.0, rest out.1 h)
+    by rest false w h = let out = or_false (p e) (list_any p (filter holding es)) h in (out.0, rest w out.1)
+
+pub none_of : (owner : Owner) (es : List Entry) (pending : List PendingRow) (held : List HeldRow) → pending_of es ≡ filter (λ request. not (ends_request owner request)) pending → held_of es ≡ filter (λ lock. not (ends_lock owner lock)) held → HasNone owner es
+none_of (Signal agent signal) es pending held waits_are holds_are = tt
+none_of (Agent agent) es pending held waits_are holds_are = neither (λ (e : Entry). e.1.agent == agent) es waiting_none holding_none
+  where
+    asks : PendingRow → Bool
+    asks request = request.agent == agent
+
+    has : HeldRow → Bool
+    has lock = lock.agent == agent
+
+    waiting_none : list_any (λ (e : Entry). e.1.agent == agent) (filter waiting es) ≡ false
+    waiting_none = sym (any_map asks request_row (filter waiting es)) ∙ ap (list_any asks) waits_are ∙ any_out asks pending
+
+    holding_none : list_any (λ (e : Entry). e.1.agent == agent) (filter holding es) ≡ false
+    holding_none = sym (any_map has lock_row (by_stamp stamp_of (filter holding es)) ∙ any_by_stamp stamp_of (λ (e : Entry). e.1.agent == agent) (filter holding es)) ∙ ap (list_any has) holds_are ∙ any_out has held

@@ -1,5 +1,6 @@
 -- What an abort or a termination ends (own).
-use Rattle.std.specs.Prelude.{ℕ, Bool, ◌==◌, not, ◌&&◌, List, [], ◌∷◌, ◌++◌, map, filter, Option, Some, None, if◌then◌else◌}
+use Rattle.std.specs.Prelude.{◌≡◌, ℕ, Bool, true, false, ◌==◌, not, ◌&&◌, List, [], ◌∷◌, ◌++◌, map, filter, Option, Some, None, if◌then◌else◌}
+use Rattle.std.specs.List.{AllByRecursion, Contains}
 use Rattle.std.specs.Map.{lookup}
 use Rattle.std.specs.BTreeMap.{is_at}
 use Rattle.std.specs.Option.{IsSome}
@@ -9,15 +10,14 @@ use Rattle.wl_types.specs.declared.phases.Change.{Change}
 use Rattle.wl_machine.specs.declared.rows.HeldRow.{HeldRow}
 use Rattle.wl_machine.specs.declared.rows.PendingRow.{PendingRow}
 use Rattle.wl_machine.specs.State.{State}
-use Rattle.wl_machine.specs.Step.{is_waiting_on, is_abortable, request_ends, lock_ends}
+use Rattle.wl_machine.specs.Step.{is_signal, is_waiting_on, is_abortable, request_ends, lock_ends}
 use Rattle.wl_index.specs.declared.ending.Owner.{Owner}
 use Rattle.wl_index.specs.declared.ending.Owner.TheVariants.{Signal, Agent}
 use Rattle.wl_index.specs.declared.ending.Standing.{Standing}
 use Rattle.wl_index.specs.declared.ending.Standing.TheVariants.{Waits, Holds}
 use Rattle.wl_index.specs.declared.order.Place.{Place}
 use Rattle.wl_index.specs.declared.table.Request.{Request}
-use Rattle.wl_index.specs.Rows.{Entry, Tag, waiting, holding, request_row, lock_row, other}
-use Rattle.wl_index.specs.Groups.{of_agent, of_signal}
+use Rattle.wl_index.specs.Rows.{Entry, waiting, holding, request_row, lock_row, other}
 use Rattle.wl_index.specs.Order.{place_of}
 
 -- the requests that end with their owner
@@ -30,10 +30,19 @@ abbrev pub ends_lock : Owner → HeldRow → Bool
 ends_lock (Signal agent signal) lock = is_abortable agent signal lock
 ends_lock (Agent agent) lock = lock.agent == agent
 
--- the live requests of an owner's list, in order
-abbrev pub owned_by : Owner → List Tag → List ℕ
-owned_by (Signal agent signal) tags = of_signal signal tags
-owned_by (Agent agent) tags = of_agent agent tags
+-- whose a live request is
+abbrev pub is_owned : Owner → Entry → Bool
+is_owned (Signal agent signal) e = e.1.agent == agent && is_signal signal e.1.signal
+is_owned (Agent agent) e = e.1.agent == agent
+
+-- numbers that find all live requests of an owner
+abbrev pub IsOwners : Owner → List Entry → List ℕ → Type 0
+IsOwners owner es numbers = AllByRecursion (λ (e : Entry). is_owned owner e ≡ true → Contains numbers e.0) es
+
+-- nothing of an agent is live
+abbrev pub HasNone : Owner → List Entry → Type 0
+HasNone (Signal agent signal) es = Unit {0}
+HasNone (Agent agent) es = AllByRecursion (λ (e : Entry). (e.1.agent == agent) ≡ false) es
 
 -- the entries that stand so, and end with their owner
 abbrev pub ends_entry : Owner → Standing → Entry → Bool

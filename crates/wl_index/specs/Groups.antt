@@ -1,69 +1,61 @@
--- Numbers by owner, and the live requests of each agent and of each signal (own).
-use Rattle.std.specs.Prelude.{◌≡◌, ℕ, ◌==◌, Bool, true, false, not, List, [], map, filter, Option, Some, None}
-use Rattle.std.specs.List.{AllByRecursion, list_any}
+-- The numbers by which the requests of an agent, and those with each of its signals, are found (own).
+use Rattle.std.specs.Prelude.{◌≡◌, ℕ, ◌==◌, Bool, not, List, [], filter, Option, Some, None, IsSome}
+use Rattle.std.specs.List.{AllByRecursion, Contains, list_any}
 use Rattle.std.specs.List.Sorted.{IsStrictlySortedBy}
-use Rattle.std.specs.BTreeMap.{BTreeMap, is_at}
-use Rattle.std.specs.Map.{keys_of, lookup}
+use Rattle.std.specs.Map.{lookup}
+use Rattle.std.specs.BTreeMap.{is_at}
 use Rattle.std.specs.Ordering.{nat_cmp}
-use Rattle.wl_machine.specs.Grants.{is_empty}
-use Rattle.wl_machine.specs.Step.{is_signal}
-use Rattle.wl_index.specs.Rows.{Tag}
+use Rattle.std.specs.declared.vec.Vec.{Vec}
+use Rattle.wl_index.specs.declared.groups.Group.{Group}
+use Rattle.wl_index.specs.Rows.{Entry, Tag}
 
--- an owner, and the numbers of its list
-abbrev pub Group : Type 0
-Group = ℕ × List ℕ
+-- what stands at a number
+abbrev pub at : {X : Type 0} → ℕ → List (ℕ × X) → Option X
+at number entries = lookup (is_at (nat_cmp number)) entries
 
-abbrev pub group_of : ℕ × BTreeMap ℕ (Unit {0}) → Group
-group_of e = (e.0, keys_of e.1.entries)
+-- the numbers on a list; no list has none
+abbrev pub numbers_on : {Z : Type 0} → Option (Vec ℕ Z) → List ℕ
+numbers_on None = []
+numbers_on (Some list) = list.items
 
-abbrev pub or_none : Option (List ℕ) → List ℕ
-or_none None = []
-or_none (Some numbers) = numbers
+abbrev pub list_at : {Z : Type 0} → ℕ → List (ℕ × Vec ℕ Z) → List ℕ
+list_at signal entries = numbers_on (at signal entries)
 
--- the numbers of an owner: none, where it isn't there
-abbrev pub numbers_at : ℕ → List Group → List ℕ
-numbers_at owner groups = or_none (lookup (is_at (nat_cmp owner)) groups)
+abbrev pub own_of : Option Group → List ℕ
+own_of None = []
+own_of (Some group) = group.own.items
 
--- the numbers in a list that may not be there
-abbrev pub numbers_in : Option (BTreeMap ℕ (Unit {0})) → List ℕ
-numbers_in None = []
-numbers_in (Some numbers) = keys_of numbers.entries
+abbrev pub signed_of : ℕ → Option Group → List ℕ
+signed_of signal None = []
+signed_of signal (Some group) = list_at signal group.signed.entries
 
--- some numbers, that rise
-pub record IsListed (numbers : List ℕ) : Type 0 where
-  pub filled : is_empty numbers ≡ false
-  pub rising : IsStrictlySortedBy nat_cmp numbers
+-- an agent's numbers rise, and so do each signal's
+pub record IsRising (group : Option Group) : Type 0 where
+  pub own : IsStrictlySortedBy nat_cmp (own_of group)
+  pub signed : (signal : ℕ) → IsStrictlySortedBy nat_cmp (signed_of signal group)
 
--- owners rise, and each that is there has a number
-pub record IsGroups (groups : List Group) : Type 0 where
-  pub ordered : IsStrictlySortedBy nat_cmp (keys_of groups)
-  pub listed : AllByRecursion (λ e. IsListed e.1) groups
+-- numbers of live requests stay on a list
+abbrev pub KeepsLive : List Entry → List ℕ → List ℕ → Type 0
+KeepsLive live before after = (number : ℕ) → IsSome (at number live) → Contains before number → Contains after number
+
+pub record Keeps (live : List Entry) (before after : Option Group) : Type 0 where
+  pub own : KeepsLive live (own_of before) (own_of after)
+  pub signed : (signal : ℕ) → KeepsLive live (signed_of signal before) (signed_of signal after)
+
+-- a number is among the agent's, and among those of its signal
+pub record IsOn (group : Option Group) (number : ℕ) (signal : Option ℕ) : Type 0 where
+  pub own : Contains (own_of group) number
+  pub signed : (s : ℕ) → signal ≡ Some s → Contains (signed_of s group) number
+
+-- each live request is on its agent's lists
+pub record IsGrouped (tags : List Tag) (groups : List (ℕ × Group)) : Type 0 where
+  pub on : AllByRecursion (λ t. IsOn (at t.agent groups) t.number t.signal) tags
+  pub rising : (agent : ℕ) → IsRising (at agent groups)
 
 -- without a number
-abbrev pub without_number : ℕ → List ℕ → List ℕ
-without_number number numbers = filter (λ n. not (n == number)) numbers
+abbrev pub without_tag : ℕ → List Tag → List Tag
+without_tag number tags = filter (λ t. not (t.number == number)) tags
 
 -- whether an entry's number is not among these
 abbrev pub spared : {X : Type 0} → List ℕ → ℕ × X → Bool
 spared numbers e = not (list_any (λ n. n == e.0) numbers)
-
--- the live requests of an agent, in order
-abbrev pub of_agent : ℕ → List Tag → List ℕ
-of_agent agent tags = map (λ t. t.number) (filter (λ t. t.agent == agent) tags)
-
--- the live requests that a signal may abort, in order
-abbrev pub of_signal : ℕ → List Tag → List ℕ
-of_signal signal tags = map (λ t. t.number) (filter (λ t. is_signal signal t.signal) tags)
-
--- each agent and each signal has the list of its live requests
-pub record IsGrouped (tags : List Tag) (agents signals : List Group) : Type 0 where
-  pub by_agent : (agent : ℕ) → numbers_at agent agents ≡ of_agent agent tags
-  pub by_signal : (signal : ℕ) → numbers_at signal signals ≡ of_signal signal tags
-
--- whatever has the number is of this agent and this signal
-abbrev pub IsTagged : ℕ → ℕ → Option ℕ → List Tag → Type 0
-IsTagged number agent signal tags = AllByRecursion (λ t. (t.number == number) ≡ true → (t.agent ≡ agent) × (t.signal ≡ signal)) tags
-
--- without what has the number
-abbrev pub without_tag : ℕ → List Tag → List Tag
-without_tag number tags = filter (λ t. not (t.number == number)) tags

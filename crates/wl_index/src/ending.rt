@@ -114,9 +114,8 @@ fn place_to_end(table: &Table, number: u64, owner: Owner, standing: Standing) ->
 
 /// Puts a place, if there is one, into room that is there.
 fn push_some(places: &mut Vec<Place>, place: Option<Place>)
-    requires { vec_len places.old < vec_capacity places.old }
+    requires { vec_len places.old + length (option_to_list place) ≤ vec_capacity places.old }
     ensures items { places.new.items ≡ places.old.items ++ option_to_list place }
-    ensures len { vec_len places.new ≤ vec_len places.old + 1 }
     ensures capacity { vec_capacity places.old ≤ vec_capacity places.new }
 {
     if let Some(place) = place {
@@ -124,7 +123,7 @@ fn push_some(places: &mut Vec<Place>, place: Option<Place>)
     }
 }
 
-/// Puts the places of what ends, by number, into room that is there. It looks at the owner's list alone.
+/// Puts the places of what ends, by number, into room that is there. It looks at what the owner's list finds.
 fn gather(table: &Table, owner: Owner, standing: Standing, ending: &mut Vec<Place>)
     requires none { ending.old.items ≡ [] }
     requires room { length table.now.entries ≤ vec_capacity ending.old }
@@ -133,10 +132,7 @@ fn gather(table: &Table, owner: Owner, standing: Standing, ending: &mut Vec<Plac
     ensures distinct { Distinct stamp_of (filter holding table.now.entries) }
     ensures capacity { vec_capacity ending.old ≤ vec_capacity ending.new }
 {
-    let Some(numbers) = table.owned(owner) else {
-        return;
-    };
-    for number in numbers.keys() {
+    for number in table.owned(owner) {
         push_some(ending, place_to_end(table, *number, owner, standing));
     }
 }

@@ -1,134 +1,181 @@
-//! Numbers by owner.
-ghost use Rattle.std.specs.Prelude.{◌≡◌, ℕ, ◌<◌, ◌==◌, List, [], ◌∷◌, ◌++◌, OnOk, OnErr, if◌then◌else◌};
-ghost use Rattle.std.specs.List.{AllByRecursion};
-ghost use Rattle.std.specs.Option.{option_copied};
-ghost use Rattle.wl_index.specs.Groups.{numbers_at, numbers_in, without_number, IsGrouped, IsTagged, without_tag};
-ghost use Rattle.wl_index.specs.Rows.{Tag};
-ghost use Rattle.wl_machine.specs.Step.{is_signal};
+//! The numbers by which an agent's requests are found, and those with each of its signals.
+//!
+//! A request that ends stays on its lists, so that its end costs nothing here: whether a number is of a live request is
+//! seen where it is looked up. A list that is full is cleaned before it grows.
+ghost use Rattle.std.specs.Prelude.{◌≡◌, ◌<◌, ℕ, filter, is_some, nat_lt, true, IsSome, OnOk, Some};
+ghost use Rattle.std.specs.List.{AllByRecursion, Contains};
+ghost use Rattle.std.specs.List.Sorted.{IsStrictlySortedBy};
+ghost use Rattle.std.specs.Ordering.{nat_cmp};
+ghost use Rattle.wl_index.specs.Groups.{IsOn, IsRising, Keeps, KeepsLive, at, list_at};
 
+use crate::table::Request;
 use std::alloc::Global;
 use std::collections::BTreeMap;
-use std::marker::Model;
 use wl_types::Memory;
 
-/// The numbers of each owner that has any: an owner leaves with its last number, so the map is no larger than what
-/// it lists.
+/// Of an agent: numbers that rise, with those of all its live requests; and of each of its signals numbers that rise,
+/// with those of all its live requests with that signal.
 #[derive(Drop)]
-pub struct Groups {
-    by_owner: BTreeMap<u64, BTreeMap<u64, ()>>,
+pub struct Group {
+    pub own: Vec<u64>,
+    pub signed: BTreeMap<u64, Vec<u64>>,
+}
+
+/// Only the numbers of live requests stay.
+fn retain_live(live: &BTreeMap<u64, Request>, list: &mut Vec<u64>)
+    ensures { list.new.items ≡ filter (λ n. is_some (at n live.now.entries)) list.old.items }
+{
+    list.retain(|number| live.contains_key(number));
+}
+
+/// A list that is full is cleaned, and doubled where that made little room. So a number is looked up twice at most on
+/// average.
+fn make_room(live: &BTreeMap<u64, Request>, list: &mut Vec<u64>) -> Result<(), Memory>
+    requires { IsStrictlySortedBy nat_cmp list.old.items }
+    ensures rising { IsStrictlySortedBy nat_cmp list.new.items }
+    ensures kept { KeepsLive live.now.entries list.old.items list.new.items }
+{
+    if list.len() < list.capacity() {
+        return Ok(());
+    }
+    retain_live(live, list);
+    if list.len() > list.capacity() / 2 {
+        list.reserve(list.len())?;
+    }
+    Ok(())
+}
+
+/// Whether the last number of a list, and so each, is below a number.
+fn is_below(list: &Vec<u64>, number: u64) -> bool
+    requires { IsStrictlySortedBy nat_cmp list.now.items }
+    ensures { result ≡ true → AllByRecursion (λ n. n < number) list.now.items }
+{
+    match list.last() {
+        Some(last) => *last < number,
+        None => true,
+    }
+}
+
+/// What is at a number or above it leaves a list. A request that was not admitted in the end may have left such a number.
+fn trim(list: &mut Vec<u64>, number: u64)
+    requires { IsStrictlySortedBy nat_cmp list.old.items }
+    ensures { list.new.items ≡ filter (λ n. nat_lt n number) list.old.items }
+{
+    if is_below(list, number) {
+        return;
+    }
+    list.retain(|listed| *listed < number);
+}
+
+/// A number comes to a list, above all that are live.
+fn enlist(live: &BTreeMap<u64, Request>, list: &mut Vec<u64>, number: u64) -> Result<(), Memory>
+    requires rising { IsStrictlySortedBy nat_cmp list.old.items }
+    requires above { (n : ℕ) → IsSome (at n live.now.entries) → n < number }
+    ensures rising { IsStrictlySortedBy nat_cmp list.new.items }
+    ensures kept { KeepsLive live.now.entries list.old.items list.new.items }
+    ensures on { OnOk result (Contains list.new.items number) }
+{
+    make_room(live, list)?;
+    trim(list, number);
+    list.push(number)?;
+    Ok(())
+}
+
+/// A number comes to a signal's list.
+fn sign(
     alloc: Global,
+    live: &BTreeMap<u64, Request>,
+    signed: &mut BTreeMap<u64, Vec<u64>>,
+    signal: u64,
+    number: u64,
+) -> Result<(), Memory>
+    requires rising { (s : ℕ) → IsStrictlySortedBy nat_cmp (list_at s signed.old.entries) }
+    requires above { (n : ℕ) → IsSome (at n live.now.entries) → n < number }
+    ensures rising { (s : ℕ) → IsStrictlySortedBy nat_cmp (list_at s signed.new.entries) }
+    ensures kept { (s : ℕ) → KeepsLive live.now.entries (list_at s signed.old.entries) (list_at s signed.new.entries) }
+    ensures on { OnOk result (Contains (list_at signal signed.new.entries) number) }
+{
+    if let Some(list) = signed.get_mut(&signal) {
+        return enlist(live, list, number);
+    }
+    let mut list = Vec::new(alloc);
+    list.push(number)?;
+    signed.insert(signal, list)?;
+    Ok(())
 }
 
-impl Model for Groups {
-    ghost use Rattle.std.specs.Prelude.{List, map};
-    ghost use Rattle.wl_index.specs.Groups.{Group, IsGroups, group_of};
-
-    ghost Value = { List Group };
-
-    ghost view = { λ g. map group_of g.by_owner.entries };
-
-    ghost invariant = { λ g. IsGroups (map group_of g.by_owner.entries) };
-}
-
-impl Groups {
-    pub fn new(alloc: Global) -> Groups
-        ensures { (owner : ℕ) → numbers_at owner result ≡ [] }
-    {
-        Groups {
-            by_owner: BTreeMap::new(alloc),
-            alloc,
-        }
-    }
-
-    /// One more number of an owner, above those that it has.
-    pub fn add(&mut self, owner: u64, number: u64) -> Result<(), Memory>
-        requires { AllByRecursion (λ n. n < number) (numbers_at owner self.old) }
-        ensures ok { OnOk result ((of : ℕ) → numbers_at of self.new ≡ (if of == owner then numbers_at of self.old ++ number ∷ [] else numbers_at of self.old)) }
-        ensures err { OnErr result ((of : ℕ) → numbers_at of self.new ≡ numbers_at of self.old) }
-    {
-        if let Some(numbers) = self.by_owner.get_mut(&owner) {
-            numbers.insert(number, ())?;
-            return Ok(());
-        }
-        let mut numbers = BTreeMap::new(self.alloc);
-        numbers.insert(number, ())?;
-        self.by_owner.insert(owner, numbers)?;
-        Ok(())
-    }
-
-    /// An owner loses a number, if it has it.
-    pub fn remove(&mut self, owner: u64, number: u64)
-        ensures { (of : ℕ) → numbers_at of self.new ≡ (if of == owner then without_number number (numbers_at of self.old) else numbers_at of self.old) }
-    {
-        let Some(numbers) = self.by_owner.get_mut(&owner) else {
-            return;
-        };
-        numbers.remove(&number);
-        if numbers.is_empty() {
-            self.by_owner.remove(&owner).unwrap();
-        }
-    }
-
-    /// One more number of an owner, above all numbers, if there is an owner.
-    pub fn add_if(&mut self, owner: Option<u64>, number: u64) -> Result<(), Memory>
-        requires { (of : ℕ) → AllByRecursion (λ n. n < number) (numbers_at of self.old) }
-        ensures ok { OnOk result ((of : ℕ) → numbers_at of self.new ≡ (if is_signal of owner then numbers_at of self.old ++ number ∷ [] else numbers_at of self.old)) }
-        ensures err { OnErr result ((of : ℕ) → numbers_at of self.new ≡ numbers_at of self.old) }
-    {
-        match owner {
-            Some(owner) => self.add(owner, number),
-            None => Ok(()),
-        }
-    }
-
-    /// An owner loses a number, if there is an owner.
-    pub fn remove_if(&mut self, owner: Option<u64>, number: u64)
-        ensures { (of : ℕ) → numbers_at of self.new ≡ (if is_signal of owner then without_number number (numbers_at of self.old) else numbers_at of self.old) }
-    {
-        if let Some(owner) = owner {
-            self.remove(owner, number);
-        }
-    }
-
-    /// The numbers of an owner, rising. None: it has none.
-    pub fn of(&self, owner: u64) -> Option<&BTreeMap<u64, ()>>
-        ensures { numbers_in (option_copied result) ≡ numbers_at owner self.now }
-    {
-        self.by_owner.get(&owner)
+/// A number comes to an agent's list, and to that of its signal, if it has one.
+fn enroll(
+    alloc: Global,
+    live: &BTreeMap<u64, Request>,
+    group: &mut Group,
+    signal: Option<u64>,
+    number: u64,
+) -> Result<(), Memory>
+    requires rising { IsRising (Some group.old) }
+    requires above { (n : ℕ) → IsSome (at n live.now.entries) → n < number }
+    ensures rising { IsRising (Some group.new) }
+    ensures kept { Keeps live.now.entries (Some group.old) (Some group.new) }
+    ensures on { OnOk result (IsOn (Some group.new) number signal) }
+{
+    enlist(live, &mut group.own, number)?;
+    match signal {
+        Some(signal) => sign(alloc, live, &mut group.signed, signal, number),
+        None => Ok(()),
     }
 }
 
-/// A request, of the greatest number, comes to its agent's list and to its signal's.
-pub(crate) fn list(
-    of_agents: &mut Groups,
-    of_signals: &mut Groups,
+/// A request, of a number above all that are live, comes to the lists of its agent.
+pub(crate) fn enter(
+    alloc: Global,
+    live: &BTreeMap<u64, Request>,
+    groups: &mut BTreeMap<u64, Group>,
     agent: u64,
     signal: Option<u64>,
     number: u64,
 ) -> Result<(), Memory>
-    requires agents { (of : ℕ) → AllByRecursion (λ n. n < number) (numbers_at of of_agents.old) }
-    requires signals { (of : ℕ) → AllByRecursion (λ n. n < number) (numbers_at of of_signals.old) }
-    ensures ok { OnOk result ((tags : List Tag) → IsGrouped tags of_agents.old of_signals.old → IsGrouped (tags ++ record { number = number; agent = agent; signal = signal } ∷ []) of_agents.new of_signals.new) }
-    ensures err { OnErr result ((tags : List Tag) → IsGrouped tags of_agents.old of_signals.old → IsGrouped tags of_agents.new of_signals.new) }
+    requires rising { (a : ℕ) → IsRising (at a groups.old.entries) }
+    requires above { (n : ℕ) → IsSome (at n live.now.entries) → n < number }
+    ensures rising { (a : ℕ) → IsRising (at a groups.new.entries) }
+    ensures kept { (a : ℕ) → Keeps live.now.entries (at a groups.old.entries) (at a groups.new.entries) }
+    ensures on { OnOk result (IsOn (at agent groups.new.entries) number signal) }
 {
-    of_agents.add(agent, number)?;
-    let Ok(_) = of_signals.add_if(signal, number) else {
-        of_agents.remove(agent, number);
-        return Err(Memory);
+    if let Some(group) = groups.get_mut(&agent) {
+        return enroll(alloc, live, group, signal, number);
+    }
+    let mut group = Group {
+        own: Vec::new(alloc),
+        signed: BTreeMap::new(alloc),
     };
+    enroll(alloc, live, &mut group, signal, number)?;
+    groups.insert(agent, group)?;
     Ok(())
 }
 
-/// A request leaves its agent's list and its signal's.
-pub(crate) fn unlist(
-    of_agents: &mut Groups,
-    of_signals: &mut Groups,
-    agent: u64,
-    signal: Option<u64>,
-    number: u64,
-)
-    ensures { (tags : List Tag) → IsTagged number agent signal tags → IsGrouped tags of_agents.old of_signals.old → IsGrouped (without_tag number tags) of_agents.new of_signals.new }
+/// A signal's list is cleaned, and keeps no more room than it needs. It is used no more: a signal is aborted once.
+fn clean(live: &BTreeMap<u64, Request>, signed: &mut BTreeMap<u64, Vec<u64>>, signal: u64)
+    requires { (s : ℕ) → IsStrictlySortedBy nat_cmp (list_at s signed.old.entries) }
+    ensures rising { (s : ℕ) → IsStrictlySortedBy nat_cmp (list_at s signed.new.entries) }
+    ensures kept { (s : ℕ) → KeepsLive live.now.entries (list_at s signed.old.entries) (list_at s signed.new.entries) }
 {
-    of_agents.remove(agent, number);
-    of_signals.remove_if(signal, number);
+    if let Some(list) = signed.get_mut(&signal) {
+        retain_live(live, list);
+        list.shrink_to_fit();
+    }
+}
+
+/// A signal was aborted: its list is cleaned.
+pub(crate) fn clean_signal(
+    live: &BTreeMap<u64, Request>,
+    groups: &mut BTreeMap<u64, Group>,
+    agent: u64,
+    signal: u64,
+)
+    requires { (a : ℕ) → IsRising (at a groups.old.entries) }
+    ensures rising { (a : ℕ) → IsRising (at a groups.new.entries) }
+    ensures kept { (a : ℕ) → Keeps live.now.entries (at a groups.old.entries) (at a groups.new.entries) }
+{
+    if let Some(group) = groups.get_mut(&agent) {
+        clean(live, &mut group.signed, signal);
+    }
 }

@@ -86,6 +86,7 @@ impl IndexCore {
             &mut self.touched,
             &mut self.ending,
         );
+        self.table.let_go(owner);
         self.names
             .settle(&mut self.table, &mut self.changes, &mut self.touched);
     }

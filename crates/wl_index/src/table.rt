@@ -12,12 +12,12 @@ ghost use Rattle.wl_machine.specs.Grants.{granted_lock};
 ghost use Rattle.wl_index.specs.declared.table.Request.{Request};
 ghost use Rattle.wl_machine.specs.Step.{is_abortable, is_lock_of, is_untaken, with_taken};
 ghost use Rattle.wl_index.specs.Rows.{Apart, holds, is_fresh, taken_stage, IsLock, held_of, pending_of, tags_of, other, stamp, stamp_of, holding};
-ghost use Rattle.wl_index.specs.Ends.{owned_by};
-ghost use Rattle.wl_index.specs.Groups.{numbers_in};
+ghost use Rattle.wl_index.specs.Ends.{IsOwners, HasNone};
+ghost use Rattle.wl_index.specs.Groups.{own_of, signed_of};
 ghost use Rattle.wl_index.specs.Stamps.{Distinct};
 
 use crate::ending::Owner;
-use crate::groups::{Groups, list, unlist};
+use crate::groups::{Group, clean_signal, enter};
 use crate::order;
 use std::alloc::Global;
 use std::collections::BTreeMap;
@@ -42,14 +42,14 @@ pub struct Request {
     pub stage: Stage,
 }
 
-/// The live requests by number, those of each agent and of each signal, the next stamp and the next number.
+/// The live requests by number, the lists that find those of each agent and signal, the next stamp and the next number.
 #[derive(Drop)]
 pub struct Table {
     requests: BTreeMap<u64, Request>,
-    of_agents: Groups,
-    of_signals: Groups,
+    groups: BTreeMap<u64, Group>,
     stamp: u64,
     next: u64,
+    alloc: Global,
 }
 
 impl Model for Table {
@@ -60,7 +60,7 @@ impl Model for Table {
 
     ghost view = { λ t. record { entries = t.requests.entries; next = t.next } };
 
-    ghost invariant = { λ t. IsTable t.requests.entries t.stamp t.next × IsGrouped (tags_of t.requests.entries) t.of_agents t.of_signals };
+    ghost invariant = { λ t. IsTable t.requests.entries t.stamp t.next × IsGrouped (tags_of t.requests.entries) t.groups.entries };
 }
 
 impl Table {
@@ -71,10 +71,10 @@ impl Table {
     {
         Table {
             requests: BTreeMap::new(alloc),
-            of_agents: Groups::new(alloc),
-            of_signals: Groups::new(alloc),
+            groups: BTreeMap::new(alloc),
             stamp: 1,
             next,
+            alloc,
         }
     }
 
@@ -129,15 +129,31 @@ impl Table {
         Some(order::first_untaken(&self.requests, agent, signal, low)?.number)
     }
 
-    /// The numbers of an owner's live requests, rising. None: it has none.
-    pub(crate) fn owned(&self, owner: Owner) -> Option<&BTreeMap<u64, ()>>
-        ensures numbers { numbers_in (option_copied result) ≡ owned_by owner (tags_of self.now.entries) }
+    /// The numbers by which an owner's live requests are found, rising. Others may be among them.
+    pub(crate) fn owned(&self, owner: Owner) -> &[u64]
+        ensures rising { IsStrictlySortedBy nat_cmp result.now }
+        ensures all { IsOwners owner self.now.entries result.now }
         ensures ordered { IsStrictlySortedBy nat_cmp (keys_of self.now.entries) }
         ensures distinct { Distinct stamp_of (filter holding self.now.entries) }
     {
         match owner {
-            Owner::Signal(_, signal) => self.of_signals.of(signal),
-            Owner::Agent(agent) => self.of_agents.of(agent),
+            Owner::Signal(agent, signal) => signed_numbers(self.groups.get(&agent), signal),
+            Owner::Agent(agent) => own_numbers(self.groups.get(&agent)),
+        }
+    }
+
+    /// What found an owner's requests is let go, once they have ended.
+    pub(crate) fn let_go(&mut self, owner: Owner)
+        requires { HasNone owner self.old.entries }
+        ensures { self.new ≡ self.old }
+    {
+        match owner {
+            Owner::Signal(agent, signal) => {
+                clean_signal(&self.requests, &mut self.groups, agent, signal);
+            }
+            Owner::Agent(agent) => {
+                self.groups.remove(&agent);
+            }
         }
     }
 
@@ -158,9 +174,10 @@ impl Table {
         ensures err { OnErr result (self.new ≡ self.old) }
     {
         let number = self.next;
-        list(
-            &mut self.of_agents,
-            &mut self.of_signals,
+        enter(
+            self.alloc,
+            &self.requests,
+            &mut self.groups,
             agent,
             signal,
             number,
@@ -172,16 +189,7 @@ impl Table {
             signal,
             stage: Stage::Pending,
         };
-        let Ok(_) = self.requests.insert(number, request) else {
-            unlist(
-                &mut self.of_agents,
-                &mut self.of_signals,
-                agent,
-                signal,
-                number,
-            );
-            return Err(Memory);
-        };
+        self.requests.insert(number, request)?;
         self.next = number + 1;
         Ok(number)
     }
@@ -203,14 +211,7 @@ impl Table {
         requires waits { (r : Request) × (lookup (is_at (nat_cmp number)) self.old.entries ≡ Some r) × (r.stage ≡ Stage.Pending) }
         ensures { self.new ≡ record { entries = filter (other number) self.old.entries; next = number } }
     {
-        let request = self.requests.remove(&number).unwrap();
-        unlist(
-            &mut self.of_agents,
-            &mut self.of_signals,
-            request.agent,
-            request.signal,
-            number,
-        );
+        self.requests.remove(&number);
         self.next = number;
     }
 
@@ -222,15 +223,7 @@ impl Table {
         ensures still_ordered { IsStrictlySortedBy nat_cmp (keys_of self.new.entries) }
         ensures next { self.new.next ≡ self.old.next }
     {
-        let request = self.requests.remove(&number)?;
-        unlist(
-            &mut self.of_agents,
-            &mut self.of_signals,
-            request.agent,
-            request.signal,
-            number,
-        );
-        Some(request)
+        self.requests.remove(&number)
     }
 
     /// Whether an agent has the lock of this number.
@@ -270,6 +263,29 @@ impl Table {
             return mark_taken(request);
         }
         false
+    }
+}
+
+/// The numbers on an agent's list.
+fn own_numbers(group: Option<&Group>) -> &[u64]
+    ensures { result.now ≡ own_of (option_copied group.entry) }
+{
+    match group {
+        Some(group) => &group.own,
+        None => &[],
+    }
+}
+
+/// The numbers on the list of an agent's signal.
+fn signed_numbers(group: Option<&Group>, signal: u64) -> &[u64]
+    ensures { result.now ≡ signed_of signal (option_copied group.entry) }
+{
+    match group {
+        Some(group) => match group.signed.get(&signal) {
+            Some(list) => list,
+            None => &[],
+        },
+        None => &[],
     }
 }
 

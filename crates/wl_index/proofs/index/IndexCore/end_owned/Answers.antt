@@ -4,11 +4,12 @@ use Rattle.std.specs.Prelude.{filter, not}
 use Rattle.wl_machine.specs.State.{State, Content}
 use Rattle.wl_machine.specs.Grants.{Lists, lists_of, settle_names}
 use Rattle.wl_machine.specs.Step.{request_ends, lock_ends}
-use Rattle.wl_index.specs.Rows.{held_of, pending_of}
+use Rattle.wl_index.specs.Rows.{Rows, held_of, pending_of, tags_of}
 use Rattle.wl_index.specs.Names.{Placed, Ready, names_of}
 use Rattle.wl_index.specs.Ends.{ends_request, ends_lock, without_owned, owned_ends}
 use Rattle.wl_index.proofs.Rows.{live_count, tags_length}
 use Rattle.wl_index.proofs.Events.{settled_is}
+use Rattle.wl_index.proofs.Tags.{none_of}
 use Rattle.wl_index.proofs.index.IndexCore.end_owned.Goals as goal
 
 pub end_requests-requires : goal.end_requests-requires
@@ -57,6 +58,14 @@ end_locks-requires c =
       ending_room = omega (arith, ending, fewer, three);
     }
 
+pub let_go-requires : goal.let_go-requires
+let_go-requires c =
+    let i = c.self.inside in
+    none_of c.args.owner c.end_locks.new.table.entries (pending_of i.table.entries) (held_of c.end_requests.new.table.entries) (c.end_locks.ensures.pending ∙ c.end_requests.ensures.pending) c.end_locks.ensures.held
+
+pub settle-requires-clause-ready : goal.settle-requires-clause-ready
+settle-requires-clause-ready c = rw c.let_go.ensures c.end_locks.ensures.ready
+
 pub settle-requires-clause-room : goal.settle-requires-clause-room
 settle-requires-clause-room c =
     let i = c.self.inside in
@@ -70,7 +79,7 @@ settle-requires-clause-room c =
     let one = c.end_requests.ensures.changes_capacity in
     let two = c.end_locks.ensures.changes_capacity in
     let count = live_count c.end_locks.new.table.entries in
-    omega (arith, no_changes, changes_len, changes, requests_sum, locks_sum, one, two, count)
+    rw c.let_go.ensures (omega (arith, no_changes, changes_len, changes, requests_sum, locks_sum, one, two, count))
 
 pub returns : goal.returns
 returns c reply =
@@ -91,16 +100,16 @@ returns c reply =
     ∙ ap (λ cs. cs ++ lock_ends c.args.held (filter (ends_lock c.args.owner) s.held)) (c.end_requests.ensures.changes ∙ ap (λ cs. cs ++ request_ends c.args.waiting (filter (ends_request c.args.owner) s.pending)) none) in
     let names_are = c.end_locks.ensures.names ∙ c.end_requests.ensures.names in
     let is : after ≡ settle_names (lists_of (without_owned c.args.owner s).held (without_owned c.args.owner s).pending (owned_ends c.args.owner c.args.waiting c.args.held s)) s.names =
-    c.settle.ensures.settled ∙ rw (held_is, pending_is, told, names_are) refl in
-    rw (← c.self.view_is, c.settle.ensures.names, names_are, c.settle.ensures.next, c.end_locks.ensures.next, c.end_requests.ensures.next) (settled_is (without_owned c.args.owner s) (owned_ends c.args.owner c.args.waiting c.args.held s) reply after is)
+    c.settle.ensures.settled ∙ rw (c.let_go.ensures, held_is, pending_is, told, names_are) refl in
+    rw (← c.self.view_is, c.settle.ensures.names, names_are, c.settle.ensures.next, c.let_go.ensures, c.end_locks.ensures.next, c.end_requests.ensures.next) (settled_is (without_owned c.args.owner s) (owned_ends c.args.owner c.args.waiting c.args.held s) reply after is)
 
 pub invariant_of-self : goal.invariant_of-self
 invariant_of-self c =
     let i = c.self.inside in
     let is = c.self.invariant.0 in
-    let next : c.settle.new.table.next ≡ i.table.next = c.settle.ensures.next ∙ c.end_locks.ensures.next ∙ c.end_requests.ensures.next in
+    let next : c.settle.new.table.next ≡ i.table.next = c.settle.ensures.next ∙ ap (λ (rows : Rows). rows.next) c.let_go.ensures ∙ c.end_locks.ensures.next ∙ c.end_requests.ensures.next in
     let placed = subst (λ n. AllByRecursion (λ (e : Placed). e.0 < n) c.settle.new.self) (sym next) (c.settle.ensures.places i.table.next (c.end_locks.ensures.places i.table.next (c.end_requests.ensures.places i.table.next is.placed))) in
-    let same : length c.settle.new.table.entries ≡ length c.end_locks.new.table.entries = tags_length c.settle.new.table.entries c.end_locks.new.table.entries c.settle.ensures.tags in
+    let same : length c.settle.new.table.entries ≡ length c.end_locks.new.table.entries = tags_length c.settle.new.table.entries c.end_locks.new.table.entries (c.settle.ensures.tags ∙ ap (λ (rows : Rows). tags_of rows.entries) c.let_go.ensures) in
     let few = c.end_requests.ensures.fewer in
     let fewer = c.end_locks.ensures.fewer in
     let changes = is.changes_room in

@@ -1,7 +1,21 @@
-use Rattle.std.proofs.Common.{ap, sym, ◌∙◌}
-use Rattle.wl_index.specs.Rows.{tags_of}
-use Rattle.wl_index.specs.Ends.{owned_by}
+use Rattle.wl_index.proofs.Tags.{owners_own, owners_signed}
 use Rattle.wl_index.proofs.table.Table.owned.Goals as goal
+
+pub returns-in-Agent-clause-all : goal.returns-in-Agent-clause-all
+returns-in-Agent-clause-all c =
+    let i = c.self.inside in
+    rw (← c.self.view_is, c.in-Agent.is, c.own_numbers.ensures, c.get-in-Agent.ensures.value) (owners_own c.in-Agent.agent i.requests.entries i.groups.entries c.self.invariant.1.on)
+
+pub returns-in-Signal-clause-all : goal.returns-in-Signal-clause-all
+returns-in-Signal-clause-all c =
+    let i = c.self.inside in
+    rw (← c.self.view_is, c.in-Signal.is, c.signed_numbers.ensures, c.get.ensures.value) (owners_signed c.in-Signal.agent c.in-Signal.signal i.requests.entries i.groups.entries c.self.invariant.1.on)
+
+pub returns-in-Agent-clause-rising : goal.returns-in-Agent-clause-rising
+returns-in-Agent-clause-rising c = rw (c.own_numbers.ensures, c.get-in-Agent.ensures.value) (c.self.invariant.1.rising c.in-Agent.agent).own
+
+pub returns-in-Signal-clause-rising : goal.returns-in-Signal-clause-rising
+returns-in-Signal-clause-rising c = rw (c.signed_numbers.ensures, c.get.ensures.value) ((c.self.invariant.1.rising c.in-Signal.agent).signed c.in-Signal.signal)
 
 pub returns-in-Agent-clause-ordered : goal.returns-in-Agent-clause-ordered
 returns-in-Agent-clause-ordered c = rw (← c.self.view_is) c.self.invariant.0.ordered
@@ -14,9 +28,3 @@ returns-in-Agent-clause-distinct c = rw (← c.self.view_is) c.self.invariant.0.
 
 pub returns-in-Signal-clause-distinct : goal.returns-in-Signal-clause-distinct
 returns-in-Signal-clause-distinct c = rw (← c.self.view_is) c.self.invariant.0.distinct
-
-pub returns-in-Agent-clause-numbers : goal.returns-in-Agent-clause-numbers
-returns-in-Agent-clause-numbers c = rw (← c.self.view_is) (c.of-in-Agent.ensures ∙ c.self.invariant.1.by_agent c.in-Agent.agent ∙ ap (λ o. owned_by o (tags_of c.self.inside.requests.entries)) (sym c.in-Agent.is))
-
-pub returns-in-Signal-clause-numbers : goal.returns-in-Signal-clause-numbers
-returns-in-Signal-clause-numbers c = rw (← c.self.view_is) (c.of.ensures ∙ c.self.invariant.1.by_signal c.in-Signal.signal ∙ ap (λ o. owned_by o (tags_of c.self.inside.requests.entries)) (sym c.in-Signal.is))

@@ -1,35 +1,25 @@
 use Rattle.std.proofs.Common.{◌≡◌, ◌∙◌, ap, sym, subst, nat_cmp, Some, refl, ◌+◌}
-use Rattle.std.specs.Option.{IsSome}
 use Rattle.std.specs.List.Sorted.{IsStrictlySortedBy}
 use Rattle.std.specs.Map.{keys_of, lookup}
 use Rattle.std.specs.BTreeMap.{is_at}
 use Rattle.wl_index.specs.Rows.{Rows, tags_of}
 use Rattle.wl_index.specs.Groups.{IsGrouped, without_tag}
-use Rattle.wl_index.proofs.Keyed.{found}
 use Rattle.wl_index.proofs.Rows.{removed}
 use Rattle.wl_index.proofs.Tables.{retracted}
-use Rattle.wl_index.proofs.Tags.{tags_less, tagged}
+use Rattle.wl_index.proofs.Tags.{grouped_less, tags_less}
 use Rattle.wl_index.proofs.table.Table.retract.Goals as goal
-
-pub unwrap-request-requires : goal.unwrap-request-requires
-unwrap-request-requires c =
-    let w = c.requires.waits in
-    let there : lookup (is_at (nat_cmp c.args.number)) c.self.inside.requests.entries ≡ Some w.0 = ap (λ (v : Rows). lookup (is_at (nat_cmp c.args.number)) v.entries) c.self.view_is ∙ w.1 in
-    subst (λ o. IsSome o) (sym (c.remove.ensures.value ∙ there)) refl
 
 pub invariant_of-self : goal.invariant_of-self
 invariant_of-self c =
     let i = c.self.inside in
     let es = i.requests.entries in
     let w = c.requires.waits in
-    let r = c.unwrap-request.result in
     let there : lookup (is_at (nat_cmp c.args.number)) es ≡ Some w.0 = ap (λ (v : Rows). lookup (is_at (nat_cmp c.args.number)) v.entries) c.self.view_is ∙ w.1 in
-    let same : lookup (is_at (nat_cmp c.args.number)) es ≡ Some r = sym c.remove.ensures.value ∙ c.unwrap-request.ensures in
     let last : i.next ≡ c.args.number + 1 = ap (λ (v : Rows). v.next) c.self.view_is ∙ c.requires.last in
     let gone = c.remove.ensures.entries ∙ removed c.args.number es c.self.invariant.0.ordered in
     let less : tags_of c.remove.new.self.entries ≡ without_tag c.args.number (tags_of es) = ap tags_of gone ∙ tags_less c.args.number es in (
       rw gone (retracted c.args.number w.0 es i.stamp i.next c.self.invariant.0 there w.2 last (subst (λ es. IsStrictlySortedBy nat_cmp (keys_of es)) gone c.remove.ensures.ordered)),
-      subst (λ tags. IsGrouped tags c.unlist.new.of_agents c.unlist.new.of_signals) (sym less) (c.unlist.ensures (tags_of es) (tagged c.args.number r es (found c.args.number es r c.self.invariant.0.ordered same)) c.self.invariant.1),
+      subst (λ tags. IsGrouped tags i.groups.entries) (sym less) (grouped_less c.args.number (tags_of es) i.groups.entries c.self.invariant.1),
     )
 
 pub returns : goal.returns

@@ -1,0 +1,14 @@
+use Rattle.std.proofs.Common.{sym, ap, subst, ◌∙◌, Some}
+use Rattle.std.specs.Option.{is_some, option_copied_mut}
+use Rattle.wl_index.specs.Groups.{Keeps, at}
+use Rattle.wl_index.proofs.Grouping.{updated}
+use Rattle.wl_index.proofs.groups.enter.Goals as goal
+
+pub returns-in-Some-clause-kept : goal.returns-in-Some-clause-kept
+returns-in-Some-clause-kept c =
+    let there = sym c.get_mut.ensures.value ∙ ap option_copied_mut c.in-Some.is in
+    let live = c.args.live.now.entries in
+    let group = c.enroll.new.group in
+    updated (λ q o. Keeps live (at q c.args.groups.now.entries) o) c.args.agent (Some group) c.args.groups.now.entries (c.get_mut.follows.lender group).entries ((c.get_mut.follows.holds group).3 (ap is_some there)).0
+    (subst (λ o. Keeps live o (Some group)) (sym there) c.enroll.ensures.kept)
+    (λ q. record { own = λ n is has. has; signed = λ s n is has. has })
