@@ -3,3 +3,4 @@ mod Cutting
 pub mod Keeping
 mod Aborting
 pub mod Aborted
+pub mod Refused

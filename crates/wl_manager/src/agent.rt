@@ -4,7 +4,8 @@ ghost use Rattle.std.specs.Prelude.{◌≡◌, ℕ, ◌+◌, ◌≤◌, true, �
 ghost use Rattle.std.specs.List.{list_any};
 ghost use Rattle.wl_types.specs.declared.answers.AbortAnswer.TheVariants.{AlreadyAborted};
 ghost use Rattle.wl_types.specs.declared.refusal.Refusal.TheVariants.{NoSuchAgent, NoSuchSignal};
-ghost use Rattle.wl_manager.specs.Agents.{is_released, entries_of_abort};
+ghost use Rattle.wl_machine.specs.declared.command.Command.TheVariants as command;
+ghost use Rattle.wl_manager.specs.Agents.{MayRefuse, is_released, entries_of_abort};
 
 use crate::count::Count;
 use crate::locked::{Asking, Leaving};
@@ -48,6 +49,7 @@ impl<C: LockCore, T: Count> Agent<C, T> {
 
     /// Asks for a lock. The ticket tells what becomes of it. Refused: as `LockCore::request`.
     pub fn request<R: Wait>(&mut self, rt: &R, ask: &Ask) -> Result<Ticket<C, T>, Refusal>
+        ensures refused { IfErr result (MayRefuse (command.Request self.old.number ask.now)) }
         ensures counted { OnOk result (T.COUNTS ≡ true → T.amount self.new.share ≡ T.amount self.old.share + 1) }
         ensures err { OnErr result (T.COUNTS ≡ true → T.amount self.new.share ≡ T.amount self.old.share) }
         ensures client { self.new.number ≡ self.old.number }
@@ -58,7 +60,11 @@ impl<C: LockCore, T: Count> Agent<C, T> {
         // Made before the lock is taken, so that others wait for less.
         let asking = Asking::new(self.manager.alloc, ask, &self.news);
         let mut locked = self.manager.locked.lock(rt);
-        let (number, owner) = locked.request_made(self.number, ask, asking, &mut self.share)?;
+        let (number, owner) =
+            match locked.request_made(self.number, ask, asking, &mut self.share) {
+                Ok(made) => made,
+                Err(refusal) => return Err(refusal),
+            };
         let tells = tells_of_another(locked.changes(), number);
         locked.trim();
         drop(locked);
@@ -89,6 +95,7 @@ impl<C: LockCore, T: Count> Agent<C, T> {
     /// A new signal, by its number. Refused: `TooManySignals` where this agent has made 1,024, `NumbersSpent`,
     /// `Memory`.
     pub fn new_signal<R: Wait>(&mut self, rt: &R) -> Result<u64, Refusal>
+        ensures refused { IfErr result (MayRefuse (command.NewSignal self.old.number)) }
         ensures counted { OnOk result (T.COUNTS ≡ true → T.amount self.new.share ≡ T.amount self.old.share + 1) }
         ensures err { OnErr result (T.COUNTS ≡ true → T.amount self.new.share ≡ T.amount self.old.share) }
         ensures client { self.new.number ≡ self.old.number }
@@ -123,6 +130,7 @@ impl<C: LockCore, T: Count> Agent<C, T> {
     /// Makes this window active or inactive: an inactive one may neither request nor query. Refused: `NotAWindow`,
     /// `Memory`.
     pub fn set_active<R: Wait>(&mut self, rt: &R, active: bool) -> Result<(), Refusal>
+        ensures refused { IfErr result (MayRefuse (command.SetActive self.old.number active)) }
         ensures counted { OnOk result (T.COUNTS ≡ true → T.amount self.new.share ≡ T.amount self.old.share + 1) }
         ensures err { OnErr result (T.COUNTS ≡ true → T.amount self.new.share ≡ T.amount self.old.share) }
         ensures client { self.new.number ≡ self.old.number }
@@ -135,6 +143,7 @@ impl<C: LockCore, T: Count> Agent<C, T> {
 
     /// What is held and what waits, after how many entries. Refused: `InvalidState`, `Memory`.
     pub fn query<R: Wait>(&mut self, rt: &R) -> Result<Sight, Refusal>
+        ensures refused { IfErr result (MayRefuse (command.Query self.old.number)) }
         ensures mine { IfOk result (λ sight. T.COUNTS ≡ true → T.amount self.old.share ≤ sight.seen) }
         ensures same { T.COUNTS ≡ true → T.amount self.new.share ≡ T.amount self.old.share }
         ensures client { self.new.number ≡ self.old.number }

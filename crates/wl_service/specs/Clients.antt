@@ -25,10 +25,15 @@ activity kind = if is_window kind then Ok tt else Err NotAWindow
 abbrev pub active_after : Kind → Bool → Bool → Bool
 active_after kind active wanted = if is_window kind then wanted else active
 
--- what holds of an opaque client; of a managed one nothing is said
+-- what holds of an opaque client
 abbrev pub IfOpaque : Who → (Kind → Bool → Type 0) → Type 0
 IfOpaque (Managed n) P = Unit
 IfOpaque (Opaque kind active) P = P kind active
+
+-- what holds of a managed client, by its number
+abbrev pub IfManaged : Who → (ℕ → Type 0) → Type 0
+IfManaged (Managed n) P = P n
+IfManaged (Opaque kind active) P = Unit
 
 -- a managed client stays, and of an opaque one only its activity may change
 abbrev pub made_active : Who → Bool → Who

@@ -4,7 +4,9 @@ ghost use Rattle.std.specs.Prelude.{◌≡◌, ◌⊎◌, [], true, Err, IfErr, 
 ghost use Rattle.wl_types.specs.declared.refusal.Refusal.TheVariants.{NoSuchAgent, NoSuchSignal, Security};
 ghost use Rattle.wl_types.specs.declared.answers.ReleaseAnswer.TheVariants.{NotHeld};
 ghost use Rattle.wl_machine.specs.Refusals.{no_storage};
-ghost use Rattle.wl_service.specs.Clients.{Managed, Opaque, IfOpaque, activity, made_active, number_of};
+ghost use Rattle.wl_machine.specs.declared.command.Command.TheVariants as command;
+ghost use Rattle.wl_manager.specs.Agents.{MayRefuse};
+ghost use Rattle.wl_service.specs.Clients.{Managed, Opaque, IfManaged, IfOpaque, activity, made_active, number_of};
 
 use crate::directory::Core;
 use crate::opaque::OpaqueAgent;
@@ -89,6 +91,7 @@ impl Client {
     /// Asks for a lock. The ticket tells what becomes of it. Refused: as `LockCore::request`; each request of an opaque
     /// client, by `InvalidState` where it is an inactive window, else by `Security`.
     pub fn request<R: Wait>(&mut self, rt: &R, ask: &Ask) -> Result<Ticket, Refusal>
+        ensures managed { IfManaged self.old (λ n. IfErr result (MayRefuse (command.Request n ask.now))) }
         ensures opaque { IfOpaque self.old (λ kind active. result ≡ Err (no_storage kind active)) }
         ensures same { self.new ≡ self.old }
     {
@@ -114,6 +117,7 @@ impl Client {
     /// A new signal, by its number. Refused: `TooManySignals` where this client has made 1,024, `NumbersSpent`,
     /// `Memory`; an opaque client by `Security`.
     pub fn new_signal<R: Wait>(&mut self, rt: &R) -> Result<u64, Refusal>
+        ensures managed { IfManaged self.old (λ n. IfErr result (MayRefuse (command.NewSignal n))) }
         ensures opaque { IfOpaque self.old (λ kind active. result ≡ Err Security) }
         ensures same { self.new ≡ self.old }
     {
@@ -144,6 +148,7 @@ impl Client {
     /// Makes this window active or inactive: an inactive one may neither request nor query. Refused: `NotAWindow`,
     /// and `Memory` unless the client is opaque.
     pub fn set_active<R: Wait>(&mut self, rt: &R, active: bool) -> Result<(), Refusal>
+        ensures managed { IfManaged self.old (λ n. IfErr result (MayRefuse (command.SetActive n active))) }
         ensures opaque { IfOpaque self.old (λ kind was. result ≡ activity kind) }
         ensures new { self.new ≡ made_active self.old active }
     {
@@ -156,6 +161,7 @@ impl Client {
     /// What is held and what waits in its manager, after how many entries. Refused: `InvalidState`, `Memory`; an opaque
     /// client as by `request`.
     pub fn query<R: Wait>(&mut self, rt: &R) -> Result<Sight, Refusal>
+        ensures managed { IfManaged self.old (λ n. IfErr result (MayRefuse (command.Query n))) }
         ensures opaque { IfOpaque self.old (λ kind active. result ≡ Err (no_storage kind active)) }
         ensures same { self.new ≡ self.old }
     {
