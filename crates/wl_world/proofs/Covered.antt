@@ -1,5 +1,5 @@
 -- That each agent's roll still has its requests, and those with news, after one more, a change, what was told and a leave.
-use Rattle.std.proofs.Common.{◌≡◌, ◌⊎◌, ℕ, ◌+◌, ◌<◌, ◌==◌, Bool, true, false, cond, List, [], ◌∷◌, ◌++◌, refl, sym, ap, subst, ◌∙◌, inl, inr}
+use Rattle.std.proofs.Common.{◌≡◌, ◌⊎◌, ℕ, ◌+◌, ◌<◌, ◌==◌, Bool, true, false, cond, List, [], ◌∷◌, ◌++◌, refl, sym, ap, subst, ◌∙◌, inl, inr, arith}
 use Rattle.std.specs.Prelude.{Option, Some, None, is_some}
 use Rattle.std.specs.List.{AllByRecursion, Contains}
 use Rattle.std.specs.List.Sorted.{IsStrictlySortedBy}
@@ -219,6 +219,23 @@ module _ (live live2 : List (ℕ × Request)) (rolls rolls2 : List (ℕ × Roll)
       news : (q : ℕ) (s : Request) (phase : Phase) → found q live2 ≡ Some s → s.news ≡ Some phase → (b : Bool) → (q == n) ≡ b → Contains (noted_of (found s.agent rolls2)) q
       news q s phase is loud true h = subst (λ (x : Request). Contains (noted_of (found x.agent rolls2)) q) (new q s is h) (subst (λ k. Contains (noted_of (found agent rolls2)) k) (sym (alike q n h)) enrolled.news)
       news q s phase is loud false h = still noted_of q s.agent (enrolled.noted q) (s.agent == agent) refl (index.noted q s phase (old q s is h) loud)
+
+-- a change of the request r, which has news already, so its number is noted
+pub renoted_index : (live live2 : List (ℕ × Request)) (rolls : List (ℕ × Roll)) → IsIndex live rolls → IsStrictlySortedBy nat_cmp (keys_of live2) → (change : Change) (r : Request)
+    → ((q : ℕ) → found q live2 ≡ cond (is_at (nat_cmp change.id) q) (Some (record r { news = Some change.phase })) (found q live)) → found change.id live ≡ Some r → is_some r.news ≡ true → IsIndex live2 rolls
+renoted_index live live2 rolls index ordered change r changed there loud = news r.news refl loud
+  where
+    same : (roll : Roll) → found r.agent rolls ≡ Some roll → (q : ℕ) (b : Bool) → (q == r.agent) ≡ b → found q rolls ≡ cond (is_at (nat_cmp r.agent) q) (Some roll) (found q rolls)
+    same roll at q true h = rw (same_number r.agent q, h) (ap (λ a. found a rolls) (alike q r.agent h) ∙ at)
+    same roll at q false h = rw (same_number r.agent q, h) refl
+
+    seated : (o : Option Roll) → found r.agent rolls ≡ o → Contains (noted_of o) change.id → IsIndex live2 rolls
+    seated None at has = absurd (omega (arith, has.1))
+    seated (Some roll) at has = noted_index live live2 rolls rolls index ordered change r roll roll changed there at refl (λ n has. has) has (λ q. same roll at q (q == r.agent) refl)
+
+    news : (o : Option Phase) → r.news ≡ o → is_some o ≡ true → IsIndex live2 rolls
+    news None quiet some = absurd cc
+    news (Some phase) is some = seated (found r.agent rolls) refl (index.noted change.id r phase there is)
 
 -- ---- a change, as what is done to each
 

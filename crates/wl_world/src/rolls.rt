@@ -105,22 +105,7 @@ pub(crate) fn add(
     Ok(())
 }
 
-/// A number is noted. What is news already, as the last that was, isn't noted again.
-fn jot(roll: &mut Roll, number: u64) -> Result<(), Memory>
-    ensures own { roll.new.own.items ≡ roll.old.own.items }
-    ensures noted { OnOk result ((other : ℕ) → Contains roll.old.noted.items other → Contains roll.new.noted.items other) }
-    ensures news { OnOk result (Contains roll.new.noted.items number) }
-{
-    if let Some(last) = roll.noted.last()
-        && *last == number
-    {
-        return Ok(());
-    }
-    roll.noted.push(number)?;
-    Ok(())
-}
-
-/// A change finds its request.
+/// A change finds its request. The number of one that has news already is noted.
 fn note(
     live: &mut BTreeMap<u64, Request>,
     rolls: &mut BTreeMap<u64, Roll>,
@@ -130,16 +115,18 @@ fn note(
     ensures index { OnOk result (IsIndex live.new.entries rolls.new.entries) }
     ensures noted { OnOk result (values_of live.new.entries ≡ map (with_change change) (values_of live.old.entries)) }
 {
-    let agent = match live.get_mut(&change.id) {
-        Some(request) => {
-            request.news = Some(change.phase);
-            request.agent
-        }
-        None => return Ok(()),
+    let Some(request) = live.get_mut(&change.id) else {
+        return Ok(());
     };
+    let agent = request.agent;
+    let is_noted = request.news.is_some();
+    request.news = Some(change.phase);
+    if is_noted {
+        return Ok(());
+    }
     match rolls.get_mut(&agent) {
         Some(roll) => {
-            jot(roll, change.id)?;
+            roll.noted.push(change.id)?;
             Ok(())
         }
         None => unreachable!(),
