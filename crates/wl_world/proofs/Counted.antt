@@ -15,14 +15,14 @@ use Rattle.wl_machine.specs.declared.command.Reply.TheVariants as reply
 use Rattle.wl_codec.specs.declared.message.Body.{Body}
 use Rattle.wl_codec.specs.declared.message.Body.TheVariants as body
 use Rattle.wl_codec.specs.declared.reply.Outcome.{Outcome}
-use Rattle.wl_session.specs.Told.{IsByNumber, Look}
+use Rattle.wl_session.specs.Told.{Look}
 use Rattle.wl_world.specs.declared.requests.Request.{Request}
 use Rattle.wl_types.specs.declared.answers.TakeAnswer.TheVariants as took
 use Rattle.std.proofs.Common.{map}
-use Rattle.wl_world.specs.Requests.{IsRising, listed, news_of, told}
+use Rattle.wl_world.specs.Requests.{IsRising, listed, told}
 use Rattle.wl_world.specs.Origins.{Core, Origin, Acted, act, after, is_granted, outcome_of, stepped, take_look}
 use Rattle.wl_world.specs.Views.{made}
-use Rattle.wl_world.proofs.Rising.{added, filtered, higher, news_rising, noted_rising, told_rising}
+use Rattle.wl_world.proofs.Rising.{added, filtered, higher, noted_rising, told_rising}
 
 -- a new request has a number from low on, and the next is above it
 abbrev Counted : ℕ → ℕ → Reply → Type 0
@@ -133,11 +133,6 @@ take_next core look = granted (is_granted look.1)
 takes_next : (core : Core) (looks : List Look) → (fold take_look core looks).state.next ≡ core.state.next
 takes_next core [] = refl
 takes_next core (look ∷ looks) = takes_next (take_look core look) looks ∙ take_next core look
-
-pub news_in_order : {A E : Type 0} (items : A → List Look) (result : Result A E) (agent high : ℕ) (requests given : List Request) → given ≡ requests → IsRising 0 high requests
-    → IfOk result (λ found. items found ≡ news_of agent given) → IfOk result (λ found. IsByNumber (items found))
-news_in_order items (Err e) agent high requests given same r is = tt
-news_in_order items (Ok found) agent high requests given same r is = subst IsByNumber (sym (is ∙ ap (news_of agent) same)) (news_rising agent 0 high requests r)
 
 pub told_in_order : (agent : ℕ) (s t : Core) (looks : List Look) (old new : List Request) → t ≡ fold take_look s looks → new ≡ told agent old
     → IsRising 0 s.state.next.request old → IsRising 0 t.state.next.request new

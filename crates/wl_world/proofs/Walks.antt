@@ -1,11 +1,13 @@
 -- Requests by number, to each of which the same is done: all that stand at some of the numbers, one after another.
-use Rattle.std.proofs.Common.{◌≡◌, ◌⊎◌, ℕ, suc, ◌<◌, ◌+◌, ◌==◌, Bool, true, false, cond, List, [], ◌∷◌, drop, length, get_or, refl, sym, ap, subst, ◌∙◌, inl, inr, arith, drop-cons, add-one}
+use Rattle.std.proofs.Common.{◌≡◌, ◌⊎◌, ℕ, suc, ◌<◌, ◌≤◌, ◌+◌, ◌==◌, Bool, true, false, cond, List, [], ◌∷◌, drop, length, get_or, refl, sym, ap, subst, ◌∙◌, inl, inr, arith, drop-cons, add-one}
 use Rattle.std.specs.Prelude.{Option, Some, None}
 use Rattle.std.specs.List.{Contains}
+use Rattle.std.specs.List.Sorted.{IsStrictlySortedBy}
 use Rattle.std.specs.BTreeMap.{is_at}
 use Rattle.std.specs.Option.{option_and_then}
 use Rattle.std.specs.Ordering.{nat_cmp}
 use Rattle.std.proofs.lemmas.Bool.Decides.{nat_tests}
+use Rattle.std.proofs.lemmas.Map.Keys.{below_from_sorted}
 use Rattle.std.proofs.lemmas.Map.Made.{Contains-tail}
 use Rattle.wl_world.specs.declared.requests.Request.{Request}
 use Rattle.wl_world.specs.Requests.{has_ended}
@@ -81,6 +83,19 @@ pub one_more_of : (f : Request → Option Request) → IsIdempotent f → (n i :
 one_more_of f once n i numbers start before after within is way each =
     let turn : drop i numbers ≡ n ∷ drop (i + 1) numbers = rw add-one (drop-cons numbers i 0 within ∙ ap (λ k. k ∷ drop (suc i) numbers) (sym is)) in
     one_more f once n (drop (i + 1) numbers) start before after (subst (IsUnderWay f start before) turn way) each
+
+-- at the numbers from a place on nothing was done yet
+abbrev pub IsUntouchedFrom : ℕ → List ℕ → List (ℕ × Request) → List (ℕ × Request) → Type 0
+IsUntouchedFrom i numbers start now = (k : ℕ) → i ≤ k → k < length numbers → found (get_or numbers k 0) now ≡ found (get_or numbers k 0) start
+
+-- nor was it by the step at that place, where the numbers rise
+pub untouched_more : (f : Request → Option Request) (n i : ℕ) (numbers : List ℕ) (start before after : List (ℕ × Request)) → IsStrictlySortedBy nat_cmp numbers → n ≡ get_or numbers i 0
+    → IsEachAt f n before after → IsUntouchedFrom i numbers start before → IsUntouchedFrom (i + 1) numbers start after
+untouched_more f n i numbers start before after sorted is each untouched k from within =
+    let low : n < get_or numbers k 0 = subst (λ m. m < get_or numbers k 0) (sym is) (below_from_sorted numbers i k 0 sorted (omega (arith, from)) within) in
+    let other : (get_or numbers k 0 == n) ≡ false = grind (arith, nat_tests, low) in
+    let same : found (get_or numbers k 0) after ≡ found (get_or numbers k 0) before = each (get_or numbers k 0) ∙ rw (same_number n (get_or numbers k 0), other) refl in
+    same ∙ untouched k (omega (arith, from)) within
 
 -- all are done
 pub all_done : (f : Request → Option Request) (start now : List (ℕ × Request)) → IsUnderWay f start now [] → IsEach f start now

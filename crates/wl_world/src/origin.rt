@@ -1,6 +1,6 @@
 //! The manager of one origin.
 
-ghost use Rattle.std.specs.Prelude.{◌≡◌, IfOk, map};
+ghost use Rattle.std.specs.Prelude.{◌≡◌, IfOk, OnOk, map};
 ghost use Rattle.std.specs.List.{fold};
 ghost use Rattle.wl_machine.specs.declared.command.Command.TheVariants as command;
 ghost use Rattle.wl_session.specs.Told.{IsByNumber};
@@ -81,24 +81,16 @@ impl<C: LockCore> Origin<C> {
         result
     }
 
-    /// The news of an agent, by number.
-    pub(crate) fn news_of(&self, alloc: Global, agent: u64) -> Result<Vec<(u64, Phase)>, Memory>
-        ensures found { IfOk result (λ news. news.items ≡ news_of agent self.now.requests) }
+    /// Tells the agent its news, by number: takes each granted lock in it.
+    #[tactic(auto, unfolding(crate::specs::Origins::telling))]
+    pub(crate) fn tell(&mut self, alloc: Global, agent: u64) -> Result<Vec<(u64, Phase)>, Memory>
+        ensures told { OnOk result (self.new ≡ telling agent (news_of agent self.old.requests) self.old) }
+        ensures taken { IfOk result (λ news. news.items ≡ map as_taken (news_of agent self.old.requests)) }
         ensures by_number { IfOk result (λ news. IsByNumber news.items) }
     {
-        self.requests.news_of(alloc, agent)
-    }
-
-    /// Tells the agent its news: takes each granted lock in it.
-    #[tactic(auto, unfolding(crate::specs::Origins::telling))]
-    pub(crate) fn tell(&mut self, agent: u64, news: &mut [(u64, Phase)])
-        requires { IsByNumber news.old }
-        ensures told { self.new ≡ telling agent news.old self.old }
-        ensures taken { news.new ≡ map as_taken news.old }
-        ensures by_number { IsByNumber news.new }
-    {
-        take_all(&mut self.core, news);
-        self.requests.tell(agent);
+        let mut news = self.requests.tell(alloc, agent)?;
+        take_all(&mut self.core, &mut news);
+        Ok(news)
     }
 }
 

@@ -3,7 +3,7 @@
 ghost use Rattle.std.specs.Prelude.{◌≡◌, ◌++◌, ◌∷◌, [], IfOk, OnOk, OnErr};
 ghost use Rattle.wl_world.specs.Requests.{IsRising, news_of, noted, told, waiting, without};
 
-use crate::rolls::{Roll, add, forget, leave, news_in, note_all, tell};
+use crate::rolls::{Roll, add, forget, leave, note_all, tell};
 use std::alloc::Global;
 use std::collections::BTreeMap;
 use std::marker::Model;
@@ -74,18 +74,17 @@ impl Requests {
         result
     }
 
-    /// The news of an agent.
-    pub(crate) fn news_of(&self, alloc: Global, agent: u64) -> Result<Vec<(u64, Phase)>, Memory>
-        ensures { IfOk result (λ news. news.items ≡ news_of agent self.now) }
+    /// The agent is told its news. After a want of memory no request is left.
+    pub(crate) fn tell(&mut self, alloc: Global, agent: u64) -> Result<Vec<(u64, Phase)>, Memory>
+        ensures news { IfOk result (λ news. news.items ≡ news_of agent self.old) }
+        ensures ok { OnOk result (self.new ≡ told agent self.old) }
+        ensures err { OnErr result (self.new ≡ []) }
     {
-        news_in(alloc, &self.live, &self.rolls, agent)
-    }
-
-    /// The agent was told its news.
-    pub(crate) fn tell(&mut self, agent: u64)
-        ensures { self.new ≡ told agent self.old }
-    {
-        tell(&mut self.live, &mut self.rolls, agent);
+        let result = tell(alloc, &mut self.live, &mut self.rolls, agent);
+        if result.is_err() {
+            forget(&mut self.live, &mut self.rolls);
+        }
+        result
     }
 
     /// The agent has left.

@@ -6,7 +6,7 @@ ghost use Rattle.std.specs.List.{Contains, flat_map};
 ghost use Rattle.std.specs.List.Sorted.{IsStrictlyIncreasing, IsStrictlySortedBy};
 ghost use Rattle.std.specs.Map.{keys_of, values_of};
 ghost use Rattle.std.specs.Ordering.{nat_cmp};
-ghost use Rattle.wl_world.specs.Requests.{IsRising, has_ended, news_of, noted, told, waiting, with_change, without};
+ghost use Rattle.wl_world.specs.Requests.{IsRising, news_of, noted, told, waiting, with_change, without};
 ghost use Rattle.wl_world.specs.Rolls.{AreLooks, IsCovered, IsEach, IsEachAt, IsEnrolled, IsIndex, found, leave_one, looks_of, tell_one};
 
 use crate::requests::Request;
@@ -149,38 +149,6 @@ pub(crate) fn note_all(
     Ok(())
 }
 
-/// The news of an agent, by number.
-pub(crate) fn news_in(
-    alloc: Global,
-    live: &BTreeMap<u64, Request>,
-    rolls: &BTreeMap<u64, Roll>,
-    agent: u64,
-) -> Result<Vec<(u64, Phase)>, Memory>
-    requires { IsIndex live.now.entries rolls.now.entries }
-    ensures { IfOk result (λ news. news.items ≡ news_of agent (values_of live.now.entries)) }
-{
-    match rolls.get(&agent) {
-        Some(roll) => looks_in(alloc, live, agent, &roll.noted),
-        None => Ok(Vec::new(alloc)),
-    }
-}
-
-/// What is news of these requests of an agent, by number. Numbers in order, as most are, are looked up as they stand.
-fn looks_in(
-    alloc: Global,
-    live: &BTreeMap<u64, Request>,
-    agent: u64,
-    numbers: &Vec<u64>,
-) -> Result<Vec<(u64, Phase)>, Memory>
-    ensures { IfOk result (λ looks. AreLooks agent live.now.entries numbers.now.items looks.items) }
-{
-    if is_rising(numbers) {
-        return looks_at(alloc, live, agent, numbers);
-    }
-    let sorted = in_order(numbers)?;
-    looks_at(alloc, live, agent, &sorted)
-}
-
 /// Whether each number is greater than the one before.
 fn is_rising(numbers: &[u64]) -> bool
     ensures { result ≡ true → IsStrictlyIncreasing numbers.now }
@@ -193,108 +161,103 @@ fn is_rising(numbers: &[u64]) -> bool
     true
 }
 
-/// The numbers in order, each once.
-fn in_order(numbers: &Vec<u64>) -> Result<Vec<u64>, Memory>
-    ensures sorted { IfOk result (λ sorted. IsStrictlySortedBy nat_cmp sorted.items) }
-    ensures all { IfOk result (λ sorted. (number : ℕ) → Contains numbers.now.items number → Contains sorted.items number) }
+/// The numbers in order, each once. Most stand so already.
+fn arrange(numbers: &mut Vec<u64>)
+    ensures sorted { IsStrictlySortedBy nat_cmp numbers.new.items }
+    ensures all { (number : ℕ) → Contains numbers.old.items number → Contains numbers.new.items number }
 {
-    let mut sorted = numbers.clone()?;
-    sorted.sort_unstable();
-    sorted.dedup();
-    Ok(sorted)
-}
-
-/// What is news of these requests of an agent, one after another.
-fn looks_at(
-    alloc: Global,
-    live: &BTreeMap<u64, Request>,
-    agent: u64,
-    numbers: &[u64],
-) -> Result<Vec<(u64, Phase)>, Memory>
-    ensures { IfOk result (λ looks. looks.items ≡ flat_map (λ number. looks_of agent (found number live.now.entries)) numbers.now) }
-{
-    let mut looks = Vec::new(alloc);
-    for number in numbers {
-        look_at(live, agent, *number, &mut looks)?;
+    if is_rising(numbers) {
+        return;
     }
-    Ok(looks)
+    numbers.sort_unstable();
+    numbers.dedup();
 }
 
-/// What is news of this request comes to the end of a list, if it is the agent's.
-fn look_at(
-    live: &BTreeMap<u64, Request>,
+/// What is news of a request comes to the end of a list, if it is the agent's, and it leaves if it has ended.
+fn tell_at(
+    live: &mut BTreeMap<u64, Request>,
     agent: u64,
     number: u64,
     looks: &mut Vec<(u64, Phase)>,
 ) -> Result<(), Memory>
-    ensures { OnOk result (looks.new.items ≡ looks.old.items ++ looks_of agent (found number live.now.entries)) }
+    ensures ordered { OnOk result (IsStrictlySortedBy nat_cmp (keys_of live.new.entries)) }
+    ensures each { OnOk result (IsEachAt (tell_one agent) number live.old.entries live.new.entries) }
+    ensures looks { OnOk result (looks.new.items ≡ looks.old.items ++ looks_of agent (found number live.old.entries)) }
 {
-    if let Some(request) = live.get(&number)
+    if let Some(request) = live.get_mut(&number)
         && request.agent == agent
         && let Some(phase) = request.news
     {
         looks.push((request.number, phase))?;
+        if phase.is_end() {
+            live.remove(&number);
+        } else {
+            request.news = None;
+        }
     }
     Ok(())
 }
 
-/// Whether a request is the agent's and has ended.
-fn has_ended(agent: u64, request: &Request) -> bool
-    ensures { result ≡ has_ended agent request.now }
-{
-    request.agent == agent && matches!(request.news, Some(phase) if phase.is_end())
-}
-
-/// A request of the agent was told: it leaves if it has ended, or has no news then.
-fn tell_at(live: &mut BTreeMap<u64, Request>, agent: u64, number: u64)
-    ensures ordered { IsStrictlySortedBy nat_cmp (keys_of live.new.entries) }
-    ensures each { IsEachAt (tell_one agent) number live.old.entries live.new.entries }
-{
-    if let Some(request) = live.get_mut(&number) {
-        if has_ended(agent, request) {
-            live.remove(&number);
-        } else if request.agent == agent {
-            request.news = None;
-        }
-    }
-}
-
-/// All that is noted of an agent was told.
-fn tell_all(live: &mut BTreeMap<u64, Request>, agent: u64, numbers: &[u64])
+/// All that is noted of an agent, one after another.
+fn tell_all(
+    alloc: Global,
+    live: &mut BTreeMap<u64, Request>,
+    agent: u64,
+    numbers: &[u64],
+) -> Result<Vec<(u64, Phase)>, Memory>
     requires ordered { IsStrictlySortedBy nat_cmp (keys_of live.old.entries) }
+    requires sorted { IsStrictlySortedBy nat_cmp numbers.now }
     requires covered { IsCovered (tell_one agent) live.old.entries numbers.now }
-    ensures ordered { IsStrictlySortedBy nat_cmp (keys_of live.new.entries) }
-    ensures each { IsEach (tell_one agent) live.old.entries live.new.entries }
+    ensures ordered { OnOk result (IsStrictlySortedBy nat_cmp (keys_of live.new.entries)) }
+    ensures each { OnOk result (IsEach (tell_one agent) live.old.entries live.new.entries) }
+    ensures looks { IfOk result (λ looks. looks.items ≡ flat_map (λ number. looks_of agent (found number live.old.entries)) numbers.now) }
 {
+    let mut looks = Vec::new(alloc);
     for number in numbers {
-        tell_at(live, agent, *number);
+        tell_at(live, agent, *number, &mut looks)?;
     }
+    Ok(looks)
 }
 
-/// All that is on an agent's roll as noted was told.
-fn tell_roll(live: &mut BTreeMap<u64, Request>, agent: u64, roll: &mut Roll)
+/// All that is on an agent's roll as noted.
+fn tell_roll(
+    alloc: Global,
+    live: &mut BTreeMap<u64, Request>,
+    agent: u64,
+    roll: &mut Roll,
+) -> Result<Vec<(u64, Phase)>, Memory>
     requires ordered { IsStrictlySortedBy nat_cmp (keys_of live.old.entries) }
     requires covered { IsCovered (tell_one agent) live.old.entries roll.old.noted.items }
-    ensures ordered { IsStrictlySortedBy nat_cmp (keys_of live.new.entries) }
-    ensures each { IsEach (tell_one agent) live.old.entries live.new.entries }
-    ensures own { roll.new.own.items ≡ roll.old.own.items }
+    ensures ordered { OnOk result (IsStrictlySortedBy nat_cmp (keys_of live.new.entries)) }
+    ensures each { OnOk result (IsEach (tell_one agent) live.old.entries live.new.entries) }
+    ensures own { OnOk result (roll.new.own.items ≡ roll.old.own.items) }
+    ensures looks { IfOk result (λ looks. AreLooks agent live.old.entries roll.old.noted.items looks.items) }
 {
+    arrange(&mut roll.noted);
     let before = live.len();
-    tell_all(live, agent, &roll.noted);
+    let looks = tell_all(alloc, live, agent, &roll.noted)?;
     roll.noted.clear();
     let left = before.saturating_sub(live.len());
     roll.count = roll.count.saturating_sub(left);
+    Ok(looks)
 }
 
-/// The agent was told its news.
-pub(crate) fn tell(live: &mut BTreeMap<u64, Request>, rolls: &mut BTreeMap<u64, Roll>, agent: u64)
+/// The agent is told its news, by number.
+pub(crate) fn tell(
+    alloc: Global,
+    live: &mut BTreeMap<u64, Request>,
+    rolls: &mut BTreeMap<u64, Roll>,
+    agent: u64,
+) -> Result<Vec<(u64, Phase)>, Memory>
     requires { IsIndex live.old.entries rolls.old.entries }
-    ensures index { IsIndex live.new.entries rolls.new.entries }
-    ensures told { values_of live.new.entries ≡ told agent (values_of live.old.entries) }
+    ensures index { OnOk result (IsIndex live.new.entries rolls.new.entries) }
+    ensures news { IfOk result (λ news. news.items ≡ news_of agent (values_of live.old.entries)) }
+    ensures told { OnOk result (values_of live.new.entries ≡ told agent (values_of live.old.entries)) }
 {
-    if let Some(roll) = rolls.get_mut(&agent) {
-        tell_roll(live, agent, roll);
-    }
+    let Some(roll) = rolls.get_mut(&agent) else {
+        return Ok(Vec::new(alloc));
+    };
+    tell_roll(alloc, live, agent, roll)
 }
 
 /// A request leaves if it is the agent's.

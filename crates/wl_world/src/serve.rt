@@ -49,8 +49,7 @@ pub(crate) fn serve<C: LockCore>(
         let text = session.finish_changed(Some(id), outcome, &[])?;
         return Ok(Answer { text, closed });
     }
-    let mut news = origin.news_of(alloc, agent)?;
-    origin.tell(agent, &mut news);
+    let news = origin.tell(alloc, agent)?;
     let text = session.finish_changed(Some(id), outcome, &news)?;
     Ok(Answer { text, closed })
 }
