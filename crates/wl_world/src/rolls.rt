@@ -12,6 +12,7 @@ ghost use Rattle.wl_world.specs.Rolls.{AreLooks, IsCovered, IsEach, IsEachAt, Is
 use crate::requests::Request;
 use std::alloc::Global;
 use std::collections::BTreeMap;
+use std::collections::btree_map::Entry;
 use wl_types::{Change, Memory, Phase};
 
 /// As a request comes, a roll has at most about twice as many numbers as its agent has live requests, and twice this
@@ -260,16 +261,20 @@ pub(crate) fn tell(
     tell_roll(alloc, live, agent, roll)
 }
 
-/// A request leaves if it is the agent's.
+/// A request leaves if it is the agent's. A number that no room is made for is of none.
 fn leave_at(live: &mut BTreeMap<u64, Request>, agent: u64, number: u64)
     requires { IsStrictlySortedBy nat_cmp (keys_of live.old.entries) }
     ensures ordered { IsStrictlySortedBy nat_cmp (keys_of live.new.entries) }
     ensures each { IsEachAt (leave_one agent) number live.old.entries live.new.entries }
 {
-    if let Some(request) = live.get(&number)
-        && request.agent == agent
-    {
-        live.remove(&number);
+    let Ok(entry) = live.entry(number) else {
+        return;
+    };
+    let Entry::Occupied(entry) = entry else {
+        return;
+    };
+    if entry.get().agent == agent {
+        entry.remove();
     }
 }
 
