@@ -1,5 +1,5 @@
 -- That each agent's roll still has its requests, and those with news, after one more, a change, what was told and a leave.
-use Rattle.std.proofs.Common.{◌≡◌, ◌⊎◌, ℕ, ◌+◌, ◌<◌, ◌==◌, Bool, true, false, cond, List, [], ◌∷◌, ◌++◌, refl, sym, ap, subst, ◌∙◌, inl, inr, arith}
+use Rattle.std.proofs.Common.{◌≡◌, ◌⊎◌, ℕ, ◌+◌, ◌<◌, ◌==◌, Bool, true, false, cond, List, [], ◌∷◌, ◌++◌, refl, sym, ap, subst, ◌∙◌, inl, inr, map, arith}
 use Rattle.std.specs.Prelude.{Option, Some, None, is_some}
 use Rattle.std.specs.List.{AllByRecursion, Contains}
 use Rattle.std.specs.List.Sorted.{IsStrictlySortedBy}
@@ -9,6 +9,7 @@ use Rattle.std.specs.Option.{option_and_then, unwrap_or}
 use Rattle.std.specs.Ordering.{nat_cmp}
 use Rattle.std.specs.Cmp.{nat_cmp_is, nat_cmp_total}
 use Rattle.std.specs.declared.cmp.Ordering.TheVariants.{Greater}
+use Rattle.std.proofs.lemmas.Bool.Decides.{nat_tests}
 use Rattle.std.proofs.lemmas.List.{map-append}
 use Rattle.std.proofs.lemmas.List.Elements.{All-weaker, recursion_from_All}
 use Rattle.std.proofs.lemmas.Map.Views.{All-found}
@@ -17,8 +18,8 @@ use Rattle.wl_types.specs.declared.phases.Phase.{Phase}
 use Rattle.wl_types.specs.declared.phases.Change.{Change}
 use Rattle.wl_world.specs.declared.requests.Request.{Request}
 use Rattle.wl_world.specs.declared.rolls.Roll.{Roll}
-use Rattle.wl_world.specs.Requests.{IsRising, has_ended, waiting, with_change}
-use Rattle.wl_world.specs.Rolls.{IsCovered, IsEach, IsEnrolled, IsIndex, found, leave_one, noted_of, own_of, tell_one}
+use Rattle.wl_world.specs.Requests.{IsRising, has_ended, with_change}
+use Rattle.wl_world.specs.Rolls.{IsCovered, IsEach, IsEnrolled, IsIndex, coming, found, leave_one, noted_of, own_of, tell_one}
 use Rattle.wl_world.proofs.Walks.{alike, apart, itself, same_number}
 
 -- ---- what stands at a number after f
@@ -185,9 +186,9 @@ module _ (live live2 : List (ℕ × Request)) (rolls rolls2 : List (ℕ × Roll)
       news n s phase is loud false h = more n s.agent (s.agent == r.agent) refl (index.noted n s phase (old n s is h) loud)
 
   -- one request more
-  pub added_index : (agent n : ℕ) → ((q : ℕ) → found q live2 ≡ cond (is_at (nat_cmp n) q) (Some (waiting agent n)) (found q live)) → IsEnrolled live (found agent rolls) (found agent rolls2) n
+  pub added_index : (agent n : ℕ) (phase : Phase) → ((q : ℕ) → found q live2 ≡ cond (is_at (nat_cmp n) q) (Some (coming agent n phase)) (found q live)) → IsEnrolled live (found agent rolls) (found agent rolls2) n
       → ((q : ℕ) → (q ≡ agent → ⊥) → found q rolls2 ≡ found q rolls) → IsIndex live2 rolls2
-  added_index agent n added enrolled others = record {
+  added_index agent n phase added enrolled others = record {
     ordered = ordered;
     numbers = λ q s is. numbers q s is (q == n) refl;
     own = λ q s is. owned q s is (q == n) refl;
@@ -195,7 +196,7 @@ module _ (live live2 : List (ℕ × Request)) (rolls rolls2 : List (ℕ × Roll)
   }
     where
       w : Request
-      w = waiting agent n
+      w = coming agent n phase
 
       new : (q : ℕ) (s : Request) → found q live2 ≡ Some s → (q == n) ≡ true → w ≡ s
       new q s is h = ap (λ o. unwrap_or o w) (sym (here n (Some w) live live2 added q h) ∙ is)
@@ -284,9 +285,31 @@ below : (low high : ℕ) (es : List (ℕ × Request)) → AllByRecursion (λ (e 
 below low high [] is rising = tt
 below low high (e ∷ es) is (from, less, rest) = (subst (λ k. k < high) is.0 less, below (e.1.number + 1) high es is.1 rest)
 
-pub added_values : (agent n : ℕ) (m : BTreeMap ℕ Request) (es : List (ℕ × Request)) → IsStrictlySortedBy nat_cmp (keys_of m.entries) → ((q : ℕ) (s : Request) → found q m.entries ≡ Some s → s.number ≡ q)
-    → IsRising 0 n (values_of m.entries) → es ≡ insert_entry nat_cmp m.entries n (waiting agent n) → values_of es ≡ values_of m.entries ++ waiting agent n ∷ []
-added_values agent n m es ordered numbers rising inserted =
+pub added_values : (agent n : ℕ) (phase : Phase) (m : BTreeMap ℕ Request) (es : List (ℕ × Request)) → IsStrictlySortedBy nat_cmp (keys_of m.entries) → ((q : ℕ) (s : Request) → found q m.entries ≡ Some s → s.number ≡ q)
+    → IsRising 0 n (values_of m.entries) → es ≡ insert_entry nat_cmp m.entries n (coming agent n phase) → values_of es ≡ values_of m.entries ++ coming agent n phase ∷ []
+added_values agent n phase m es ordered numbers rising inserted =
     let all = All-weaker (λ (e : ℕ × Request). found e.0 m.entries ≡ Some e.1) (λ (e : ℕ × Request). e.1.number ≡ e.0) (λ e at. numbers e.0 e.1 at) m.entries (All-found nat_cmp_total m ordered) in
     let low = below 0 n m.entries (recursion_from_All (λ (e : ℕ × Request). e.1.number ≡ e.0) m.entries all) rising in
-    ap values_of (inserted ∙ entry_last m.entries n (waiting agent n) low) ∙ map-append (λ (e : ℕ × Request). e.1) m.entries ((n, waiting agent n) ∷ [])
+    ap values_of (inserted ∙ entry_last m.entries n (coming agent n phase) low) ∙ map-append (λ (e : ℕ × Request). e.1) m.entries ((n, coming agent n phase) ∷ [])
+
+-- ---- changes that come with a new request, newer than all
+
+-- none of the others is named
+unnamed : (low : ℕ) (change : Change) (requests : List Request) → IsRising low change.id requests → map (with_change change) requests ≡ requests
+unnamed low change [] rising = refl
+unnamed low change (r ∷ requests) (from, less, rest) =
+    let other : (r.number == change.id) ≡ false = grind (arith, nat_tests, less) in
+    rw other (ap (λ l. r ∷ l) (unnamed (r.number + 1) change requests rest))
+
+pub own_change : (agent n : ℕ) (phase : Phase) (change : Change) (requests : List Request) → change.id ≡ n → IsRising 0 n requests
+    → map (with_change change) (requests ++ coming agent n phase ∷ []) ≡ requests ++ coming agent n change.phase ∷ []
+own_change agent n phase change requests is rising =
+    let mine : (n == change.id) ≡ true = subst (λ k. (n == k) ≡ true) (sym is) (itself n) in
+    map-append (with_change change) requests (coming agent n phase ∷ []) ∙ ap (λ l. l ++ map (with_change change) (coming agent n phase ∷ [])) (unnamed 0 change requests (subst (λ k. IsRising 0 k requests) (sym is) rising))
+    ∙ rw mine refl
+
+pub other_change : (agent n : ℕ) (phase : Phase) (change : Change) (requests : List Request) → (change.id ≡ n → ⊥)
+    → map (with_change change) (requests ++ coming agent n phase ∷ []) ≡ map (with_change change) requests ++ coming agent n phase ∷ []
+other_change agent n phase change requests differs =
+    let other : (n == change.id) ≡ false = grind (arith, nat_tests, differs) in
+    map-append (with_change change) requests (coming agent n phase ∷ []) ∙ rw other refl

@@ -18,6 +18,10 @@ use Rattle.wl_world.specs.Requests.{IsRising, has_ended, look_of, without_news}
 abbrev pub found : {X : Type 0} → ℕ → List (ℕ × X) → Option X
 found number entries = lookup (is_at (nat_cmp number)) entries
 
+-- a request of an agent that has come to this phase, which is news
+abbrev pub coming : ℕ → ℕ → Phase → Request
+coming agent number phase = record { number = number; agent = agent; news = Some phase }
+
 -- the numbers on a roll; no roll has none
 abbrev pub own_of : Option Roll → List ℕ
 own_of None = []

@@ -49,13 +49,14 @@ impl Requests {
         }
     }
 
-    /// A new request waits. After a want of memory no request is left.
-    pub(crate) fn add(&mut self, agent: u64, number: u64) -> Result<(), Memory>
+    /// A new request waits, before the changes. After a want of memory no request is left.
+    pub(crate) fn add(&mut self, agent: u64, number: u64, changes: &[Change]) -> Result<(), Memory>
         requires greatest { IsRising 0 number self.old }
-        ensures ok { OnOk result (self.new ≡ self.old ++ waiting agent number ∷ []) }
+        ensures ok { OnOk result (self.new ≡ noted changes.now (self.old ++ waiting agent number ∷ [])) }
         ensures err { OnErr result (self.new ≡ []) }
     {
-        let result = add(self.alloc, &mut self.live, &mut self.rolls, agent, number);
+        let (live, rolls) = (&mut self.live, &mut self.rolls);
+        let result = add(self.alloc, live, rolls, agent, number, changes);
         if result.is_err() {
             forget(&mut self.live, &mut self.rolls);
         }

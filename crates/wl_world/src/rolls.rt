@@ -7,7 +7,7 @@ ghost use Rattle.std.specs.List.Sorted.{IsStrictlyIncreasing, IsStrictlySortedBy
 ghost use Rattle.std.specs.Map.{keys_of, values_of};
 ghost use Rattle.std.specs.Ordering.{nat_cmp};
 ghost use Rattle.wl_world.specs.Requests.{IsRising, news_of, noted, told, waiting, with_change, without};
-ghost use Rattle.wl_world.specs.Rolls.{AreLooks, IsCovered, IsEach, IsEachAt, IsEnrolled, IsIndex, found, leave_one, looks_of, tell_one};
+ghost use Rattle.wl_world.specs.Rolls.{AreLooks, IsCovered, IsEach, IsEachAt, IsEnrolled, IsIndex, coming, found, leave_one, looks_of, tell_one};
 
 use crate::requests::Request;
 use std::alloc::Global;
@@ -83,29 +83,6 @@ fn enter(
     Ok(())
 }
 
-/// A new request waits.
-pub(crate) fn add(
-    alloc: Global,
-    live: &mut BTreeMap<u64, Request>,
-    rolls: &mut BTreeMap<u64, Roll>,
-    agent: u64,
-    number: u64,
-) -> Result<(), Memory>
-    requires index { IsIndex live.old.entries rolls.old.entries }
-    requires greatest { IsRising 0 number (values_of live.old.entries) }
-    ensures index { OnOk result (IsIndex live.new.entries rolls.new.entries) }
-    ensures added { OnOk result (values_of live.new.entries ≡ values_of live.old.entries ++ waiting agent number ∷ []) }
-{
-    enter(alloc, live, rolls, agent, number)?;
-    let request = Request {
-        number,
-        agent,
-        news: Some(Phase::Pending),
-    };
-    live.insert(number, request)?;
-    Ok(())
-}
-
 /// A change finds its request. The number of one that has news already is noted.
 fn note(
     live: &mut BTreeMap<u64, Request>,
@@ -147,6 +124,56 @@ pub(crate) fn note_all(
     for change in changes {
         note(live, rolls, *change)?;
     }
+    Ok(())
+}
+
+/// Each change finds its request, but for those of one that is to come, newer than all. What that one comes to.
+fn note_others(
+    live: &mut BTreeMap<u64, Request>,
+    rolls: &mut BTreeMap<u64, Roll>,
+    number: u64,
+    changes: &[Change],
+) -> Result<Phase, Memory>
+    requires index { IsIndex live.old.entries rolls.old.entries }
+    requires greatest { IsRising 0 number (values_of live.old.entries) }
+    ensures index { OnOk result (IsIndex live.new.entries rolls.new.entries) }
+    ensures greatest { OnOk result (IsRising 0 number (values_of live.new.entries)) }
+    ensures noted { IfOk result (λ phase. (agent : ℕ) → values_of live.new.entries ++ coming agent number phase ∷ []
+        ≡ noted changes.now (values_of live.old.entries ++ waiting agent number ∷ [])) }
+{
+    let mut phase = Phase::Pending;
+    for change in changes {
+        if change.id == number {
+            phase = change.phase;
+            continue;
+        }
+        note(live, rolls, *change)?;
+    }
+    Ok(phase)
+}
+
+/// A new request comes with what it comes to at once, and each other change finds its request.
+pub(crate) fn add(
+    alloc: Global,
+    live: &mut BTreeMap<u64, Request>,
+    rolls: &mut BTreeMap<u64, Roll>,
+    agent: u64,
+    number: u64,
+    changes: &[Change],
+) -> Result<(), Memory>
+    requires index { IsIndex live.old.entries rolls.old.entries }
+    requires greatest { IsRising 0 number (values_of live.old.entries) }
+    ensures index { OnOk result (IsIndex live.new.entries rolls.new.entries) }
+    ensures added { OnOk result (values_of live.new.entries ≡ noted changes.now (values_of live.old.entries ++ waiting agent number ∷ [])) }
+{
+    let phase = note_others(live, rolls, number, changes)?;
+    enter(alloc, live, rolls, agent, number)?;
+    let request = Request {
+        number,
+        agent,
+        news: Some(phase),
+    };
+    live.insert(number, request)?;
     Ok(())
 }
 

@@ -34,7 +34,10 @@ fn accept<C: LockCore>(
         (noted (C.recent core.now) (listed agent outcome requests.old)) outcome) }
 {
     match &outcome {
-        Outcome::Request(number) => requests.add(agent, *number)?,
+        Outcome::Request(number) => {
+            requests.add(agent, *number, core.changes())?;
+            return Ok(outcome);
+        }
         Outcome::Closed => requests.leave(agent),
         _ => {}
     }
