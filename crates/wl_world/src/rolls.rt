@@ -127,7 +127,7 @@ pub(crate) fn note_all(
     Ok(())
 }
 
-/// Each change finds its request, but for those of one that is to come, newer than all. What that one comes to.
+/// Each change finds its request, but for those of the next request, which is not there yet: what it comes to by them.
 fn note_others(
     live: &mut BTreeMap<u64, Request>,
     rolls: &mut BTreeMap<u64, Roll>,
@@ -288,7 +288,7 @@ pub(crate) fn tell(
     tell_roll(alloc, live, agent, roll)
 }
 
-/// A request leaves if it is the agent's. A number that no room is made for is of none.
+/// A request leaves if it is the agent's. An entry is refused only at a number that nothing stands at.
 fn leave_at(live: &mut BTreeMap<u64, Request>, agent: u64, number: u64)
     requires { IsStrictlySortedBy nat_cmp (keys_of live.old.entries) }
     ensures ordered { IsStrictlySortedBy nat_cmp (keys_of live.new.entries) }
