@@ -1,5 +1,5 @@
 -- Requests by number, to each of which the same was done: what that makes of the list of them.
-use Rattle.std.proofs.Common.{◌≡◌, ℕ, ◌<◌, ◌==◌, Bool, true, false, cond, List, [], ◌∷◌, refl, sym, ap, subst, ◌∙◌, map, arith}
+use Rattle.std.proofs.Common.{◌≡◌, ℕ, ◌==◌, Bool, true, false, cond, List, [], ◌∷◌, refl, sym, ap, subst, ◌∙◌, map, arith}
 use Rattle.std.specs.Prelude.{Option, Some, None}
 use Rattle.std.specs.List.{AllByRecursion, filter_map}
 use Rattle.std.specs.List.Sorted.{IsStrictlySortedBy}
@@ -13,31 +13,15 @@ use Rattle.std.proofs.lemmas.Bool.Decides.{nat_tests}
 use Rattle.std.proofs.lemmas.Map.Keys.{sorted_head, sorted_tail}
 use Rattle.std.proofs.lemmas.Option.{none-some}
 use Rattle.wl_types.specs.declared.phases.Change.{Change}
+use Rattle.wl_machine.proofs.Covers.{all_above, equal, turned}
 use Rattle.wl_world.specs.declared.requests.Request.{Request}
 use Rattle.wl_world.specs.Requests.{has_ended, told, with_change, without, without_news}
 use Rattle.wl_world.specs.Rolls.{IsEach, found, leave_one, tell_one}
 
 -- ---- numbers in order
 
-pub less : (a b : ℕ) → nat_cmp a b ≡ Less → a < b
-less a b h = grind (arith, nat_tests, h)
-
-pub before : (a b c : ℕ) → nat_cmp a b ≡ Less → nat_cmp b c ≡ Less → nat_cmp a c ≡ Less
-before a b c h k = grind (arith, nat_tests, less a b h, less b c k)
-
-pub turned : (a b : ℕ) → nat_cmp a b ≡ Greater → nat_cmp b a ≡ Less
-turned a b h = grind (arith, nat_tests, h)
-
-pub equal : (a b : ℕ) → nat_cmp a b ≡ Equal → a ≡ b
-equal a b h = grind (arith, nat_tests, h)
-
 itself : (k : ℕ) → is_at (nat_cmp k) k ≡ true
 itself k = grind (arith, nat_tests)
-
--- what is above a number is above one that is lower
-pub all_above : (a b : ℕ) → nat_cmp a b ≡ Less → (ks : List ℕ) → AllByRecursion (λ k. nat_cmp b k ≡ Less) ks → AllByRecursion (λ k. nat_cmp a k ≡ Less) ks
-all_above a b h [] all = tt
-all_above a b h (k ∷ ks) all = (before a b k h all.0, all_above a b h ks all.1)
 
 absent : {X : Type 0} (k : ℕ) (es : List (ℕ × X)) → AllByRecursion (λ q. nat_cmp k q ≡ Less) (keys_of es) → found k es ≡ None
 absent k [] all = refl

@@ -1,6 +1,6 @@
 use Rattle.std.specs.Option.{is_some}
 use Rattle.wl_world.specs.Rolls.{found}
-use Rattle.wl_world.proofs.Looked.{Contains-filter}
+use Rattle.wl_machine.proofs.Covers.{Contains-filter}
 use Rattle.wl_world.proofs.rolls.clean.Goals as goal
 
 pub returns-then-len-saturating_add-clause-own : goal.returns-then-len-saturating_add-clause-own
