@@ -13,8 +13,9 @@ use Rattle.std.proofs.lemmas.List.{map-append, length-append}
 use Rattle.std.proofs.lemmas.List.Elements.{filter-append}
 use Rattle.wl_machine.specs.declared.rows.HeldRow.{HeldRow}
 use Rattle.wl_machine.specs.declared.rows.PendingRow.{PendingRow}
-use Rattle.wl_machine.specs.Grants.{is_exclusive, any_exclusive, in_use, locks, queue}
-use Rattle.wl_machine.proofs.Lists.{or_false, other_bytes, same_bytes, any_filter, filters_commute, filter_map}
+use Rattle.wl_machine.specs.Grants.{any_exclusive, in_use, locks, queue}
+use Rattle.wl_machine.proofs.Alone.{alone_filter}
+use Rattle.wl_machine.proofs.Lists.{or_false, other_bytes, same_bytes, filters_commute, filter_map}
 use Rattle.wl_index.specs.declared.table.Request.{Request}
 use Rattle.wl_index.specs.Stamps.{by_stamp, by_stamp_all}
 use Rattle.wl_index.specs.Rows.{Entry, other, waiting, holding, stamp_of, request_row, lock_row, held_of, pending_of}
@@ -195,16 +196,6 @@ one_touched name place touched lines line held held' pending pending' a d ready 
         old ∙ sym new ∙ out
 
 -- ---- one ends
-
-alone_filter : (p : HeldRow → Bool) (held : List HeldRow) → (any_exclusive held ≡ true → length held ≡ 1) → any_exclusive (filter p held) ≡ true → length (filter p held) ≡ 1
-alone_filter p [] one some = absurd (cc)
-alone_filter p (lock ∷ []) one some = at_test (p lock) refl
-  where
-    at_test : (b : Bool) → p lock ≡ b → length (filter p (lock ∷ [])) ≡ 1
-    at_test true is = rw is refl
-    at_test false is = absurd (let no : false ≡ true = rw is at some in cc)
-alone_filter p (lock ∷ next ∷ held) one some =
-    absurd (let two : length (lock ∷ next ∷ held) ≡ 1 = one (any_filter (λ (l : HeldRow). is_exclusive l.mode) p (lock ∷ next ∷ held) some) in cc)
 
 pub held_without : (number : ℕ) (es : List Entry) → held_of (filter (other number) es) ≡ filter (other_lock number) (held_of es)
 held_without number es = held_filter (other_lock number) es

@@ -6,7 +6,6 @@ use Rattle.std.specs.List.{AllByRecursion}
 use Rattle.std.specs.Cmp.Lexicographic.{same_text}
 use Rattle.std.proofs.lemmas.Bool.{not-true}
 use Rattle.std.proofs.lemmas.List.Elements.{filter-append}
-use Rattle.std.proofs.lemmas.List.Folds.{list_any-append}
 use Rattle.wl_types.specs.declared.words.Mode.{Mode}
 use Rattle.wl_types.specs.declared.words.Mode.TheVariants.{Exclusive, Shared}
 use Rattle.wl_types.specs.declared.phases.Phase.TheVariants.{Stolen}
@@ -24,9 +23,9 @@ use Rattle.wl_machine.specs.State.{State}
 use Rattle.wl_machine.specs.Refusals.{refusal, known_agent, is_inactive, unknown_signal, aborted_signal, live_count, spent}
 use Rattle.wl_machine.specs.Grants.{any_exclusive, grants, locks, queue, granted_lock, grant_change, Lists, lists_of, settle_name, settle_names}
 use Rattle.wl_machine.specs.Step.{Gives, with_name, new_request, steal_locks, lock_ends}
+use Rattle.wl_machine.proofs.Reachable.{among_added}
 use Rattle.wl_machine.proofs.Quiet.{quiet, grants_behind}
 use Rattle.wl_machine.proofs.Lists.{same_bytes, other_bytes, filters_commute}
-use Rattle.wl_index.specs.Names.{among}
 use Rattle.wl_index.proofs.Lists.{filter_whole, filter_none, all_weaker, filter_passed}
 use Rattle.wl_index.proofs.Local.{settle_one_name, settle_all_quiet}
 use Rattle.wl_index.proofs.Events.{with_lists, settled_is}
@@ -50,17 +49,6 @@ locks_own name held =
 queue_others : (pending : List PendingRow) (r : PendingRow) (m : List ℕ) → bytes_eq r.name m ≡ false → queue m (r ∷ pending) ≡ queue m pending
 queue_others pending r m differs = rw differs refl
 
-name_there : (name : List ℕ) (names : List (List ℕ)) → among name (with_name name names) ≡ true
-name_there name names = by (among name names) refl
-  where
-    or_true : (b : Bool) → (b || true) ≡ true
-    or_true true = refl
-    or_true false = refl
-
-    by : (b : Bool) → among name names ≡ b → among name (cond b names (names ++ name ∷ [])) ≡ true
-    by true h = h
-    by false h = list_any-append (λ n. bytes_eq n name) names (name ∷ []) ∙ rw (same_bytes name) (or_true (among name names))
-
 -- the lists where the request is first in its queue, and where it holds
 abbrev pub before_steal : List HeldRow → List PendingRow → PendingRow → Lists
 before_steal held pending r = lists_of (without_name r.name held) (r ∷ pending) (lock_ends Stolen (locks r.name held))
@@ -79,7 +67,7 @@ pub steal_settled : (names : List (List ℕ)) (held : List HeldRow) (pending : L
     → settle_names (after_steal held pending r) (with_name r.name names) ≡ settle_names (before_steal held pending r) (with_name r.name names)
 steal_settled names held pending r mode still =
     settle_all_quiet (with_name r.name names) (after_steal held pending r) (λ m. after_still m (bytes_eq m r.name) refl) ∙ sym (own_settled held pending r mode)
-    ∙ sym (settle_one_name r.name (with_name r.name names) (before_steal held pending r) (name_there r.name names) before_still)
+    ∙ sym (settle_one_name r.name (with_name r.name names) (before_steal held pending r) (among_added r.name names) before_still)
   where
     before_still : (m : List ℕ) → bytes_eq m r.name ≡ false → quiet (before_steal held pending r) m ≡ []
     before_still m differs = ap (λ h. grants h (queue m (r ∷ pending))) (locks_others r.name m held differs) ∙ ap (grants (locks m held)) (queue_others pending r m (other_bytes r.name m differs)) ∙ still m

@@ -25,13 +25,14 @@ use Rattle.wl_machine.proofs.Quiet.{grants_behind, grants_beside, shared_locks, 
 use Rattle.wl_machine.proofs.Runs.{after_run, either}
 
 -- locks of one name
-abbrev alone : List HeldRow → Type 0
+abbrev pub alone : List HeldRow → Type 0
 alone held = any_exclusive held ≡ true → length held ≡ 1
 
 abbrev All_alone : List HeldRow → Type 0
 All_alone held = (name : List ℕ) → alone (locks name held)
 
-alone_filter : (p : HeldRow → Bool) (held : List HeldRow) → alone held → alone (filter p held)
+-- of locks of which one that is exclusive is alone, some
+pub alone_filter : (p : HeldRow → Bool) (held : List HeldRow) → alone held → alone (filter p held)
 alone_filter p [] one some = absurd (cc)
 alone_filter p (lock ∷ []) one some = at_test (p lock) refl
   where

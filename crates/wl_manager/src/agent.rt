@@ -60,11 +60,10 @@ impl<C: LockCore, T: Count> Agent<C, T> {
         // Made before the lock is taken, so that others wait for less.
         let asking = Asking::new(self.manager.alloc, ask, &self.news);
         let mut locked = self.manager.locked.lock(rt);
-        let (number, owner) =
-            match locked.request_made(self.number, ask, asking, &mut self.share) {
-                Ok(made) => made,
-                Err(refusal) => return Err(refusal),
-            };
+        let (number, owner) = match locked.request_made(self.number, ask, asking, &mut self.share) {
+            Ok(made) => made,
+            Err(refusal) => return Err(refusal),
+        };
         let tells = tells_of_another(locked.changes(), number);
         locked.trim();
         drop(locked);

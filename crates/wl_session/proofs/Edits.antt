@@ -1,9 +1,10 @@
 -- Edits at a number's place are `put`, and ends leave.
 use Rattle.std.proofs.Common.{◌≡◌, ℕ, suc, ◌+◌, ◌<◌, List, [], ◌∷◌, ◌++◌, Bool, true, false, cond, All, filter, fold, length, get_or, take, drop, set, ltb, refl, sym, ap, subst, ◌∙◌, arith}
-use Rattle.std.specs.List.{AllByRecursion, insert, remove}
+use Rattle.std.specs.List.{insert, remove}
 use Rattle.std.proofs.lemmas.List.{take-append-drop, take-set, drop-set}
 use Rattle.std.proofs.lemmas.List.Elements.{recursion_from_All, All-filter, filter-append, filter_passes}
 use Rattle.std.proofs.lemmas.List.Sums.{fold_more}
+use Rattle.wl_types.proofs.Lists.{filter_whole}
 use Rattle.wl_session.specs.Told.{Look, IsByNumber, IsToldList, is_live, before, beyond, put, still_told}
 use Rattle.wl_session.specs.Places.{IsAt, IsGapFor}
 use Rattle.wl_session.specs.Upkeep.{IsKept}
@@ -20,15 +21,11 @@ insert_is_put ls l at p = rw (p.lower, p.higher) refl
 
 -- ---- ends leave
 
-filter_all : (p : Look → Bool) (ls : List Look) → AllByRecursion (λ l. p l ≡ true) ls → filter p ls ≡ ls
-filter_all p [] h = refl
-filter_all p (l ∷ ls) h = rw h.0 (ap (λ (xs : List Look). l ∷ xs) (filter_all p ls h.1))
-
 pub live_of_told : (ls : List Look) → IsToldList ls → filter is_live ls ≡ ls
-live_of_told ls t = filter_all is_live ls (recursion_from_All _ _ t.live)
+live_of_told ls t = filter_whole is_live ls (recursion_from_All _ _ t.live)
 
 live_part : (p : Look → Bool) (ls : List Look) → All (λ l. is_live l ≡ true) ls → filter is_live (filter p ls) ≡ filter p ls
-live_part p ls live = filter_all is_live (filter p ls) (recursion_from_All _ _ (All-filter p (λ l. is_live l ≡ true) ls live))
+live_part p ls live = filter_whole is_live (filter p ls) (recursion_from_All _ _ (All-filter p (λ l. is_live l ≡ true) ls live))
 
 put_live : (ls : List Look) (l : Look) (b : Bool) → All (λ l. is_live l ≡ true) ls → is_live l ≡ b
     → filter is_live (put ls l) ≡ before l.0 ls ++ cond b (l ∷ beyond l.0 ls) (beyond l.0 ls)
@@ -88,7 +85,7 @@ still_told_more told looks now next i d lt so_far made =
 
 -- ends may leave before the looks are put or after them
 pub live_then_told : (xs looks : List Look) → filter is_live (fold put xs looks) ≡ still_told (filter is_live xs) looks
-live_then_told xs [] = sym (filter_all is_live (filter is_live xs) (recursion_from_All _ _ (filter_passes is_live xs)))
+live_then_told xs [] = sym (filter_whole is_live (filter is_live xs) (recursion_from_All _ _ (filter_passes is_live xs)))
 live_then_told xs (l ∷ ls) =
     live_then_told (put xs l) ls
     ∙ ap (λ (now : List Look). still_told now ls) (sym (live_first xs l))
