@@ -3,6 +3,7 @@
 mod crowds;
 mod endings;
 mod frames;
+mod gates;
 mod loopback;
 mod relays;
 mod talks;
