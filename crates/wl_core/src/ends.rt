@@ -1,7 +1,9 @@
 //! What an event takes or ends.
-ghost use Rattle.std.specs.Prelude.{◌≡◌, ◌+◌, ◌≤◌, ◌<◌, ◌++◌, map, filter, not, vec_len, vec_capacity, ◌==◌, ◌&&◌};
+ghost use Rattle.std.specs.Prelude.{◌≡◌, ◌+◌, ◌≤◌, ◌<◌, [], ◌∷◌, ◌++◌, map, filter, not, vec_len, vec_capacity, ◌==◌, ◌&&◌, Some};
 ghost use Rattle.std.specs.List.{list_any, slice_get};
+ghost use Rattle.std.specs.Option.{option_to_list};
 ghost use Rattle.wl_machine.specs.Grants.{locks};
+ghost use Rattle.wl_machine.specs.Least.{IsLeast, above};
 ghost use Rattle.wl_machine.specs.Step.{is_lock_of, lock_ends, with_taken, is_untaken, is_signal, request_ends, is_abortable};
 ghost use Rattle.wl_core.specs.Ends.{selects_lock, selects_request};
 
@@ -174,4 +176,38 @@ pub(crate) fn nth_untaken(held: &[HeldRow], agent: u64, signal: u64, i: u64) -> 
         }
     }
     None
+}
+
+/// The least number above `after` among the agent's untaken locks with a signal.
+pub(crate) fn least_untaken(
+    held: &[HeldRow],
+    agent: u64,
+    signal: u64,
+    after: u64,
+) -> Option<u64>
+    ensures { IsLeast (above after (map (λ lock. lock.number) (filter (is_abortable agent signal) held.now))) result }
+{
+    let mut least = None;
+    for lock in held {
+        if is_abortable_lock(lock, agent, signal) && lock.number > after {
+            least = Some(lower(least, lock.number));
+        }
+    }
+    least
+}
+
+/// The lower of a number and one found before, if there is one.
+fn lower(found: Option<u64>, number: u64) -> u64
+    ensures { IsLeast (option_to_list found ++ number ∷ []) (Some result) }
+{
+    match found {
+        Some(other) => {
+            if other < number {
+                other
+            } else {
+                number
+            }
+        }
+        None => number,
+    }
 }

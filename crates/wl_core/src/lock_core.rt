@@ -5,6 +5,7 @@ ghost use Rattle.std.specs.List.{slice_get};
 ghost use Rattle.wl_types.specs.Refusals.{refused_or_memory};
 ghost use Rattle.wl_types.specs.declared.phases.Change.{Change};
 ghost use Rattle.wl_machine.specs.State.{State, opening, AreNumbers};
+ghost use Rattle.wl_machine.specs.Least.{IsLeast, above};
 ghost use Rattle.wl_machine.specs.Recorded.{with_entry};
 ghost use Rattle.wl_machine.specs.Refusals.{refusal};
 ghost use Rattle.wl_machine.specs.Step.{step, Gives, untaken_numbers};
@@ -151,6 +152,11 @@ pub trait LockCore: Drop {
     /// The number of the `i`-th lock, from 0 in held order, that an abort of the agent's signal would end.
     fn untaken(&self, agent: u64, signal: u64, i: u64) -> Option<u64>
         ensures { result ≡ slice_get (untaken_numbers (state self.now) agent signal) i };
+
+    /// The least number above `after` of the locks that an abort of the agent's signal would end. Asked again with
+    /// each answer, it goes through them in the order of their numbers.
+    fn untaken_above(&self, agent: u64, signal: u64, after: u64) -> Option<u64>
+        ensures { IsLeast (above after (untaken_numbers (state self.now) agent signal)) result };
 
     /// A plain core of the same state, with no changes.
     fn copy_plain(&self) -> Result<PlainCore, Memory>

@@ -7,8 +7,8 @@ ghost use Rattle.wl_machine.specs.Step.{Gives};
 
 use crate::copies::{copy_rows, copy_values};
 use crate::ends::{
-    LocksToEnd, RequestsToEnd, end_locks, end_requests, has_lock, has_untaken, nth_untaken,
-    take_lock,
+    LocksToEnd, RequestsToEnd, end_locks, end_requests, has_lock, has_untaken, least_untaken,
+    nth_untaken, take_lock,
 };
 use crate::limits::unless_refused;
 use crate::lock_core::LockCore;
@@ -289,6 +289,10 @@ impl LockCore for PlainCore {
 
     fn untaken(&self, agent: u64, signal: u64, i: u64) -> Option<u64> {
         nth_untaken(&self.held, agent, signal, i)
+    }
+
+    fn untaken_above(&self, agent: u64, signal: u64, after: u64) -> Option<u64> {
+        least_untaken(&self.held, agent, signal, after)
     }
 
     fn copy_plain(&self) -> Result<PlainCore, Memory> {

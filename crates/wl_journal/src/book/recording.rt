@@ -252,6 +252,10 @@ impl<C: LockCore> LockCore for Book<C> {
         self.core.untaken(agent, signal, i)
     }
 
+    fn untaken_above(&self, agent: u64, signal: u64, after: u64) -> Option<u64> {
+        self.core.untaken_above(agent, signal, after)
+    }
+
     fn copy_plain(&self) -> Result<PlainCore, Memory> {
         self.core.copy_plain()
     }
