@@ -27,7 +27,7 @@ use Rattle.wl_index.proofs.Turns.{passed_in_turn, ordered_in_turn}
 
 -- ---- filters
 
-both_filters : {X : Type 0} (p q : X → Bool) (l : List X) → filter (λ x. p x && q x) l ≡ filter q (filter p l)
+pub both_filters : {X : Type 0} (p q : X → Bool) (l : List X) → filter (λ x. p x && q x) l ≡ filter q (filter p l)
 both_filters p q [] = refl
 both_filters p q (x ∷ l) = by (p x) (both_filters p q l)
   where

@@ -102,7 +102,12 @@ fn lock_place(number: u64, request: &Request, owner: Owner) -> Option<Place>
 }
 
 /// The place of the request of a number, if it stands so and ends with its owner.
-fn place_to_end(table: &Table, number: u64, owner: Owner, standing: Standing) -> Option<Place>
+pub(crate) fn place_to_end(
+    table: &Table,
+    number: u64,
+    owner: Owner,
+    standing: Standing,
+) -> Option<Place>
     ensures { result ≡ place_if (ends_entry owner standing) number (lookup (is_at (nat_cmp number)) table.now.entries) }
 {
     let request = table.get(number)?;

@@ -6,6 +6,7 @@ ghost use Rattle.wl_machine.specs.State.{opening, AreNumbers};
 ghost use Rattle.wl_machine.specs.Step.{step, Gives, settled, available, new_request, untaken_numbers};
 ghost use Rattle.wl_index.specs.Ends.{without_owned, owned_ends};
 
+use crate::by_number::least_untaken;
 use crate::copies::plain_copy;
 use crate::ending::{Owner, end_locks, end_requests};
 use crate::names::Names;
@@ -325,6 +326,10 @@ impl LockCore for IndexCore {
 
     fn untaken(&self, agent: u64, signal: u64, i: u64) -> Option<u64> {
         self.table.nth_untaken(agent, signal, i)
+    }
+
+    fn untaken_above(&self, agent: u64, signal: u64, after: u64) -> Option<u64> {
+        least_untaken(&self.table, agent, signal, after)
     }
 
     fn copy_plain(&self) -> Result<PlainCore, Memory> {

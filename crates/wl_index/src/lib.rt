@@ -2,6 +2,7 @@
 //! that it changes.
 #![tactic(auto)]
 
+mod by_number;
 mod copies;
 mod ending;
 mod groups;

@@ -1,22 +1,20 @@
 -- The least of some numbers is that of any list of the same numbers.
-use Rattle.std.proofs.Common.{◌≡◌, ◌≤◌, ◌==◌, ◌||◌, ◌&&◌, ℕ, Bool, true, false, cond, true≢false, List, [], ◌∷◌, refl, sym, ap, ◌∙◌, eq-eqb, arith, nat_lt, Option, Some, None}
+use Rattle.std.proofs.Common.{◌≡◌, ◌≤◌, ◌==◌, ◌||◌, ◌&&◌, ℕ, Bool, true, false, cond, List, [], ◌∷◌, refl, sym, ap, ◌∙◌, eq-eqb, subst, arith, Option, Some, None}
 use Rattle.std.specs.Prelude.{filter}
 use Rattle.std.specs.List.{AllByRecursion, find}
 use Rattle.std.specs.List.Sorted.{IsStrictlySortedBy}
 use Rattle.std.specs.Ordering.{nat_cmp}
+use Rattle.std.specs.declared.cmp.Ordering.TheVariants.{Less}
+use Rattle.std.proofs.Math.Bool.{and-false, or-true}
 use Rattle.std.proofs.lemmas.Map.Keys.{sorted_head, sorted_tail}
-use Rattle.wl_machine.specs.Least.{IsLeast, above}
+use Rattle.wl_machine.specs.Least.{IsLeast}
 use Rattle.wl_machine.specs.Standing.{is_in}
 use Rattle.wl_machine.proofs.Covers.{alike, less}
 
 -- what is true of each number of a list
 pub all_by_number : (P : ℕ → Type 0) (xs : List ℕ) → ((n : ℕ) → is_in n xs ≡ true → P n) → AllByRecursion P xs
 all_by_number P [] each = tt
-all_by_number P (x ∷ xs) each = (each x (rw (eq-eqb x x refl) refl), all_by_number P xs (λ n has. each n (rw has (or_true (x == n)))))
-  where
-    or_true : (b : Bool) → (b || true) ≡ true
-    or_true true = refl
-    or_true false = refl
+all_by_number P (x ∷ xs) each = (each x (rw (eq-eqb x x refl) refl), all_by_number P xs (λ n has. each n (rw has (or-true (x == n)))))
 
 pub at_number : (P : ℕ → Type 0) (xs : List ℕ) (n : ℕ) → AllByRecursion P xs → is_in n xs ≡ true → P n
 at_number P [] n all has = absurd (cc)
@@ -39,11 +37,7 @@ in_filter p (x ∷ xs) n = by (p x) refl (x == n) refl (in_filter p xs n)
     by : (k : Bool) → p x ≡ k → (b : Bool) → (x == n) ≡ b → is_in n (filter p xs) ≡ (is_in n xs && p n) → is_in n (cond k (x ∷ filter p xs) (filter p xs)) ≡ ((b || is_in n xs) && p n)
     by true is true same rest = rw (same) (sym (ap p (sym (alike x n same)) ∙ is))
     by true is false other rest = rw other rest
-    by false is true same rest = rest ∙ (rw (ap p (sym (alike x n same)) ∙ is) (and_false (is_in n xs)))
-      where
-        and_false : (b : Bool) → (b && false) ≡ false
-        and_false true = refl
-        and_false false = refl
+    by false is true same rest = rest ∙ (rw (ap p (sym (alike x n same)) ∙ is) (and-false (is_in n xs)))
     by false is false other rest = rest
 
 pub least_alike : (xs ys : List ℕ) (least : Option ℕ) → ((n : ℕ) → is_in n ys ≡ is_in n xs) → IsLeast xs least → IsLeast ys least
@@ -64,5 +58,5 @@ least_found p (x ∷ xs) rising = by (p x) (least_found p xs (sorted_tail nat_cm
         at_test false rest = rest
 
     by : (b : Bool) → IsLeast (filter p xs) (find p xs) → IsLeast (cond b (x ∷ filter p xs) (filter p xs)) (cond b (Some x) (find p xs))
-    by true rest = ((rw (eq-eqb x x refl) refl, omega arith), higher xs (sorted_head nat_cmp x xs rising))
+    by true rest = (rw (eq-eqb x x refl) refl, (omega arith, higher xs (sorted_head nat_cmp x xs rising)))
     by false rest = rest
