@@ -1,5 +1,5 @@
 -- What holds once a signal is aborted.
-use Rattle.std.proofs.Common.{◌≡◌, ℕ, ◌+◌, List, [], ◌∷◌, ◌++◌, length, map, refl, arith, true, false, true≢false, sym, ap, ◌∙◌, cond, append-nil, Bool, inl, inr, subst}
+use Rattle.std.proofs.Common.{◌≡◌, ℕ, ◌+◌, List, [], ◌∷◌, ◌++◌, length, map, refl, arith, true, false, true≢false, sym, ap, ◌∙◌, cond, eq-eqb, append-nil, Bool, inl, inr, subst}
 use Rattle.std.specs.Prelude.{◌⊎◌, Result, Ok, Err, IfOk, IfErr, ◌==◌, ◌&&◌, not, Option, Some, is_some}
 use Rattle.std.specs.List.{list_any}
 use Rattle.std.proofs.lemmas.List.{length-map}
@@ -19,9 +19,9 @@ use Rattle.wl_machine.specs.State.{State}
 use Rattle.wl_machine.specs.Refusals.{refusal, has_agent, has_signal, reason_in}
 use Rattle.wl_machine.specs.Step.{Outcome, Gives, step, abort_step, state_after, untaken_numbers}
 use Rattle.wl_machine.specs.Laws.{phases_of}
-use Rattle.wl_machine.specs.OneMove.{phases_in, MovesOnce, is_plain_move}
+use Rattle.wl_machine.specs.OneMove.{phases_in, MovesOnce, is_plain_move, taken_from}
 use Rattle.wl_machine.specs.Standing.{IsStanding, is_in, is_abortable_signal}
-use Rattle.wl_machine.proofs.OneMove.{by_step, take_lists}
+use Rattle.wl_machine.proofs.OneMove.{by_step, take_lists, take_takes_one}
 use Rattle.wl_machine.proofs.Standing.{aborted_have_none}
 use Rattle.wl_machine.proofs.Untaken.{abort_ends_untaken}
 use Rattle.wl_journal.specs.Books.{Book, Appends}
@@ -29,8 +29,8 @@ use Rattle.wl_journal.specs.History.{recorded}
 use Rattle.wl_manager.specs.Keepers.{Kept, phases_at, cells_at, MaySettle, after}
 use Rattle.wl_manager.specs.Agents.{entries_of_abort}
 use Rattle.wl_manager.specs.Locked.{Inner, IsKept, Stays}
-use Rattle.wl_manager.specs.Aborts.{Found, numbers_of, taken, aborted, take_entry, with_takes, Tried, Aborts}
-use Rattle.wl_manager.proofs.Aborting.{both_append}
+use Rattle.wl_manager.specs.Aborts.{Found, numbers_of, taken, aborted, take_entry, with_takes, TriedAll, Aborts}
+use Rattle.wl_manager.proofs.Aborting.{both_append, left_aborted}
 use Rattle.wl_manager.proofs.Cutting.{still_cut}
 use Rattle.wl_manager.proofs.Keeping.{LetGoBy, Grounds, ready_abort, kept_on, kept_off, may_follow}
 
@@ -46,6 +46,14 @@ takes_leave (id ∷ ids) s =
     let rest = takes_leave ids (step s (Take id)).state in
     let one = take_lists s id in
     record { agents = rest.agents ∙ ap (λ (t : State). t.agents) one; signals = rest.signals ∙ ap (λ (t : State). t.signals) one; next = rest.next ∙ ap (λ (t : State). t.next) one }
+
+takes_bring_none : (ids : List ℕ) (id : ℕ) (s : State) → phases_in s id ≡ [] → phases_in (state_after (map (λ n. Take n) ids) s) id ≡ []
+takes_bring_none [] id s none = none
+takes_bring_none (taken ∷ ids) id s none = takes_bring_none ids id (step s (Take taken)).state (take_takes_one s taken id ∙ at_number (id == taken))
+  where
+    at_number : (b : Bool) → cond b (map taken_from (phases_in s id)) (phases_in s id) ≡ []
+    at_number true = ap (map taken_from) none
+    at_number false = none
 
 -- so an abort is refused before them just where it is after
 refused_of : List AgentRow → List SignalRow → ℕ → ℕ → Option Refusal
@@ -74,17 +82,17 @@ closed_by s agent signal is = rw is (and_false (has_agent s agent) (has_signal s
     and_false true false = refl
     and_false false b = refl
 
-no_locks : (found : Found) → numbers_of found ≡ [] → found ≡ []
-no_locks [] is = refl
-no_locks (lock ∷ found) is = absurd (cc)
+none_found : (found : Found) → ((id : ℕ) → is_in id (numbers_of found) ≡ false) → found ≡ []
+none_found [] none = refl
+none_found (lock ∷ found) none = absurd (let wrong : true ≡ false = rw (eq-eqb lock.0 lock.0 refl) at (none lock.0) in cc)
 
 -- what a refused abort found: nothing, so nothing was entered
-pub refused_finds : (old : Book) (old_kept : Kept) (agent signal : ℕ) (reason : Reason) (new : Book) (new_kept : Kept) (found : Found) (r : Refusal) → Tried old old_kept agent signal reason new new_kept found [] → IsStanding old.state
+pub refused_finds : (old : Book) (old_kept : Kept) (agent signal : ℕ) (reason : Reason) (new : Book) (new_kept : Kept) (found : Found) (r : Refusal) → TriedAll old old_kept agent signal reason new new_kept found → IsStanding old.state
     → refusal new.state (Abort agent signal reason) ≡ Some r → (found ≡ []) × (refusal old.state (Abort agent signal reason) ≡ Some r)
 refused_finds old old_kept agent signal reason new new_kept found r tried standing is =
     let was : refusal old.state (Abort agent signal reason) ≡ Some r = same_refusal old.state new.state agent signal reason (subst (λ (t : State). Same old.state t) (sym tried.state) (takes_leave (taken found) old.state)) ∙ is in
     let none = aborted_have_none old.state agent signal standing (refused_closed old.state agent signal reason r was) in
-    (no_locks found (sym (append-nil (numbers_of found)) ∙ (tried.locks ∙ none)), was)
+    (none_found found (λ id. tried.order.same id ∙ ap (is_in id) none), was)
 
 -- what a done abort does to the request of a number
 pub record Ends (s : State) (agent signal : ℕ) (reason : Reason) (new : State) (changes : List Change) (id : ℕ) : Type 0 where
@@ -113,26 +121,26 @@ abort_ends s agent signal reason new answer changes id standing gives = at_reaso
         }
 
 -- its changes may be settled
-pub settles_aborted : (old : Book) (old_kept : Kept) (agent signal : ℕ) (reason : Reason) (mid : Book) (mid_kept : Kept) (found : Found) (new : Book) (answer : AbortAnswer) (changes : List Change) → Tried old old_kept agent signal reason mid mid_kept found []
+pub settles_aborted : (old : Book) (old_kept : Kept) (agent signal : ℕ) (reason : Reason) (mid : Book) (mid_kept : Kept) (found : Found) (new : Book) (answer : AbortAnswer) (changes : List Change) → TriedAll old old_kept agent signal reason mid mid_kept found
     → Gives mid.state (Abort agent signal reason) new.state (reply.Aborted answer) new.recent → changes ≡ new.recent → (id : ℕ) → MaySettle (phases_at id mid_kept) (phases_of id changes)
 settles_aborted old old_kept agent signal reason mid mid_kept found new answer changes tried gives told id = at_number (is_in id (aborted found)) refl
   where
     ends : Ends mid.state agent signal reason new.state new.recent id
     ends = abort_ends mid.state agent signal reason new.state answer new.recent id tried.standing gives
 
-    left : untaken_numbers mid.state agent signal ≡ aborted found
-    left = tried.left ∙ append-nil (aborted found)
+    left : is_in id (untaken_numbers mid.state agent signal) ≡ is_in id (aborted found)
+    left = left_aborted old old_kept agent signal reason mid mid_kept found tried id
 
     at_number : (b : Bool) → is_in id (aborted found) ≡ b → MaySettle (phases_at id mid_kept) (phases_of id changes)
     at_number true is =
         let now : phases_at id mid_kept ≡ phase.Aborted reason ∷ [] = tried.phases id ∙ rw is refl in
-        rw (told, now, ends.untaken (ap (is_in id) left ∙ is)) ((phase.Aborted reason, refl, inl refl), refl)
+        rw (told, now, ends.untaken (left ∙ is)) ((phase.Aborted reason, refl, inl refl), refl)
     at_number false is =
         let now : phases_at id mid_kept ≡ phases_in mid.state id = tried.phases id ∙ rw is refl in
-        rw (told, now) (may_follow (phases_in mid.state id) (phases_of id new.recent) (phases_in new.state id) (ends.others (ap (is_in id) left ∙ is)))
+        rw (told, now) (may_follow (phases_in mid.state id) (phases_of id new.recent) (phases_in new.state id) (ends.others (left ∙ is)))
 
 -- and bring each keeper where its request is
-follows : (old : Book) (old_kept : Kept) (agent signal : ℕ) (reason : Reason) (mid : Book) (mid_kept : Kept) (found : Found) (new : Book) (answer : AbortAnswer) (changes : List Change) (new_kept : Kept) → Tried old old_kept agent signal reason mid mid_kept found []
+follows : (old : Book) (old_kept : Kept) (agent signal : ℕ) (reason : Reason) (mid : Book) (mid_kept : Kept) (found : Found) (new : Book) (answer : AbortAnswer) (changes : List Change) (new_kept : Kept) → TriedAll old old_kept agent signal reason mid mid_kept found
     → Gives mid.state (Abort agent signal reason) new.state (reply.Aborted answer) new.recent → changes ≡ new.recent → ((id : ℕ) → phases_at id new_kept ≡ after (phases_of id changes) (phases_at id mid_kept))
     → (id : ℕ) → phases_at id new_kept ≡ after (phases_of id new.recent) (phases_in mid.state id ++ [])
 follows old old_kept agent signal reason mid mid_kept found new answer changes new_kept tried gives told settles id = at_number (is_in id (aborted found)) refl
@@ -140,17 +148,17 @@ follows old old_kept agent signal reason mid mid_kept found new answer changes n
     ends : Ends mid.state agent signal reason new.state new.recent id
     ends = abort_ends mid.state agent signal reason new.state answer new.recent id tried.standing gives
 
-    left : untaken_numbers mid.state agent signal ≡ aborted found
-    left = tried.left ∙ append-nil (aborted found)
+    left : is_in id (untaken_numbers mid.state agent signal) ≡ is_in id (aborted found)
+    left = left_aborted old old_kept agent signal reason mid mid_kept found tried id
 
     at_number : (b : Bool) → is_in id (aborted found) ≡ b → phases_at id new_kept ≡ after (phases_of id new.recent) (phases_in mid.state id ++ [])
-    at_number true is = settles id ∙ rw (told, ends.untaken (ap (is_in id) left ∙ is)) refl
+    at_number true is = settles id ∙ rw (told, ends.untaken (left ∙ is)) refl
     at_number false is =
         let now : phases_at id mid_kept ≡ phases_in mid.state id = tried.phases id ∙ rw is refl in
         settles id ∙ rw (told, now, append-nil (phases_in mid.state id)) refl
 
 -- what holds between the takes that were found and the abort itself
-halfway : (counts keeps_all : Bool) (all : ℕ) (old : Inner) (old_kept : Kept) (agent signal : ℕ) (reason : Reason) (mid : Book) (mid_kept : Kept) (found : Found) → IsKept counts keeps_all all old → Tried old.book old_kept agent signal reason mid mid_kept found []
+halfway : (counts keeps_all : Bool) (all : ℕ) (old : Inner) (old_kept : Kept) (agent signal : ℕ) (reason : Reason) (mid : Book) (mid_kept : Kept) (found : Found) → IsKept counts keeps_all all old → TriedAll old.book old_kept agent signal reason mid mid_kept found
     → Grounds counts keeps_all all (record old { book = mid; kept = mid_kept; total = old.total + length (taken found) })
 halfway counts keeps_all all old old_kept agent signal reason mid mid_kept found kept tried =
     let same = subst (λ (t : State). Same old.book.state t) (sym tried.state) (takes_leave (taken found) old.book.state) in
@@ -158,12 +166,13 @@ halfway counts keeps_all all old old_kept agent signal reason mid mid_kept found
       journal = still_cut keeps_all old.book mid _ tried.appends kept.journal;
       standing = tried.standing;
       numbers = kept.numbers ∙ ap (λ n. n.request) (sym same.next);
+      from_one = (kept.from_one.0, ap (λ (t : State). phases_in t 0) tried.state ∙ takes_bring_none (taken found) 0 old.book.state kept.from_one.1);
       agents = ap (λ n. n.agent) same.next ∙ kept.agents;
       counted = λ c. let a = kept.counted c in let b = tried.appends.total in let l = length-map (taken found) take_entry in omega (arith, a, b, l);
       enough = kept.enough;
     }
 
-pub kept_aborted : (counts keeps_all : Bool) (all : ℕ) (old new : Inner) (old_kept : Kept) (agent signal : ℕ) (reason : Reason) (mid : Book) (mid_kept : Kept) (found : Found) (answer : AbortAnswer) (changes : List Change) → IsKept counts keeps_all all old → Tried old.book old_kept agent signal reason mid mid_kept found []
+pub kept_aborted : (counts keeps_all : Bool) (all : ℕ) (old new : Inner) (old_kept : Kept) (agent signal : ℕ) (reason : Reason) (mid : Book) (mid_kept : Kept) (found : Found) (answer : AbortAnswer) (changes : List Change) → IsKept counts keeps_all all old → TriedAll old.book old_kept agent signal reason mid mid_kept found
     → Gives mid.state (Abort agent signal reason) new.book.state (reply.Aborted answer) new.book.recent → Appends mid new.book (recorded (Abort agent signal reason) (reply.Aborted answer)) → changes ≡ new.book.recent
     → ((id : ℕ) → phases_at id new.kept ≡ after (phases_of id changes) (phases_at id mid_kept)) → new.next ≡ old.next → new.opened ≡ old.opened
     → (counts ≡ true → new.total ≡ old.total + length (taken found) + length (recorded (Abort agent signal reason) (reply.Aborted answer))) → (counts ≡ true → new.parts + new.opened ≡ all + new.handed) → IsKept counts keeps_all all new
@@ -172,13 +181,13 @@ kept_aborted counts keeps_all all old new old_kept agent signal reason mid mid_k
     (follows old.book old_kept agent signal reason mid mid_kept found new.book answer changes new.kept tried gives told settles) (omega (arith, next)) (omega (arith, opened)) count share
 
 -- a second abort finds nothing
-again_finds : (old : Book) (old_kept : Kept) (agent signal : ℕ) (reason : Reason) (mid : Book) (mid_kept : Kept) (found : Found) (new : State) (answer : AbortAnswer) (changes : List Change) → Tried old old_kept agent signal reason mid mid_kept found [] → IsStanding old.state
+again_finds : (old : Book) (old_kept : Kept) (agent signal : ℕ) (reason : Reason) (mid : Book) (mid_kept : Kept) (found : Found) (new : State) (answer : AbortAnswer) (changes : List Change) → TriedAll old old_kept agent signal reason mid mid_kept found → IsStanding old.state
     → Gives mid.state (Abort agent signal reason) new (reply.Aborted answer) changes → answer ≡ abort_answer.AlreadyAborted → found ≡ []
 again_finds old old_kept agent signal reason mid mid_kept found new answer changes tried standing gives again =
     let same = subst (λ (t : State). Same old.state t) (sym tried.state) (takes_leave (taken found) old.state) in
     let was : is_some (reason_in old.state.signals agent signal) ≡ true = ap (λ (g : List SignalRow). is_some (reason_in g agent signal)) (sym same.signals) ∙ at_reason (is_some (reason_in mid.state.signals agent signal)) refl in
     let none = aborted_have_none old.state agent signal standing (closed_by old.state agent signal was) in
-    no_locks found (sym (append-nil (numbers_of found)) ∙ (tried.locks ∙ none))
+    none_found found (λ id. tried.order.same id ∙ ap (is_in id) none)
   where
     done : abort_step mid.state agent signal reason ≡ record { state = new; reply = reply.Aborted answer; changes = changes }
     done = by_step mid.state (Abort agent signal reason) new (reply.Aborted answer) changes gives refl
@@ -188,12 +197,12 @@ again_finds old old_kept agent signal reason mid mid_kept found new answer chang
     at_reason false is = absurd (let said : reply.Aborted abort_answer.Done ≡ reply.Aborted abort_answer.AlreadyAborted = (rw is at (ap (λ (o : Outcome). o.reply) done)) ∙ ap (λ (a : AbortAnswer). reply.Aborted a) again in cc)
 
 pub does_aborted : (counts keeps_all : Bool) (all : ℕ) (old was new : Inner) (old_kept : Kept) (agent signal : ℕ) (reason : Reason) (mid : Book) (mid_kept : Kept) (found : Found) (answer : AbortAnswer) (before : List Change) → old ≡ was → IsKept counts keeps_all all old → LetGoBy old before old_kept
-    → Tried old.book old_kept agent signal reason mid mid_kept found [] → Gives mid.state (Abort agent signal reason) new.book.state (reply.Aborted answer) new.book.recent → Appends mid new.book (recorded (Abort agent signal reason) (reply.Aborted answer))
+    → TriedAll old.book old_kept agent signal reason mid mid_kept found → Gives mid.state (Abort agent signal reason) new.book.state (reply.Aborted answer) new.book.recent → Appends mid new.book (recorded (Abort agent signal reason) (reply.Aborted answer))
     → ((id : ℕ) → cells_at id new.kept ≡ cells_at id mid_kept) → Aborts was new agent signal reason answer found
 does_aborted counts keeps_all all old was new old_kept agent signal reason mid mid_kept found answer before is kept left tried gives adds cells =
     let ready = ready_abort counts keeps_all all old old_kept agent signal reason before kept left in
     subst (λ (o : Inner). Aborts o new agent signal reason answer found) is (record {
-      locks = sym (append-nil (numbers_of found)) ∙ tried.locks;
+      locks = tried.order;
       gives = subst (λ (s : State). Gives s (Abort agent signal reason) new.book.state (reply.Aborted answer) new.book.recent) tried.state gives;
       appends = both_append old.book mid new.book (map take_entry (taken found)) (recorded (Abort agent signal reason) (reply.Aborted answer)) tried.appends adds;
       cells = λ id phase live. cells id ∙ (tried.cells id ∙ ready.cells id phase live);
@@ -207,7 +216,7 @@ record Nothing (old : Inner) (old_kept : Kept) (new : Book) (new_kept : Kept) : 
   phases : (id : ℕ) → phases_at id new_kept ≡ phases_in old.book.state id
   cells : (id : ℕ) → cells_at id new_kept ≡ cells_at id old_kept
 
-nothing_found : (old : Inner) (old_kept : Kept) (agent signal : ℕ) (reason : Reason) (mid : Book) (mid_kept : Kept) (found : Found) (new : Book) → Tried old.book old_kept agent signal reason mid mid_kept found [] → found ≡ []
+nothing_found : (old : Inner) (old_kept : Kept) (agent signal : ℕ) (reason : Reason) (mid : Book) (mid_kept : Kept) (found : Found) (new : Book) → TriedAll old.book old_kept agent signal reason mid mid_kept found → found ≡ []
     → new.state ≡ mid.state → Appends mid new [] → Nothing old old_kept new mid_kept
 nothing_found old old_kept agent signal reason mid mid_kept found new tried none same adds =
     let was : mid.state ≡ old.book.state = tried.state ∙ ap (λ (f : Found). with_takes old.book.state f) none in
@@ -218,14 +227,14 @@ nothing_found old old_kept agent signal reason mid mid_kept found new tried none
       cells = tried.cells;
     }
 
-pub kept_unaborted : (counts keeps_all : Bool) (all : ℕ) (old new : Inner) (old_kept : Kept) (agent signal : ℕ) (reason : Reason) (mid : Book) (found : Found) (r : Refusal) → IsKept counts keeps_all all old → Tried old.book old_kept agent signal reason mid new.kept found [] → refusal mid.state (Abort agent signal reason) ≡ Some r
+pub kept_unaborted : (counts keeps_all : Bool) (all : ℕ) (old new : Inner) (old_kept : Kept) (agent signal : ℕ) (reason : Reason) (mid : Book) (found : Found) (r : Refusal) → IsKept counts keeps_all all old → TriedAll old.book old_kept agent signal reason mid new.kept found → refusal mid.state (Abort agent signal reason) ≡ Some r
     → new.book.state ≡ mid.state → new.book.recent ≡ [] → Appends mid new.book [] → new.next ≡ old.next → new.opened ≡ old.opened → new.total ≡ old.total → new.parts ≡ old.parts → new.handed ≡ old.handed → IsKept counts keeps_all all new
 kept_unaborted counts keeps_all all old new old_kept agent signal reason mid found r kept tried is same quiet adds =
     let none = (refused_finds old.book old_kept agent signal reason mid new.kept found r tried kept.standing is).0 in
     let nothing = nothing_found old old_kept agent signal reason mid new.kept found new.book tried none same adds in
     kept_off counts keeps_all all old new kept nothing.state quiet nothing.appends nothing.phases
 
-pub stays_unaborted : (counts keeps_all : Bool) (all : ℕ) (old was new : Inner) (old_kept : Kept) (agent signal : ℕ) (reason : Reason) (mid : Book) (found : Found) (r : Refusal) (before : List Change) → old ≡ was → IsKept counts keeps_all all old → LetGoBy old before old_kept → Tried old.book old_kept agent signal reason mid new.kept found []
+pub stays_unaborted : (counts keeps_all : Bool) (all : ℕ) (old was new : Inner) (old_kept : Kept) (agent signal : ℕ) (reason : Reason) (mid : Book) (found : Found) (r : Refusal) (before : List Change) → old ≡ was → IsKept counts keeps_all all old → LetGoBy old before old_kept → TriedAll old.book old_kept agent signal reason mid new.kept found
     → refusal mid.state (Abort agent signal reason) ≡ Some r → new.book.state ≡ mid.state → Appends mid new.book [] → new.next ≡ old.next → new.opened ≡ old.opened → new.handed ≡ old.handed → Stays was new
 stays_unaborted counts keeps_all all old was new old_kept agent signal reason mid found r before is kept left tried refused same adds next opened handed =
     let none = (refused_finds old.book old_kept agent signal reason mid new.kept found r tried kept.standing refused).0 in
@@ -233,7 +242,7 @@ stays_unaborted counts keeps_all all old was new old_kept agent signal reason mi
     let ready = ready_abort counts keeps_all all old old_kept agent signal reason before kept left in
     subst (λ (o : Inner). Stays o new) is (record { state = nothing.state; appends = nothing.appends; next = next; opened = opened; handed = handed; cells = λ id phase live. nothing.cells id ∙ ready.cells id phase live })
 
-pub refused_before : (old was : Inner) (old_kept : Kept) (agent signal : ℕ) (reason : Reason) (mid : Book) (mid_kept : Kept) (found : Found) (r : Refusal) → old ≡ was → IsStanding old.book.state → Tried old.book old_kept agent signal reason mid mid_kept found []
+pub refused_before : (old was : Inner) (old_kept : Kept) (agent signal : ℕ) (reason : Reason) (mid : Book) (mid_kept : Kept) (found : Found) (r : Refusal) → old ≡ was → IsStanding old.book.state → TriedAll old.book old_kept agent signal reason mid mid_kept found
     → refusal mid.state (Abort agent signal reason) ≡ Some r → refusal was.book.state (Abort agent signal reason) ≡ Some r
 refused_before old was old_kept agent signal reason mid mid_kept found r is standing tried refused =
     subst (λ (o : Inner). refusal o.book.state (Abort agent signal reason) ≡ Some r) is (refused_finds old.book old_kept agent signal reason mid mid_kept found r tried standing refused).1

@@ -69,6 +69,7 @@ kept_cut counts keeps_all all old kept recent legal leads = record {
   journal = cut_more keeps_all old.book kept.journal recent legal leads;
   standing = kept.standing;
   numbers = kept.numbers;
+  from_one = kept.from_one;
   agents = kept.agents;
   settled = kept.settled;
   fresh = kept.fresh;

@@ -12,7 +12,7 @@ use Rattle.wl_types.specs.declared.refusal.Refusal.{Refusal}
 use Rattle.wl_types.specs.declared.ask.Ask.{Ask}
 use Rattle.wl_cell.specs.Seats.{KeeperSeat, may_settle}
 use Rattle.wl_machine.specs.declared.command.Command.{Command}
-use Rattle.wl_machine.specs.declared.command.Command.TheVariants.{Request, Abort}
+use Rattle.wl_machine.specs.declared.command.Command.TheVariants.{Enter, SetActive, NewSignal, Request, Take, Release, Abort, Terminate, Query}
 use Rattle.wl_machine.specs.declared.command.Reply.{Reply}
 use Rattle.wl_machine.specs.declared.command.Reply.TheVariants as reply
 use Rattle.wl_machine.specs.State.{State}
@@ -21,7 +21,7 @@ use Rattle.wl_machine.specs.Step.{Gives, Outcome, request_step, new_request, ava
 use Rattle.wl_machine.specs.Laws.{phases_of}
 use Rattle.wl_machine.specs.OneMove.{phases_in, MovesOnce, is_plain_move, table_of, entering, is_take}
 use Rattle.wl_machine.specs.Standing.{IsStanding}
-use Rattle.wl_machine.proofs.OneMove.{is_refused, by_step, moves_by_step, numbers_by_step, entrants, askers, no_change, nothing_entered}
+use Rattle.wl_machine.proofs.OneMove.{is_refused, by_step, moves_by_step, numbers_by_step, entrants, askers, after_none, no_change, nothing_entered}
 use Rattle.wl_machine.proofs.Standing.{standing_by_step}
 use Rattle.wl_core.proofs.Free.{request_unspent}
 use Rattle.wl_journal.specs.Books.{Book, Appends}
@@ -155,12 +155,25 @@ pub record Grounds (counts keeps_all : Bool) (all : ℕ) (l : Inner) : Type 0 wh
   pub journal : IsCut keeps_all l.book
   pub standing : IsStanding l.book.state
   pub numbers : l.next ≡ l.book.state.next.request
+  pub from_one : (1 ≤ l.next) × (phases_in l.book.state 0 ≡ [])
   pub agents : l.book.state.next.agent ≡ l.opened + 1
   pub counted : counts ≡ true → l.total ≡ l.book.total
   pub enough : counts ≡ true → 2 ^ 53 ≤ all
 
 pub grounds : (counts keeps_all : Bool) (all : ℕ) (l : Inner) → IsKept counts keeps_all all l → Grounds counts keeps_all all l
-grounds counts keeps_all all l kept = record { journal = kept.journal; standing = kept.standing; numbers = kept.numbers; agents = kept.agents; counted = kept.counted; enough = kept.enough }
+grounds counts keeps_all all l kept = record { journal = kept.journal; standing = kept.standing; numbers = kept.numbers; from_one = kept.from_one; agents = kept.agents; counted = kept.counted; enough = kept.enough }
+
+-- no command brings a request numbered 0
+none_first : (s : State) (command : Command) → 1 ≤ s.next.request → phases_in s 0 ≡ [] → phases_in s 0 ++ entering s command 0 ≡ []
+none_first s (Request agent ask) high none = rw (none, ne_eqb s.next.request 0 (λ e. absurd (omega (arith, high, e)))) refl
+none_first s (Enter kind) high none = rw none refl
+none_first s (SetActive agent active) high none = rw none refl
+none_first s (NewSignal agent) high none = rw none refl
+none_first s (Take taken) high none = rw none refl
+none_first s (Release agent lock) high none = rw none refl
+none_first s (Abort agent signal reason) high none = rw none refl
+none_first s (Terminate agent) high none = rw none refl
+none_first s (Query agent) high none = rw none refl
 
 -- a command that is done keeps what holds
 pub kept_on : (counts keeps_all : Bool) (all : ℕ) (old new : Inner) (command : Command) (answer : Reply) → Grounds counts keeps_all all old
@@ -177,6 +190,11 @@ kept_on counts keeps_all all old new command answer kept gives done other append
       journal = still_cut keeps_all old.book new.book _ appends kept.journal;
       standing = standing_by_step old.book.state command new.book.state answer new.book.recent gives kept.standing;
       numbers = let a = kept.numbers in let b = numbers.1 in omega (arith, a, b, next);
+      from_one = (
+        let one = kept.from_one.0 in omega (arith, one, next),
+        after_none (table_of command) (phases_in old.book.state 0 ++ entering old.book.state command 0) (phases_of 0 new.book.recent) (phases_in new.book.state 0) (moves 0)
+        (none_first old.book.state command (let a = kept.numbers in let one = kept.from_one.0 in omega (arith, a, one)) kept.from_one.1),
+      );
       agents = let a = kept.agents in let b = numbers.0 in omega (arith, a, b, opened);
       settled = λ id. follow id ∙ followed (table_of command) (phases_in old.book.state id ++ entering old.book.state command id) (phases_of id new.book.recent) (phases_in new.book.state id) (moves id);
       fresh = λ id high. no_change (table_of command) (phases_in old.book.state id ++ entering old.book.state command id) (phases_of id new.book.recent) (phases_in new.book.state id) (moves id)
@@ -194,6 +212,7 @@ kept_off counts keeps_all all old new kept same quiet appends left next opened t
   journal = still_cut keeps_all old.book new.book _ appends kept.journal;
   standing = rw same kept.standing;
   numbers = next ∙ (kept.numbers ∙ ap (λ (s : State). s.next.request) (sym same));
+  from_one = (let one = kept.from_one.0 in omega (arith, one, next), ap (λ (s : State). phases_in s 0) same ∙ kept.from_one.1);
   agents = ap (λ (s : State). s.next.agent) same ∙ (kept.agents ∙ ap (λ (n : ℕ). n + 1) (sym opened));
   settled = λ id. left id ∙ rw (same, quiet) (sym (append-nil (phases_in old.book.state id)));
   fresh = λ id high. rw quiet refl;

@@ -1,6 +1,7 @@
 mod Settling
 mod Cutting
 pub mod Keeping
+mod Trying
 mod Aborting
 pub mod Aborted
 pub mod Refused

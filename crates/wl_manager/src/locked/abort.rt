@@ -7,7 +7,7 @@ ghost use Rattle.wl_machine.specs.Standing.{IsStanding};
 ghost use Rattle.wl_journal.specs.History.{recorded};
 ghost use Rattle.wl_manager.specs.Keepers.{phases_at};
 ghost use Rattle.wl_manager.specs.Locked.{Stays};
-ghost use Rattle.wl_manager.specs.Aborts.{Found, Tried, Aborts, taken};
+ghost use Rattle.wl_manager.specs.Aborts.{Found, TriedAll, Aborts, taken};
 
 use crate::count::Count;
 use crate::keepers::Keepers;
@@ -47,8 +47,8 @@ impl<C: LockCore, T: Count> Locked<C, T> {
     }
 }
 
-// Tries to abort each granted lock of the signal, in held order, and enters the take of each that was taken before.
-// Answers how many were.
+// Tries to abort each granted lock of the signal, in the order of their numbers, and enters the take of each that was
+// taken before. Answers how many were.
 fn abort_granted<C: LockCore>(
     book: &mut Book<C>,
     keepers: &mut Keepers,
@@ -57,18 +57,18 @@ fn abort_granted<C: LockCore>(
     reason: Reason,
 ) -> u64
     requires standing { IsStanding book.old.state }
+    requires from_one { phases_in book.old.state 0 ≡ [] }
     requires settled { (id : ℕ) → phases_at id keepers.old ≡ phases_in book.old.state id }
-    ensures { (found : Found) × Tried book.old keepers.old agent signal reason book.new keepers.new found [] × (result ≡ length (taken found)) }
+    ensures { (found : Found) × TriedAll book.old keepers.old agent signal reason book.new keepers.new found × (result ≡ length (taken found)) }
 {
     let mut taken = 0;
-    let mut aborted = 0;
-    while let Some(id) = book.untaken(agent, signal, aborted) {
-        if keepers.try_abort(id, reason) {
-            aborted += 1;
-        } else {
+    let mut after = 0;
+    while let Some(id) = book.untaken_above(agent, signal, after) {
+        if !keepers.try_abort(id, reason) {
             book.take(id);
             taken += 1;
         }
+        after = id;
     }
     taken
 }

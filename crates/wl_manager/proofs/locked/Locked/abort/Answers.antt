@@ -27,7 +27,7 @@ settle_all-requires g c =
 
 pub overflow_add-taken : goal.overflow_add-taken
 overflow_add-taken g c =
-    let few = tried_few c.self.inside.book c.let_go.new.self c.args.agent c.args.signal c.args.reason c.abort_granted-taken.new.book c.abort_granted-taken.new.keepers c.abort_granted-taken.ensures.0 _ c.abort_granted-taken.ensures.1 c.self.invariant.standing in
+    let few = tried_few c.self.inside.book c.let_go.new.self c.args.agent c.args.signal c.args.reason c.abort_granted-taken.new.book c.abort_granted-taken.new.keepers c.abort_granted-taken.ensures.0 _ c.abort_granted-taken.ensures.1 (omega arith) c.self.invariant.standing in
     let count = c.abort_granted-taken.ensures.2 in
     let own = c.entries_of-own.ensures.few in
     omega (arith, few, count, own)
