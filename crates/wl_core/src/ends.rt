@@ -179,12 +179,7 @@ pub(crate) fn nth_untaken(held: &[HeldRow], agent: u64, signal: u64, i: u64) -> 
 }
 
 /// The least number above `after` among the agent's untaken locks with a signal.
-pub(crate) fn least_untaken(
-    held: &[HeldRow],
-    agent: u64,
-    signal: u64,
-    after: u64,
-) -> Option<u64>
+pub(crate) fn least_untaken(held: &[HeldRow], agent: u64, signal: u64, after: u64) -> Option<u64>
     ensures { IsLeast (above after (map (λ lock. lock.number) (filter (is_abortable agent signal) held.now))) result }
 {
     let mut least = None;
@@ -201,13 +196,7 @@ fn lower(found: Option<u64>, number: u64) -> u64
     ensures { IsLeast (option_to_list found ++ number ∷ []) (Some result) }
 {
     match found {
-        Some(other) => {
-            if other < number {
-                other
-            } else {
-                number
-            }
-        }
+        Some(other) => { if other < number { other } else { number } }
         None => number,
     }
 }

@@ -68,3 +68,19 @@ fn untaken_locks_are_told_in_the_order_of_grants(rt: HostRuntime) -> Result<(), 
     assert!(rt; core.untaken(1, 1, 0) == Some(2));
     Ok(())
 }
+
+/// So too here, and the fourth is granted last. The first, which has ended, is still on the signal's list.
+#[test]
+fn untaken_locks_are_found_in_the_order_of_their_numbers(rt: HostRuntime) -> Result<(), Fail> {
+    let alloc = rt.alloc();
+    let mut core = three_requests(alloc)?;
+    core.release(1, 1);
+    core.request(1, &signalled(alloc, "c")?)?;
+    assert!(rt; core.untaken_above(1, 1, 0) == Some(2));
+    assert!(rt; core.untaken_above(1, 1, 2) == Some(3));
+    assert!(rt; core.take(3) == TakeAnswer::Taken);
+    assert!(rt; core.untaken_above(1, 1, 2) == Some(4));
+    assert!(rt; core.untaken_above(1, 1, 4) == None);
+    assert!(rt; core.untaken_above(1, 2, 0) == None);
+    Ok(())
+}

@@ -150,6 +150,10 @@ fn a_book_asks_its_core(rt: HostRuntime) -> Result<(), Fail> {
     assert!(rt; book.may_set(1) == Err(Refusal::NotAWindow));
     assert!(rt; book.may_signal(1) == Ok(()));
     assert!(rt; book.may_request(1, &ask(alloc, None)?) == Ok(()));
+    assert_eq!(rt; book.new_signal(1)?, 1);
     assert!(rt; book.untaken(1, 1, 0) == None);
+    assert_eq!(rt; book.request(1, &ask(alloc, Some(1))?)?, 1);
+    assert!(rt; book.untaken_above(1, 1, 0) == Some(1));
+    assert!(rt; book.untaken_above(1, 1, 1) == None);
     Ok(())
 }

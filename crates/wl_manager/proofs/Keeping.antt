@@ -193,7 +193,7 @@ kept_on counts keeps_all all old new command answer kept gives done other append
       from_one = (
         let one = kept.from_one.0 in omega (arith, one, next),
         after_none (table_of command) (phases_in old.book.state 0 ++ entering old.book.state command 0) (phases_of 0 new.book.recent) (phases_in new.book.state 0) (moves 0)
-        (none_first old.book.state command (let a = kept.numbers in let one = kept.from_one.0 in omega (arith, a, one)) kept.from_one.1),
+            (none_first old.book.state command (let a = kept.numbers in let one = kept.from_one.0 in omega (arith, a, one)) kept.from_one.1),
       );
       agents = let a = kept.agents in let b = numbers.0 in omega (arith, a, b, opened);
       settled = λ id. follow id ∙ followed (table_of command) (phases_in old.book.state id ++ entering old.book.state command id) (phases_of id new.book.recent) (phases_in new.book.state id) (moves id);

@@ -1,6 +1,7 @@
 //! What the contracts can't show: that calls take the lock and pass on their own arguments, that they succeed with
 //! ample memory, and races.
 
+mod aborts;
 mod agents;
 mod growth;
 mod threads;

@@ -60,6 +60,27 @@ fn an_abort_ends_what_was_not_taken(rt: HostRuntime) -> Result<(), Fail> {
     Ok(())
 }
 
+/// The second is granted once the first is released, and so after the third.
+#[test]
+fn untaken_locks_are_found_in_the_order_of_their_numbers(rt: HostRuntime) -> Result<(), Fail> {
+    let alloc = rt.alloc();
+    let mut core = opening(alloc);
+    core.open(Kind::Worker)?;
+    core.new_signal(1)?;
+    for name in ["a", "a", "b"] {
+        let mut wanted = ask(alloc, name, Mode::Exclusive)?;
+        wanted.signal = Some(1);
+        core.request(1, &wanted)?;
+    }
+    core.release(1, 1);
+    assert!(rt; core.untaken_above(1, 1, 0) == Some(2));
+    assert!(rt; core.untaken_above(1, 1, 2) == Some(3));
+    assert!(rt; core.untaken_above(1, 1, 3) == None);
+    assert!(rt; core.take(2) == TakeAnswer::Taken);
+    assert!(rt; core.untaken_above(1, 1, 0) == Some(3));
+    Ok(())
+}
+
 #[test]
 fn a_snapshot_shows_who_holds_and_who_waits_until_they_end(rt: HostRuntime) -> Result<(), Fail> {
     let alloc = rt.alloc();
