@@ -17,11 +17,11 @@ pub(crate) fn least_untaken(table: &Table, agent: u64, signal: u64, after: u64) 
 {
     let numbers = table.owned(Owner::Signal(agent, signal));
     let behind = numbers.partition_point(|number| *number <= after);
-    first_untaken(table, agent, signal, &numbers[behind..])
+    first_listed(table, agent, signal, &numbers[behind..])
 }
 
 /// The first of these numbers that finds such a lock.
-fn first_untaken(table: &Table, agent: u64, signal: u64, numbers: &[u64]) -> Option<u64>
+fn first_listed(table: &Table, agent: u64, signal: u64, numbers: &[u64]) -> Option<u64>
     ensures { result ≡ find (finds_untaken agent signal table.now.entries) numbers.now }
 {
     let owner = Owner::Signal(agent, signal);

@@ -19,4 +19,4 @@ returns c =
     let least = least_behind c.args.agent c.args.signal c.args.after es ns behind owned.ordered owned.rising owned.all point in
     let len = length-drop behind ns in
     let rest : take (length ns - behind) (drop behind ns) ≡ drop behind ns = take_all (length ns - behind) (drop behind ns) (omega (arith, len)) in
-    subst (IsLeast (above c.args.after (untaken c.args.agent c.args.signal es))) (sym (c.first_untaken.ensures ∙ ap (find (finds_untaken c.args.agent c.args.signal es)) rest)) least
+    subst (IsLeast (above c.args.after (untaken c.args.agent c.args.signal es))) (sym (c.first_listed.ensures ∙ ap (find (finds_untaken c.args.agent c.args.signal es)) rest)) least

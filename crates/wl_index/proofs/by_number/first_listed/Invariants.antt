@@ -1,7 +1,7 @@
 use Rattle.std.proofs.Common.{◌≡◌, drop}
 use Rattle.std.specs.List.{find}
 use Rattle.wl_index.specs.Untaken.{finds_untaken}
-use Rattle.wl_index.proofs.by_number.first_untaken.Given as goal
+use Rattle.wl_index.proofs.by_number.first_listed.Given as goal
 
 abbrev pub invariant-loop-number : goal.invariant-loop-number
 invariant-loop-number l =

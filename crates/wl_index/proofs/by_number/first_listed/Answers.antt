@@ -3,7 +3,7 @@ use Rattle.std.specs.Prelude.{is_some}
 use Rattle.std.specs.List.{find}
 use Rattle.wl_index.specs.Untaken.{finds_untaken}
 use Rattle.wl_index.proofs.Turns.{rest_next}
-use Rattle.wl_index.proofs.by_number.first_untaken.Goals as goal
+use Rattle.wl_index.proofs.by_number.first_listed.Goals as goal
 
 pub loop-number-preserved : goal.loop-number-preserved
 loop-number-preserved c =
