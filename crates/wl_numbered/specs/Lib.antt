@@ -1,0 +1,2 @@
+pub mod NumberMap
+pub mod Lends
