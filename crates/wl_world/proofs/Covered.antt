@@ -4,7 +4,7 @@ use Rattle.std.specs.Prelude.{Option, Some, None, is_some}
 use Rattle.std.specs.List.{AllByRecursion, Contains}
 use Rattle.std.specs.List.Sorted.{IsStrictlySortedBy}
 use Rattle.std.specs.Map.{keys_of, values_of}
-use Rattle.std.specs.BTreeMap.{BTreeMap, insert_entry, is_at}
+use Rattle.std.specs.BTreeMap.{insert_entry, is_at}
 use Rattle.std.specs.Option.{option_and_then, unwrap_or}
 use Rattle.std.specs.Ordering.{nat_cmp}
 use Rattle.std.specs.Cmp.{nat_cmp_is, nat_cmp_total}
@@ -20,8 +20,10 @@ use Rattle.wl_world.specs.declared.requests.Request.{Request}
 use Rattle.wl_world.specs.declared.rolls.Roll.{Roll}
 use Rattle.wl_world.specs.Requests.{IsRising, has_ended, with_change}
 use Rattle.wl_world.specs.Rolls.{IsCovered, IsEach, IsEnrolled, IsIndex, coming, found, leave_one, noted_of, own_of, tell_one}
+use Rattle.wl_numbered.specs.NumberMap.{NumberMap}
 use Rattle.wl_machine.proofs.Covers.{alike}
-use Rattle.wl_world.proofs.Walks.{apart, itself, same_number}
+use Rattle.wl_numbered.proofs.Keyed.{entry_last, found_each, number_same, same_number}
+use Rattle.wl_world.proofs.Walks.{apart}
 
 -- ---- what stands at a number after f
 
@@ -182,7 +184,7 @@ module _ (live live2 : List (ℕ × Request)) (rolls rolls2 : List (ℕ × Roll)
 
       news : (n : ℕ) (s : Request) (phase : Phase) → found n live2 ≡ Some s → s.news ≡ Some phase → (b : Bool) → (n == change.id) ≡ b → Contains (noted_of (found s.agent rolls2)) n
       news n s phase is loud true h =
-          let mine : (s.agent == r.agent) ≡ true = subst (λ (x : Request). (x.agent == r.agent) ≡ true) (new n s is h) (itself r.agent) in
+          let mine : (s.agent == r.agent) ≡ true = subst (λ (x : Request). (x.agent == r.agent) ≡ true) (new n s is h) (number_same r.agent) in
           subst (λ l. Contains l n) (sym (at_agent s.agent mine)) (subst (Contains roll2.noted.items) (sym (alike n change.id h)) jotted)
       news n s phase is loud false h = more n s.agent (s.agent == r.agent) refl (index.noted n s phase (old n s is h) loud)
 
@@ -254,7 +256,7 @@ module _ (change : Change) where
 
       by : (b : Bool) → (q == change.id) ≡ b → (o : Option Request) → found q live ≡ o → found q live2 ≡ option_and_then (λ s. Some (with_change change s)) (found q live)
       by true h o at =
-          let mine : (r.number == change.id) ≡ true = subst (λ k. (k == change.id) ≡ true) (sym (numbers change.id r there)) (itself change.id) in
+          let mine : (r.number == change.id) ≡ true = subst (λ k. (k == change.id) ≡ true) (sym (numbers change.id r there)) (number_same change.id) in
           let changed : Some w ≡ Some (with_change change r) = rw mine refl in
           here change.id (Some w) live live2 written q h ∙ changed ∙ sym (ap (option_and_then (λ s. Some (with_change change s))) (ap (λ k. found k live) (alike q change.id h) ∙ there))
       by false h None at = elsewhere change.id (Some w) live live2 written q h ∙ at ∙ sym (ap (option_and_then (λ s. Some (with_change change s))) at)
@@ -276,22 +278,19 @@ module _ (change : Change) where
 
 -- ---- one more, at the end of the list
 
-entry_last : (es : List (ℕ × Request)) (n : ℕ) (w : Request) → AllByRecursion (λ (e : ℕ × Request). e.0 < n) es → insert_entry nat_cmp es n w ≡ es ++ (n, w) ∷ []
-entry_last [] n w low = refl
-entry_last (e ∷ es) n w low =
-    let last : Greater ≡ nat_cmp n e.0 = nat_cmp_is n e.0 Greater low.0 in
-    rw (← last) (ap (λ l. e ∷ l) (entry_last es n w low.1))
-
 below : (low high : ℕ) (es : List (ℕ × Request)) → AllByRecursion (λ (e : ℕ × Request). e.1.number ≡ e.0) es → IsRising low high (values_of es) → AllByRecursion (λ (e : ℕ × Request). e.0 < high) es
 below low high [] is rising = tt
 below low high (e ∷ es) is (from, less, rest) = (subst (λ k. k < high) is.0 less, below (e.1.number + 1) high es is.1 rest)
 
-pub added_values : (agent n : ℕ) (phase : Phase) (m : BTreeMap ℕ Request) (es : List (ℕ × Request)) → IsStrictlySortedBy nat_cmp (keys_of m.entries) → ((q : ℕ) (s : Request) → found q m.entries ≡ Some s → s.number ≡ q)
+pub added_values : (agent n : ℕ) (phase : Phase) (m : NumberMap Request) (es : List (ℕ × Request)) → IsStrictlySortedBy nat_cmp (keys_of m.entries) → ((q : ℕ) (s : Request) → found q m.entries ≡ Some s → s.number ≡ q)
     → IsRising 0 n (values_of m.entries) → es ≡ insert_entry nat_cmp m.entries n (coming agent n phase) → values_of es ≡ values_of m.entries ++ coming agent n phase ∷ []
 added_values agent n phase m es ordered numbers rising inserted =
-    let all = All-weaker (λ (e : ℕ × Request). found e.0 m.entries ≡ Some e.1) (λ (e : ℕ × Request). e.1.number ≡ e.0) (λ e at. numbers e.0 e.1 at) m.entries (All-found nat_cmp_total m ordered) in
-    let low = below 0 n m.entries (recursion_from_All (λ (e : ℕ × Request). e.1.number ≡ e.0) m.entries all) rising in
+    let low = below 0 n m.entries (own m.entries (found_each m.entries ordered)) rising in
     ap values_of (inserted ∙ entry_last m.entries n (coming agent n phase) low) ∙ map-append (λ (e : ℕ × Request). e.1) m.entries ((n, coming agent n phase) ∷ [])
+  where
+    own : (l : List (ℕ × Request)) → AllByRecursion (λ (e : ℕ × Request). found e.0 m.entries ≡ Some e.1) l → AllByRecursion (λ (e : ℕ × Request). e.1.number ≡ e.0) l
+    own [] all = tt
+    own (e ∷ l) all = (numbers e.0 e.1 all.0, own l all.1)
 
 -- ---- changes that come with a new request, newer than all
 
@@ -305,7 +304,7 @@ unnamed low change (r ∷ requests) (from, less, rest) =
 pub own_change : (agent n : ℕ) (phase : Phase) (change : Change) (requests : List Request) → change.id ≡ n → IsRising 0 n requests
     → map (with_change change) (requests ++ coming agent n phase ∷ []) ≡ requests ++ coming agent n change.phase ∷ []
 own_change agent n phase change requests is rising =
-    let mine : (n == change.id) ≡ true = subst (λ k. (n == k) ≡ true) (sym is) (itself n) in
+    let mine : (n == change.id) ≡ true = subst (λ k. (n == k) ≡ true) (sym is) (number_same n) in
     map-append (with_change change) requests (coming agent n phase ∷ []) ∙ ap (λ l. l ++ map (with_change change) (coming agent n phase ∷ [])) (unnamed 0 change requests (subst (λ k. IsRising 0 k requests) (sym is) rising))
     ∙ rw mine refl
 

@@ -4,7 +4,8 @@ use Rattle.std.specs.Prelude.{Option, Some, None, is_some}
 use Rattle.std.specs.List.{AllByRecursion, Contains, flat_map}
 use Rattle.std.specs.List.Sorted.{IsStrictlySortedBy}
 use Rattle.std.specs.Map.{keys_of, values_of}
-use Rattle.std.specs.BTreeMap.{BTreeMap}
+use Rattle.wl_numbered.specs.NumberMap.{NumberMap}
+use Rattle.wl_numbered.proofs.Keyed.{found_each}
 use Rattle.std.specs.Ordering.{nat_cmp}
 use Rattle.std.specs.Cmp.{nat_cmp_total}
 use Rattle.std.proofs.lemmas.List.{flat_map_more, take_more}
@@ -40,11 +41,11 @@ news_at_keys agent f (e ∷ es) all = ap (λ o. looks_of agent o ++ flat_map (λ
     by true h rest = rw h (ap (λ l. look_of e.1.number e.1.news ++ l) rest)
     by false h rest = rw h rest
 
-module _ (agent : ℕ) (m : BTreeMap ℕ Request) (rolls : List (ℕ × Roll)) (index : IsIndex m.entries rolls) where
+module _ (agent : ℕ) (m : NumberMap Request) (rolls : List (ℕ × Roll)) (index : IsIndex m.entries rolls) where
   pub looked : (ns : List ℕ) → IsStrictlySortedBy nat_cmp ns → ((n : ℕ) → Contains (noted_of (found agent rolls)) n → Contains ns n) → flat_map (λ n. looks_of agent (found n m.entries)) ns ≡ news_of agent (values_of m.entries)
   looked ns sorted all =
       looked_alike (λ n. looks_of agent (found n m.entries)) ns (keys_of m.entries) sorted index.ordered (λ q _. known q (found q m.entries) refl) (λ q _. noted q (found q m.entries) refl)
-      ∙ news_at_keys agent (λ n. found n m.entries) m.entries (recursion_from_All (λ (e : ℕ × Request). found e.0 m.entries ≡ Some e.1) m.entries (All-found nat_cmp_total m index.ordered))
+      ∙ news_at_keys agent (λ n. found n m.entries) m.entries (found_each m.entries index.ordered)
     where
       known : (q : ℕ) (o : Option Request) → found q m.entries ≡ o → Contains (keys_of m.entries) q ⊎ (looks_of agent (found q m.entries) ≡ [])
       known q None there = inr (ap (looks_of agent) there)

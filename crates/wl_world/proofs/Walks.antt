@@ -9,18 +9,13 @@ use Rattle.std.specs.Ordering.{nat_cmp}
 use Rattle.std.proofs.lemmas.Bool.Decides.{nat_tests}
 use Rattle.std.proofs.lemmas.Map.Keys.{below_from_sorted}
 use Rattle.std.proofs.lemmas.Map.Made.{Contains-tail}
+use Rattle.wl_numbered.proofs.Keyed.{same_number}
 use Rattle.wl_machine.proofs.Covers.{alike}
 use Rattle.wl_world.specs.declared.requests.Request.{Request}
 use Rattle.wl_world.specs.Requests.{has_ended}
 use Rattle.wl_world.specs.Rolls.{IsCovered, IsEach, IsEachAt, found, leave_one, tell_one}
 
 -- ---- one number
-
-pub same_number : (n k : ℕ) → is_at (nat_cmp n) k ≡ (k == n)
-same_number n k = grind (arith, nat_tests)
-
-pub itself : (k : ℕ) → (k == k) ≡ true
-itself k = grind (arith, nat_tests)
 
 pub apart : (k n : ℕ) → (k == n) ≡ false → k ≡ n → ⊥
 apart k n h e = grind (arith, nat_tests, h, e)

@@ -5,8 +5,8 @@ ghost use Rattle.wl_world.specs.Requests.{IsRising, news_of, noted, told, waitin
 
 use crate::rolls::{Roll, add, forget, leave, note_all, tell};
 use std::alloc::Global;
-use std::collections::BTreeMap;
 use std::marker::Model;
+use wl_numbered::NumberMap;
 use wl_types::{Change, Memory, Phase};
 
 /// A request, whose it is, and the phase that it has come to since its agent's last reply with notices, if any.
@@ -20,8 +20,8 @@ pub(crate) struct Request {
 /// Requests in order of number. What is done costs what it changes or shows, whatever number of others there is.
 #[derive(Drop)]
 pub(crate) struct Requests {
-    live: BTreeMap<u64, Request>,
-    rolls: BTreeMap<u64, Roll>,
+    live: NumberMap<Request>,
+    rolls: NumberMap<Roll>,
     alloc: Global,
 }
 
@@ -43,8 +43,8 @@ impl Requests {
         ensures { result ≡ [] }
     {
         Requests {
-            live: BTreeMap::new(alloc),
-            rolls: BTreeMap::new(alloc),
+            live: NumberMap::new(alloc),
+            rolls: NumberMap::new(alloc),
             alloc,
         }
     }

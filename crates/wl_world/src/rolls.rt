@@ -1,7 +1,6 @@
 //! The requests of an origin by number, and of each agent a roll of numbers that its requests are found by.
 
 ghost use Rattle.std.specs.Prelude.{◌≡◌, ◌∷◌, ◌++◌, List, [], map, filter, is_some, true, IfOk, IsSome, OnOk, Some, None, ℕ};
-ghost use Rattle.std.specs.BTreeMap.{get};
 ghost use Rattle.std.specs.List.{Contains, flat_map};
 ghost use Rattle.std.specs.List.Sorted.{IsStrictlyIncreasing, IsStrictlySortedBy};
 ghost use Rattle.std.specs.Map.{keys_of, values_of};
@@ -11,8 +10,7 @@ ghost use Rattle.wl_world.specs.Rolls.{AreLooks, IsCovered, IsEach, IsEachAt, Is
 
 use crate::requests::Request;
 use std::alloc::Global;
-use std::collections::BTreeMap;
-use std::collections::btree_map::Entry;
+use wl_numbered::NumberMap;
 use wl_types::{Change, Memory, Phase};
 
 /// As a request comes, a roll has at most about twice as many numbers as its agent has live requests, and twice this
@@ -30,15 +28,15 @@ pub(crate) struct Roll {
 }
 
 /// Only the numbers of live requests stay.
-fn retain_live(live: &BTreeMap<u64, Request>, own: &mut Vec<u64>)
+fn retain_live(live: &NumberMap<Request>, own: &mut Vec<u64>)
     ensures { own.new.items ≡ filter (λ number. is_some (found number live.now.entries)) own.old.items }
 {
-    own.retain(|number| live.contains_key(number));
+    own.retain(|number| live.contains(*number));
 }
 
 /// Numbers that have left are taken off a roll once they are most of it. So its length follows what is live, and a
 /// request costs two look-ups here at most, on average.
-fn clean(live: &BTreeMap<u64, Request>, roll: &mut Roll)
+fn clean(live: &NumberMap<Request>, roll: &mut Roll)
     ensures own { (number : ℕ) → IsSome (found number live.now.entries) → Contains roll.old.own.items number → Contains roll.new.own.items number }
     ensures noted { roll.new.noted.items ≡ roll.old.noted.items }
 {
@@ -49,7 +47,7 @@ fn clean(live: &BTreeMap<u64, Request>, roll: &mut Roll)
 }
 
 /// An agent has another request.
-fn enroll(live: &BTreeMap<u64, Request>, roll: &mut Roll, number: u64) -> Result<(), Memory>
+fn enroll(live: &NumberMap<Request>, roll: &mut Roll, number: u64) -> Result<(), Memory>
     ensures { OnOk result (IsEnrolled live.now.entries (Some roll.old) (Some roll.new) number) }
 {
     clean(live, roll);
@@ -62,15 +60,15 @@ fn enroll(live: &BTreeMap<u64, Request>, roll: &mut Roll, number: u64) -> Result
 /// An agent has another request, and a roll if it had none.
 fn enter(
     alloc: Global,
-    live: &BTreeMap<u64, Request>,
-    rolls: &mut BTreeMap<u64, Roll>,
+    live: &NumberMap<Request>,
+    rolls: &mut NumberMap<Roll>,
     agent: u64,
     number: u64,
 ) -> Result<(), Memory>
-    ensures mine { OnOk result (IsEnrolled live.now.entries (get nat_cmp rolls.old agent) (get nat_cmp rolls.new agent) number) }
-    ensures others { OnOk result ((other : ℕ) → (other ≡ agent → ⊥) → get nat_cmp rolls.new other ≡ get nat_cmp rolls.old other) }
+    ensures mine { OnOk result (IsEnrolled live.now.entries (found agent rolls.old.entries) (found agent rolls.new.entries) number) }
+    ensures others { OnOk result ((other : ℕ) → (other ≡ agent → ⊥) → found other rolls.new.entries ≡ found other rolls.old.entries) }
 {
-    if let Some(roll) = rolls.get_mut(&agent) {
+    if let Some(roll) = rolls.get_mut(agent) {
         return enroll(live, roll, number);
     }
     let mut roll = Roll {
@@ -85,15 +83,15 @@ fn enter(
 
 /// A change finds its request. The number of one that has news already is noted.
 fn note(
-    live: &mut BTreeMap<u64, Request>,
-    rolls: &mut BTreeMap<u64, Roll>,
+    live: &mut NumberMap<Request>,
+    rolls: &mut NumberMap<Roll>,
     change: Change,
 ) -> Result<(), Memory>
     requires { IsIndex live.old.entries rolls.old.entries }
     ensures index { OnOk result (IsIndex live.new.entries rolls.new.entries) }
     ensures noted { OnOk result (values_of live.new.entries ≡ map (with_change change) (values_of live.old.entries)) }
 {
-    let Some(request) = live.get_mut(&change.id) else {
+    let Some(request) = live.get_mut(change.id) else {
         return Ok(());
     };
     let agent = request.agent;
@@ -102,7 +100,7 @@ fn note(
     if is_noted {
         return Ok(());
     }
-    match rolls.get_mut(&agent) {
+    match rolls.get_mut(agent) {
         Some(roll) => {
             roll.noted.push(change.id)?;
             Ok(())
@@ -113,8 +111,8 @@ fn note(
 
 /// Each change finds its request, one after another.
 pub(crate) fn note_all(
-    live: &mut BTreeMap<u64, Request>,
-    rolls: &mut BTreeMap<u64, Roll>,
+    live: &mut NumberMap<Request>,
+    rolls: &mut NumberMap<Roll>,
     changes: &[Change],
 ) -> Result<(), Memory>
     requires { IsIndex live.old.entries rolls.old.entries }
@@ -129,8 +127,8 @@ pub(crate) fn note_all(
 
 /// Each change finds its request, but for those of the next request, which is not there yet: what it comes to by them.
 fn note_others(
-    live: &mut BTreeMap<u64, Request>,
-    rolls: &mut BTreeMap<u64, Roll>,
+    live: &mut NumberMap<Request>,
+    rolls: &mut NumberMap<Roll>,
     number: u64,
     changes: &[Change],
 ) -> Result<Phase, Memory>
@@ -155,8 +153,8 @@ fn note_others(
 /// A new request comes with what it comes to at once, and each other change finds its request.
 pub(crate) fn add(
     alloc: Global,
-    live: &mut BTreeMap<u64, Request>,
-    rolls: &mut BTreeMap<u64, Roll>,
+    live: &mut NumberMap<Request>,
+    rolls: &mut NumberMap<Roll>,
     agent: u64,
     number: u64,
     changes: &[Change],
@@ -203,7 +201,7 @@ fn arrange(numbers: &mut Vec<u64>)
 
 /// What is news of a request comes to the end of a list, if it is the agent's, and it leaves if it has ended.
 fn tell_at(
-    live: &mut BTreeMap<u64, Request>,
+    live: &mut NumberMap<Request>,
     agent: u64,
     number: u64,
     looks: &mut Vec<(u64, Phase)>,
@@ -212,13 +210,13 @@ fn tell_at(
     ensures each { OnOk result (IsEachAt (tell_one agent) number live.old.entries live.new.entries) }
     ensures looks { OnOk result (looks.new.items ≡ looks.old.items ++ looks_of agent (found number live.old.entries)) }
 {
-    if let Some(request) = live.get_mut(&number)
+    if let Some(request) = live.get_mut(number)
         && request.agent == agent
         && let Some(phase) = request.news
     {
         looks.push((request.number, phase))?;
         if phase.is_end() {
-            live.remove(&number);
+            live.remove(number);
         } else {
             request.news = None;
         }
@@ -229,7 +227,7 @@ fn tell_at(
 /// All that is noted of an agent, one after another.
 fn tell_all(
     alloc: Global,
-    live: &mut BTreeMap<u64, Request>,
+    live: &mut NumberMap<Request>,
     agent: u64,
     numbers: &[u64],
 ) -> Result<Vec<(u64, Phase)>, Memory>
@@ -250,7 +248,7 @@ fn tell_all(
 /// All that is on an agent's roll as noted.
 fn tell_roll(
     alloc: Global,
-    live: &mut BTreeMap<u64, Request>,
+    live: &mut NumberMap<Request>,
     agent: u64,
     roll: &mut Roll,
 ) -> Result<Vec<(u64, Phase)>, Memory>
@@ -273,8 +271,8 @@ fn tell_roll(
 /// The agent is told its news, by number.
 pub(crate) fn tell(
     alloc: Global,
-    live: &mut BTreeMap<u64, Request>,
-    rolls: &mut BTreeMap<u64, Roll>,
+    live: &mut NumberMap<Request>,
+    rolls: &mut NumberMap<Roll>,
     agent: u64,
 ) -> Result<Vec<(u64, Phase)>, Memory>
     requires { IsIndex live.old.entries rolls.old.entries }
@@ -282,31 +280,28 @@ pub(crate) fn tell(
     ensures news { IfOk result (λ news. news.items ≡ news_of agent (values_of live.old.entries)) }
     ensures told { OnOk result (values_of live.new.entries ≡ told agent (values_of live.old.entries)) }
 {
-    let Some(roll) = rolls.get_mut(&agent) else {
+    let Some(roll) = rolls.get_mut(agent) else {
         return Ok(Vec::new(alloc));
     };
     tell_roll(alloc, live, agent, roll)
 }
 
-/// A request leaves if it is the agent's. An entry is refused only at a number that nothing stands at.
-fn leave_at(live: &mut BTreeMap<u64, Request>, agent: u64, number: u64)
+/// A request leaves if it is the agent's.
+fn leave_at(live: &mut NumberMap<Request>, agent: u64, number: u64)
     requires { IsStrictlySortedBy nat_cmp (keys_of live.old.entries) }
     ensures ordered { IsStrictlySortedBy nat_cmp (keys_of live.new.entries) }
     ensures each { IsEachAt (leave_one agent) number live.old.entries live.new.entries }
 {
-    let Ok(entry) = live.entry(number) else {
+    let Some(request) = live.get(number) else {
         return;
     };
-    let Entry::Occupied(entry) = entry else {
-        return;
-    };
-    if entry.get().agent == agent {
-        entry.remove();
+    if request.agent == agent {
+        live.remove(number);
     }
 }
 
 /// All requests of an agent leave.
-fn leave_all(live: &mut BTreeMap<u64, Request>, agent: u64, numbers: &[u64])
+fn leave_all(live: &mut NumberMap<Request>, agent: u64, numbers: &[u64])
     requires ordered { IsStrictlySortedBy nat_cmp (keys_of live.old.entries) }
     requires covered { IsCovered (leave_one agent) live.old.entries numbers.now }
     ensures ordered { IsStrictlySortedBy nat_cmp (keys_of live.new.entries) }
@@ -318,18 +313,18 @@ fn leave_all(live: &mut BTreeMap<u64, Request>, agent: u64, numbers: &[u64])
 }
 
 /// The agent has left.
-pub(crate) fn leave(live: &mut BTreeMap<u64, Request>, rolls: &mut BTreeMap<u64, Roll>, agent: u64)
+pub(crate) fn leave(live: &mut NumberMap<Request>, rolls: &mut NumberMap<Roll>, agent: u64)
     requires { IsIndex live.old.entries rolls.old.entries }
     ensures index { IsIndex live.new.entries rolls.new.entries }
     ensures left { values_of live.new.entries ≡ without agent (values_of live.old.entries) }
 {
-    if let Some(roll) = rolls.remove(&agent) {
+    if let Some(roll) = rolls.remove(agent) {
         leave_all(live, agent, &roll.own);
     }
 }
 
 /// No request is left.
-pub(crate) fn forget(live: &mut BTreeMap<u64, Request>, rolls: &mut BTreeMap<u64, Roll>)
+pub(crate) fn forget(live: &mut NumberMap<Request>, rolls: &mut NumberMap<Roll>)
     ensures index { IsIndex live.new.entries rolls.new.entries }
     ensures none { values_of live.new.entries ≡ [] }
 {

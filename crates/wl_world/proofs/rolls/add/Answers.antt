@@ -5,7 +5,7 @@ use Rattle.wl_world.proofs.rolls.add.Goals as goal
 pub returns-clause-index : goal.returns-clause-index
 returns-clause-index c =
     added_index c.note_others.new.live.entries c.insert.new.self.entries c.note_others.new.rolls.entries c.enter.new.rolls.entries c.in_ok-phase.ensures.index c.in_ok-insert.ensures.ordered
-    c.args.agent c.args.number c.in_ok-phase.phase c.in_ok-insert.ensures.updates.0 c.in_ok-enter.ensures.mine c.in_ok-enter.ensures.others
+    c.args.agent c.args.number c.in_ok-phase.phase c.in_ok-insert.ensures.updates c.in_ok-enter.ensures.mine c.in_ok-enter.ensures.others
 
 pub returns-clause-added : goal.returns-clause-added
 returns-clause-added c =

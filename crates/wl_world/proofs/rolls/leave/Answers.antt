@@ -12,7 +12,7 @@ leave_all-requires-clause-covered c =
 
 pub returns-in-Some-clause-index : goal.returns-in-Some-clause-index
 returns-in-Some-clause-index c =
-    left_index c.args.live.now.entries c.leave_all.new.live.entries c.args.rolls.now.entries c.remove.new.self.entries c.requires c.leave_all.ensures.ordered c.args.agent c.leave_all.ensures.each c.remove.ensures.updates.0
+    left_index c.args.live.now.entries c.leave_all.new.live.entries c.args.rolls.now.entries c.remove.new.self.entries c.requires c.leave_all.ensures.ordered c.args.agent c.leave_all.ensures.each c.remove.ensures.updates
 
 pub returns-in-Some-clause-left : goal.returns-in-Some-clause-left
 returns-in-Some-clause-left c = left_values c.args.live.now.entries c.leave_all.new.live.entries c.requires.ordered c.leave_all.ensures.ordered c.args.agent c.leave_all.ensures.each

@@ -17,7 +17,7 @@ returns-then-is_noted-clause-index c =
     let s = record r { news = Some c.args.change.phase } in
     let at = sym c.get_mut.ensures.value ∙ ap option_copied_mut c.in-Some.is in
     let written = c.get_mut.follows.holds s in
-    renoted_index c.args.live.now.entries (c.get_mut.follows.lender s).entries c.args.rolls.now.entries c.requires written.4 c.args.change r (written.3 (ap is_some at)).0 at (sym c.is_some-is_noted.ensures ∙ c.if-is_noted.true)
+    renoted_index c.args.live.now.entries (c.get_mut.follows.lender s).entries c.args.rolls.now.entries c.requires written.2 c.args.change r (written.1 (ap is_some at)) at (sym c.is_some-is_noted.ensures ∙ c.if-is_noted.true)
 
 pub returns-then-is_noted-clause-noted : goal.returns-then-is_noted-clause-noted
 returns-then-is_noted-clause-noted c =
@@ -27,7 +27,7 @@ returns-then-is_noted-clause-noted c =
     let live = c.args.live.now.entries in
     let live2 = (c.get_mut.follows.lender s).entries in
     let written = c.get_mut.follows.holds s in
-    noted_values live live2 c.requires.ordered written.4 c.args.change (noted_each c.args.change live live2 r c.requires.numbers at (written.3 (ap is_some at)).0)
+    noted_values live live2 c.requires.ordered written.2 c.args.change (noted_each c.args.change live live2 r c.requires.numbers at (written.1 (ap is_some at)))
 
 pub returns-clause-index : goal.returns-clause-index
 returns-clause-index c =
@@ -39,8 +39,8 @@ returns-clause-index c =
     let seated = sym c.get_mut-2.ensures.value ∙ ap option_copied_mut c.in-Some-get_mut.is in
     let written = c.get_mut.follows.holds s in
     let pushed = c.in_ok-push-in-Some-get_mut.ensures.items in
-    noted_index c.args.live.now.entries (c.get_mut.follows.lender s).entries c.args.rolls.now.entries (c.get_mut-2.follows.lender after).entries c.requires written.4 c.args.change r roll after
-    (written.3 (ap is_some at)).0 at seated refl (λ n has. rw pushed (Contains-append_left _ (c.args.change.id ∷ []) n has)) (rw pushed (Contains-push _ c.args.change.id)) ((c.get_mut-2.follows.holds after).3 (ap is_some seated)).0
+    noted_index c.args.live.now.entries (c.get_mut.follows.lender s).entries c.args.rolls.now.entries (c.get_mut-2.follows.lender after).entries c.requires written.2 c.args.change r roll after
+    (written.1 (ap is_some at)) at seated refl (λ n has. rw pushed (Contains-append_left _ (c.args.change.id ∷ []) n has)) (rw pushed (Contains-push _ c.args.change.id)) ((c.get_mut-2.follows.holds after).1 (ap is_some seated))
 
 pub returns-clause-noted : goal.returns-clause-noted
 returns-clause-noted c =
@@ -50,4 +50,4 @@ returns-clause-noted c =
     let live = c.args.live.now.entries in
     let live2 = (c.get_mut.follows.lender s).entries in
     let written = c.get_mut.follows.holds s in
-    noted_values live live2 c.requires.ordered written.4 c.args.change (noted_each c.args.change live live2 r c.requires.numbers at (written.3 (ap is_some at)).0)
+    noted_values live live2 c.requires.ordered written.2 c.args.change (noted_each c.args.change live live2 r c.requires.numbers at (written.1 (ap is_some at)))

@@ -29,7 +29,7 @@ returns-clause-index c =
     let ensures = c.tell_roll.ensures in
     done c.tell_roll.result
     (λ ordered each own. told_index c.args.live.now.entries c.tell_roll.new.live.entries c.args.rolls.now.entries (c.get_mut.follows.lender after).entries c.requires ordered
-    c.args.agent c.in-Some.roll.now after each at own ((c.get_mut.follows.holds after).3 (ap is_some at)).0) ensures.ordered ensures.each ensures.own
+    c.args.agent c.in-Some.roll.now after each at own ((c.get_mut.follows.holds after).1 (ap is_some at))) ensures.ordered ensures.each ensures.own
 
 pub returns-clause-news : goal.returns-clause-news
 returns-clause-news c =
