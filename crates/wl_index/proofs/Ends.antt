@@ -22,7 +22,7 @@ use Rattle.wl_index.specs.Rows.{Entry, other, waiting, holding, stamp_of, reques
 use Rattle.wl_index.specs.Lines.{Waiting, Matches, without, other_than, number_and_mode, lock_and_mode}
 use Rattle.wl_index.specs.Names.{Placed, names_of, among, has_place, is_touched, IsNames, Ready}
 use Rattle.wl_index.proofs.Lists.{filter_whole, all_weaker, all_append, all_front, all_back, all_filter, all_map}
-use Rattle.wl_index.proofs.Keyed.{Found, number_same}
+use Rattle.wl_numbered.proofs.Keyed.{Found, number_same}
 use Rattle.wl_index.proofs.Rows.{pending_filter, held_filter, live_count}
 use Rattle.wl_index.proofs.Placed.{At, at_place, name_found, written_names, written_is}
 use Rattle.wl_index.proofs.Used.{in_use_same}

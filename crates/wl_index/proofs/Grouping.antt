@@ -9,7 +9,7 @@ use Rattle.std.specs.Ordering.{nat_cmp}
 use Rattle.std.proofs.lemmas.Bool.Decides.{nat_tests}
 use Rattle.wl_machine.proofs.Covers.{alike, less, rising_filter, rising_more}
 use Rattle.wl_index.specs.Groups.{at, IsRising}
-use Rattle.wl_index.proofs.Keyed.{same_number}
+use Rattle.wl_numbered.proofs.Keyed.{same_number}
 use Rattle.wl_index.proofs.Lists.{all_weaker, filter_passed, filter_whole}
 
 -- ---- one list

@@ -30,7 +30,7 @@ use Rattle.wl_index.specs.Stamps.{by_stamp, by_stamp_all}
 use Rattle.wl_index.specs.Lines.{Numbered, Waiting, Matches, admits, with_one_more, number_and_mode, lock_and_mode}
 use Rattle.wl_index.specs.Names.{Placed, names_of, among, has_place, is_touched, IsNames, Ready, Joined, Entered, IsBelow}
 use Rattle.wl_index.proofs.Lists.{all_append, all_front, all_back, all_filter, all_map, all_weaker, filter_none, filter_whole}
-use Rattle.wl_index.proofs.Keyed.{same_number, number_same, set_same}
+use Rattle.wl_numbered.proofs.Keyed.{same_number, number_same, set_same}
 use Rattle.wl_index.proofs.Placed.{At, at_line, at_place, remove_apart, name_found, written_names}
 use Rattle.wl_index.proofs.Used.{in_use_same}
 use Rattle.wl_index.proofs.Ends.{Differ, one_touched}

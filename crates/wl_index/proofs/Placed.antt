@@ -21,7 +21,7 @@ use Rattle.wl_machine.specs.Grants.{is_empty, in_use, locks, queue, Lists, settl
 use Rattle.wl_index.specs.Lines.{Waiting, Matches, is_busy, number_and_mode, lock_and_mode}
 use Rattle.wl_index.specs.Names.{names_of, among, IsNames}
 use Rattle.wl_index.proofs.Lists.{all_append, all_front, all_back}
-use Rattle.wl_index.proofs.Keyed.{Found, found, same_number, number_same, above_apart}
+use Rattle.wl_numbered.proofs.Keyed.{Found, found, same_number, number_same, above_apart}
 use Rattle.wl_machine.proofs.Quiet.{locks_unsettled}
 use Rattle.wl_machine.proofs.Lists.{other_bytes}
 use Rattle.wl_index.proofs.Used.{settle_queue_other}

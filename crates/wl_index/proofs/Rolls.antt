@@ -23,7 +23,7 @@ use Rattle.wl_index.specs.declared.owners.Member.{Member}
 use Rattle.wl_index.specs.declared.owners.Signal.{Signal}
 use Rattle.wl_index.specs.Roll.{agent_row, signal_row, made_by, IsRoll, at_some, reason_at}
 use Rattle.wl_index.proofs.Lists.{all_append, all_front, all_back, all_weaker}
-use Rattle.wl_index.proofs.Keyed.{Found, found, entry_last, same_number, number_same, above_apart}
+use Rattle.wl_numbered.proofs.Keyed.{Found, found, entry_last, same_number, number_same, above_apart}
 
 -- ---- a look-up
 

@@ -20,7 +20,7 @@ use Rattle.wl_index.specs.Rows.{Entry, request_row, held_of, pending_of}
 use Rattle.wl_index.specs.Lines.{Matches, number_and_mode, lock_and_mode, seized}
 use Rattle.wl_index.specs.Names.{Placed, IsNames, Ready, WaitsAlone, names_of}
 use Rattle.wl_index.proofs.Lists.{all_back}
-use Rattle.wl_index.proofs.Keyed.{found}
+use Rattle.wl_numbered.proofs.Keyed.{found}
 use Rattle.wl_index.proofs.Rows.{is_request, pending_there}
 use Rattle.wl_index.proofs.Grants.{pending_one}
 use Rattle.wl_index.proofs.Placed.{At, written_names, written_is}

@@ -20,7 +20,7 @@ use Rattle.wl_index.specs.Rows.{Entry, Tag, tag, tags_of, other, waits, waiting,
 use Rattle.wl_index.specs.Groups.{at, own_of, signed_of, IsOn, IsRising, Keeps, IsGrouped, without_tag}
 use Rattle.wl_index.specs.Ends.{ends_request, ends_lock, HasNone, IsOwners}
 use Rattle.wl_index.proofs.Lists.{all_append, all_filter, any_by_stamp}
-use Rattle.wl_index.proofs.Keyed.{found_each, same_number}
+use Rattle.wl_numbered.proofs.Keyed.{found_each, same_number}
 use Rattle.wl_index.proofs.Grouping.{updated, no_group_rises}
 use Rattle.wl_index.proofs.Rows.{holds_or_waits}
 

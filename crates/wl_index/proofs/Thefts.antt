@@ -18,7 +18,7 @@ use Rattle.wl_index.specs.declared.table.Request.{Request}
 use Rattle.wl_index.specs.Stamps.{by_stamp}
 use Rattle.wl_index.specs.Rows.{Entry, other, holds, holding, stamp_of, lock_row, held_of, pending_of}
 use Rattle.wl_index.proofs.Lists.{filter_out, filter_none, any_by_stamp}
-use Rattle.wl_index.proofs.Keyed.{Found, found, same_number, number_same, above_apart}
+use Rattle.wl_numbered.proofs.Keyed.{Found, found, same_number, number_same, above_apart}
 use Rattle.wl_index.proofs.Rows.{held_filter}
 use Rattle.wl_index.proofs.Releases.{lock_there, lock_at, lock_is}
 use Rattle.wl_index.proofs.Ends.{other_lock, held_without}

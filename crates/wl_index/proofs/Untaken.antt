@@ -12,7 +12,15 @@ use Rattle.wl_index.specs.declared.order.Place.{Place}
 use Rattle.wl_index.specs.Stamps.{by_stamp, by_stamp_all, filter_by_stamp, Distinct}
 use Rattle.wl_index.specs.Rows.{Entry, holding, stamp_of, lock_row, held_of}
 use Rattle.wl_index.specs.Order.{place_of, ends_by, untaken_places, from_stamp, first_of}
+use Rattle.std.specs.List.Sorted.{IsStrictlySortedBy}
+use Rattle.std.specs.Map.{keys_of}
+use Rattle.std.specs.Ordering.{nat_cmp}
+use Rattle.wl_index.specs.declared.ending.Owner.TheVariants.{Signal}
+use Rattle.wl_index.specs.declared.ending.Standing.TheVariants.{Holds}
+use Rattle.wl_index.specs.Ends.{IsOwners, ends_entry}
 use Rattle.wl_index.proofs.Lists.{all_filter, all_map}
+use Rattle.wl_index.proofs.Owned.{both_filters}
+use Rattle.wl_index.proofs.Picks.{all_picked, pick, picked}
 use Rattle.wl_index.proofs.Distinct.{distinct_filter, distinct_map}
 use Rattle.wl_index.proofs.Sorted.{Climbing, by_stamp_climbs}
 use Rattle.wl_index.proofs.First.{first_again, first_all, from_start, passed, none_left}
@@ -26,25 +34,25 @@ at p = p.stamp
 abbrev pub offers : ℕ → ℕ → ℕ → List Entry → List Place
 offers low agent signal es = from_stamp low (untaken_places agent signal es)
 
-offers_first : (low agent signal : ℕ) (e : Entry) (es : List Entry) → offers low agent signal (e ∷ es) ≡ offers low agent signal (e ∷ []) ++ offers low agent signal es
-offers_first low agent signal e es =
-    let q = ends_by agent signal in
-    ap (λ l. from_stamp low (map place_of (filter q l))) (filter-append holding (e ∷ []) es)
-    ∙ ap (λ l. from_stamp low (map place_of l)) (filter-append q (filter holding (e ∷ [])) (filter holding es))
-    ∙ ap (from_stamp low) (map-append place_of (filter q (filter holding (e ∷ []))) (filter q (filter holding es)))
-    ∙ filter-append (λ (p : Place). nat_le low p.stamp) (untaken_places agent signal (e ∷ [])) (untaken_places agent signal es)
+-- what an abort of the signal would end, found by numbers that find all requests with it
+pub all_offered : (low agent signal : ℕ) (es : List Entry) (ns : List ℕ) → IsStrictlySortedBy nat_cmp (keys_of es) → IsStrictlySortedBy nat_cmp ns → IsOwners (Signal agent signal) es ns
+    → from_stamp low (picked (ends_entry (Signal agent signal) Holds) es ns) ≡ offers low agent signal es
+all_offered low agent signal es ns ordered rising all =
+    ap (from_stamp low) (all_picked (Signal agent signal) Holds es ordered ns rising all ∙ ap (map place_of) (both_filters holding (ends_by agent signal) es))
 
--- one request more was looked at
-pub offered : (low agent signal : ℕ) (old new : Option Place) (e : Entry) (left rest all : List Entry) → left ≡ e ∷ rest → new ≡ first_of (option_to_list old ++ offers low agent signal (e ∷ []))
-    → first_of (option_to_list old ++ offers low agent signal left) ≡ first_of (offers low agent signal all)
-    → first_of (option_to_list new ++ offers low agent signal rest) ≡ first_of (offers low agent signal all)
-offered low agent signal old new e left rest all is_left offer before =
-    let one = offers low agent signal (e ∷ []) in
-    let more = offers low agent signal rest in
+-- one number more was looked at
+pub offered : (low agent signal : ℕ) (old new : Option Place) (n : ℕ) (left rest : List ℕ) (es : List Entry) → left ≡ n ∷ rest
+    → new ≡ first_of (option_to_list old ++ from_stamp low (pick (ends_entry (Signal agent signal) Holds) es n))
+    → first_of (option_to_list old ++ from_stamp low (picked (ends_entry (Signal agent signal) Holds) es left)) ≡ first_of (offers low agent signal es)
+    → first_of (option_to_list new ++ from_stamp low (picked (ends_entry (Signal agent signal) Holds) es rest)) ≡ first_of (offers low agent signal es)
+offered low agent signal old new n left rest es is_left offer before =
+    let q = ends_entry (Signal agent signal) Holds in
+    let one = from_stamp low (pick q es n) in
+    let more = from_stamp low (picked q es rest) in
     ap (λ o. first_of (option_to_list o ++ more)) offer
     ∙ first_again at (option_to_list old ++ one) more
     ∙ ap first_of (append_assoc (option_to_list old) one more)
-    ∙ ap (λ l. first_of (option_to_list old ++ l)) (sym (offers_first low agent signal e rest) ∙ ap (offers low agent signal) (sym is_left))
+    ∙ ap (λ l. first_of (option_to_list old ++ l)) (sym (filter-append (λ (p : Place). nat_le low p.stamp) (pick q es n) (picked q es rest)) ∙ ap (λ l. from_stamp low (picked q es l)) (sym is_left))
     ∙ before
 
 -- ---- all of them

@@ -17,12 +17,12 @@ use wl_core::{PlainCore, PlainDraft};
 use wl_machine::{AgentRow, HeldRow, PendingRow, SignalRow};
 use wl_types::{Memory, Numbers};
 
-fn add_agents(draft: &mut PlainDraft, owners: &Owners) -> Result<(), Memory>
+fn add_agents(alloc: Global, draft: &mut PlainDraft, owners: &Owners) -> Result<(), Memory>
     ensures { OnOk result (draft.new ≡ record draft.old { agents = draft.old.agents ++ owners.now.agents }) }
 {
-    for (number, member) in owners.members() {
+    for (number, member) in owners.members(alloc)? {
         draft.agent(AgentRow {
-            number: *number,
+            number,
             kind: member.kind,
             active: member.active,
         })?;
@@ -30,23 +30,23 @@ fn add_agents(draft: &mut PlainDraft, owners: &Owners) -> Result<(), Memory>
     Ok(())
 }
 
-fn add_signals(draft: &mut PlainDraft, owners: &Owners) -> Result<(), Memory>
+fn add_signals(alloc: Global, draft: &mut PlainDraft, owners: &Owners) -> Result<(), Memory>
     ensures { OnOk result (draft.new ≡ record draft.old { signals = draft.old.signals ++ owners.now.signals }) }
 {
-    for (number, signal) in owners.signals() {
+    for (number, signal) in owners.signals(alloc)? {
         draft.signal(SignalRow {
             agent: signal.agent,
-            number: *number,
+            number,
             reason: signal.reason,
         })?;
     }
     Ok(())
 }
 
-fn add_names(draft: &mut PlainDraft, names: &Names) -> Result<(), Memory>
+fn add_names(alloc: Global, draft: &mut PlainDraft, names: &Names) -> Result<(), Memory>
     ensures { OnOk result (draft.new ≡ record draft.old { names = draft.old.names ++ names_of names.now }) }
 {
-    for (_, line) in names.lines() {
+    for (_, line) in names.lines(alloc)? {
         draft.name(line.name())?;
     }
     Ok(())
@@ -119,8 +119,8 @@ fn add_request(
 fn add_requests(alloc: Global, draft: &mut PlainDraft, table: &Table) -> Result<(), Memory>
     ensures { OnOk result (draft.new ≡ record draft.old { pending = draft.old.pending ++ pending_of table.now.entries }) }
 {
-    for (number, request) in table.iter() {
-        add_request(alloc, draft, *number, request)?;
+    for (number, request) in table.rows(alloc)? {
+        add_request(alloc, draft, number, request)?;
     }
     Ok(())
 }
@@ -148,9 +148,9 @@ pub(crate) fn plain_copy(
         signal: owners.next_signal(),
     };
     let mut draft = PlainDraft::new(alloc, next, table.len())?;
-    add_agents(&mut draft, owners)?;
-    add_signals(&mut draft, owners)?;
-    add_names(&mut draft, names)?;
+    add_agents(alloc, &mut draft, owners)?;
+    add_signals(alloc, &mut draft, owners)?;
+    add_names(alloc, &mut draft, names)?;
     let locks = table.locks_in_order(alloc)?;
     add_locks(alloc, &mut draft, table, locks)?;
     add_requests(alloc, &mut draft, table)?;

@@ -10,7 +10,7 @@ ghost use Rattle.wl_index.specs.Groups.{IsOn, IsRising, Keeps, KeepsLive, at, li
 
 use crate::table::Request;
 use std::alloc::Global;
-use std::collections::BTreeMap;
+use wl_numbered::NumberMap;
 use wl_types::Memory;
 
 /// Of an agent: numbers that rise, with those of all its live requests; and of each of its signals numbers that rise,
@@ -18,19 +18,19 @@ use wl_types::Memory;
 #[derive(Drop)]
 pub struct Group {
     pub own: Vec<u64>,
-    pub signed: BTreeMap<u64, Vec<u64>>,
+    pub signed: NumberMap<Vec<u64>>,
 }
 
 /// Only the numbers of live requests stay.
-fn retain_live(live: &BTreeMap<u64, Request>, list: &mut Vec<u64>)
+fn retain_live(live: &NumberMap<Request>, list: &mut Vec<u64>)
     ensures { list.new.items ≡ filter (λ n. is_some (at n live.now.entries)) list.old.items }
 {
-    list.retain(|number| live.contains_key(number));
+    list.retain(|number| live.contains(*number));
 }
 
 /// A list that is full is cleaned, and doubled where that made little room. So a number is looked up twice at most on
 /// average.
-fn make_room(live: &BTreeMap<u64, Request>, list: &mut Vec<u64>) -> Result<(), Memory>
+fn make_room(live: &NumberMap<Request>, list: &mut Vec<u64>) -> Result<(), Memory>
     requires { IsStrictlySortedBy nat_cmp list.old.items }
     ensures rising { IsStrictlySortedBy nat_cmp list.new.items }
     ensures kept { KeepsLive live.now.entries list.old.items list.new.items }
@@ -68,7 +68,7 @@ fn trim(list: &mut Vec<u64>, number: u64)
 }
 
 /// A number comes to a list, above all that are live.
-fn enlist(live: &BTreeMap<u64, Request>, list: &mut Vec<u64>, number: u64) -> Result<(), Memory>
+fn enlist(live: &NumberMap<Request>, list: &mut Vec<u64>, number: u64) -> Result<(), Memory>
     requires rising { IsStrictlySortedBy nat_cmp list.old.items }
     requires above { (n : ℕ) → IsSome (at n live.now.entries) → n < number }
     ensures rising { IsStrictlySortedBy nat_cmp list.new.items }
@@ -84,8 +84,8 @@ fn enlist(live: &BTreeMap<u64, Request>, list: &mut Vec<u64>, number: u64) -> Re
 /// A number comes to a signal's list.
 fn sign(
     alloc: Global,
-    live: &BTreeMap<u64, Request>,
-    signed: &mut BTreeMap<u64, Vec<u64>>,
+    live: &NumberMap<Request>,
+    signed: &mut NumberMap<Vec<u64>>,
     signal: u64,
     number: u64,
 ) -> Result<(), Memory>
@@ -95,7 +95,7 @@ fn sign(
     ensures kept { (s : ℕ) → KeepsLive live.now.entries (list_at s signed.old.entries) (list_at s signed.new.entries) }
     ensures on { OnOk result (Contains (list_at signal signed.new.entries) number) }
 {
-    if let Some(list) = signed.get_mut(&signal) {
+    if let Some(list) = signed.get_mut(signal) {
         return enlist(live, list, number);
     }
     let mut list = Vec::new(alloc);
@@ -107,7 +107,7 @@ fn sign(
 /// A number comes to an agent's list, and to that of its signal, if it has one.
 fn enroll(
     alloc: Global,
-    live: &BTreeMap<u64, Request>,
+    live: &NumberMap<Request>,
     group: &mut Group,
     signal: Option<u64>,
     number: u64,
@@ -128,8 +128,8 @@ fn enroll(
 /// A request, of a number above all that are live, comes to the lists of its agent.
 pub(crate) fn enter(
     alloc: Global,
-    live: &BTreeMap<u64, Request>,
-    groups: &mut BTreeMap<u64, Group>,
+    live: &NumberMap<Request>,
+    groups: &mut NumberMap<Group>,
     agent: u64,
     signal: Option<u64>,
     number: u64,
@@ -140,12 +140,12 @@ pub(crate) fn enter(
     ensures kept { (a : ℕ) → Keeps live.now.entries (at a groups.old.entries) (at a groups.new.entries) }
     ensures on { OnOk result (IsOn (at agent groups.new.entries) number signal) }
 {
-    if let Some(group) = groups.get_mut(&agent) {
+    if let Some(group) = groups.get_mut(agent) {
         return enroll(alloc, live, group, signal, number);
     }
     let mut group = Group {
         own: Vec::new(alloc),
-        signed: BTreeMap::new(alloc),
+        signed: NumberMap::new(alloc),
     };
     enroll(alloc, live, &mut group, signal, number)?;
     groups.insert(agent, group)?;
@@ -153,12 +153,12 @@ pub(crate) fn enter(
 }
 
 /// A signal's list is cleaned, and keeps no more room than it needs. It is used no more: a signal is aborted once.
-fn clean(live: &BTreeMap<u64, Request>, signed: &mut BTreeMap<u64, Vec<u64>>, signal: u64)
+fn clean(live: &NumberMap<Request>, signed: &mut NumberMap<Vec<u64>>, signal: u64)
     requires { (s : ℕ) → IsStrictlySortedBy nat_cmp (list_at s signed.old.entries) }
     ensures rising { (s : ℕ) → IsStrictlySortedBy nat_cmp (list_at s signed.new.entries) }
     ensures kept { (s : ℕ) → KeepsLive live.now.entries (list_at s signed.old.entries) (list_at s signed.new.entries) }
 {
-    if let Some(list) = signed.get_mut(&signal) {
+    if let Some(list) = signed.get_mut(signal) {
         retain_live(live, list);
         list.shrink_to_fit();
     }
@@ -166,8 +166,8 @@ fn clean(live: &BTreeMap<u64, Request>, signed: &mut BTreeMap<u64, Vec<u64>>, si
 
 /// A signal was aborted: its list is cleaned.
 pub(crate) fn clean_signal(
-    live: &BTreeMap<u64, Request>,
-    groups: &mut BTreeMap<u64, Group>,
+    live: &NumberMap<Request>,
+    groups: &mut NumberMap<Group>,
     agent: u64,
     signal: u64,
 )
@@ -175,7 +175,7 @@ pub(crate) fn clean_signal(
     ensures rising { (a : ℕ) → IsRising (at a groups.new.entries) }
     ensures kept { (a : ℕ) → Keeps live.now.entries (at a groups.old.entries) (at a groups.new.entries) }
 {
-    if let Some(group) = groups.get_mut(&agent) {
+    if let Some(group) = groups.get_mut(agent) {
         clean(live, &mut group.signed, signal);
     }
 }

@@ -20,15 +20,15 @@ use crate::settle::settle;
 use crate::table::{Request, Stage, Table};
 use std::alloc::Global;
 use std::collections::BTreeMap;
-use std::collections::btree_map::Iter;
 use std::marker::Model;
 use wl_core::push_in_room;
+use wl_numbered::{NumberMap, Rows};
 use wl_types::{Ask, Change, Memory, Mode, Name, Phase};
 
 /// The names in use: their lines by the number that brought each into use, and where each name's line is.
 #[derive(Drop)]
 pub struct Names {
-    lines: BTreeMap<u64, Line>,
+    lines: NumberMap<Line>,
     uses: BTreeMap<Name, u64>,
 }
 
@@ -50,16 +50,16 @@ impl Names {
         ensures { result ≡ [] }
     {
         Names {
-            lines: BTreeMap::new(alloc),
+            lines: NumberMap::new(alloc),
             uses: BTreeMap::new(alloc),
         }
     }
 
     /// The lines with their places, in the order in which their names came into use.
-    pub fn lines(&self) -> Iter<'_, u64, Line>
-        ensures { result ≡ self.now }
+    pub fn lines(&self, alloc: Global) -> Result<Rows<'_, Line>, Memory>
+        ensures { IfOk result (λ rows. rows ≡ self.now) }
     {
-        self.lines.iter()
+        Ok(self.lines.rows(alloc)?)
     }
 
     /// A request comes to the end of its name's queue. Answers the place of its line.
@@ -92,7 +92,7 @@ impl Names {
         let key = name.copy(alloc)?;
         self.lines.insert(number, line)?;
         let Ok(_) = self.uses.insert(key, number) else {
-            self.lines.remove(&number);
+            self.lines.remove(number);
             return Err(Memory);
         };
         Ok(())
@@ -105,7 +105,7 @@ impl Names {
             → result ≡ (is_empty (queue row.name (pending_of table.now.entries)) && not (is_empty (grants (locks row.name (held_of table.now.entries)) (row ∷ [])))) }
     {
         match self.uses.get(name) {
-            Some(place) => self.lines.get(place).unwrap().is_available(mode),
+            Some(place) => self.lines.get(*place).unwrap().is_available(mode),
             None => true,
         }
     }
@@ -192,7 +192,7 @@ impl Names {
         ensures { result ≡ slice_get (map (λ lock. lock.number) (locks name.now (held_of table.now.entries))) 0 }
     {
         match self.uses.get(name) {
-            Some(place) => self.lines.get(place).unwrap().first_number(),
+            Some(place) => self.lines.get(*place).unwrap().first_number(),
             None => None,
         }
     }
@@ -296,14 +296,14 @@ impl Names {
         ensures capacity { vec_capacity changes.old ≤ vec_capacity changes.new }
         ensures room { vec_len changes.new + length (pending_of table.new.entries) ≤ vec_capacity changes.new }
     {
-        let Some(line) = self.lines.get_mut(&place) else {
+        let Some(line) = self.lines.get_mut(place) else {
             return;
         };
         settle(table, line, changes);
         if line.is_busy() {
             return;
         }
-        let line = self.lines.remove(&place).unwrap();
+        let line = self.lines.remove(place).unwrap();
         self.uses.remove(line.name());
     }
 
@@ -335,37 +335,32 @@ impl Names {
 }
 
 /// A line's request or lock of this number ends.
-fn remove_at(lines: &mut BTreeMap<u64, Line>, place: u64, number: u64)
+fn remove_at(lines: &mut NumberMap<Line>, place: u64, number: u64)
     requires { IsSome (lookup (is_at (nat_cmp place)) lines.old.entries) }
     ensures { IfSome (lookup (is_at (nat_cmp place)) lines.old.entries) (λ w. lines.new.entries ≡ set_value (is_at (nat_cmp place)) lines.old.entries (without number w)) }
 {
-    let line = lines.get_mut(&place).unwrap();
+    let line = lines.get_mut(place).unwrap();
     line.remove(number);
 }
 
 /// A request comes to the end of a line's queue.
-fn push_at(
-    lines: &mut BTreeMap<u64, Line>,
-    place: u64,
-    number: u64,
-    mode: Mode,
-) -> Result<(), Memory>
+fn push_at(lines: &mut NumberMap<Line>, place: u64, number: u64, mode: Mode) -> Result<(), Memory>
     requires there { IsSome (lookup (is_at (nat_cmp place)) lines.old.entries) }
     requires below { IfSome (lookup (is_at (nat_cmp place)) lines.old.entries) (λ w. IsBelow number w) }
     ensures ok { OnOk result (IfSome (lookup (is_at (nat_cmp place)) lines.old.entries) (λ w. lines.new.entries ≡ set_value (is_at (nat_cmp place)) lines.old.entries (with_one_more w number mode))) }
     ensures err { OnErr result (lines.new.entries ≡ lines.old.entries) }
 {
-    let line = lines.get_mut(&place).unwrap();
+    let line = lines.get_mut(place).unwrap();
     line.push(number, mode)
 }
 
 /// A request takes a line that nobody holds.
-fn seize_at(lines: &mut BTreeMap<u64, Line>, place: u64, number: u64)
+fn seize_at(lines: &mut NumberMap<Line>, place: u64, number: u64)
     requires there { IsSome (lookup (is_at (nat_cmp place)) lines.old.entries) }
     requires gone { IfSome (lookup (is_at (nat_cmp place)) lines.old.entries) (λ w. w.holders ≡ []) }
     ensures { IfSome (lookup (is_at (nat_cmp place)) lines.old.entries) (λ w. lines.new.entries ≡ set_value (is_at (nat_cmp place)) lines.old.entries (seized number w)) }
 {
-    let line = lines.get_mut(&place).unwrap();
+    let line = lines.get_mut(place).unwrap();
     line.remove(number);
     line.seize(number);
 }

@@ -1,14 +1,21 @@
 //! The locks in the order of their grants.
 ghost use Rattle.std.specs.Prelude.{◌≡◌, vec_len, vec_capacity, OnOk, IfOk, Some, ◌∷◌, [], ◌++◌, map};
+ghost use Rattle.std.specs.BTreeMap.{is_at};
+ghost use Rattle.std.specs.List.Sorted.{IsStrictlySortedBy};
+ghost use Rattle.std.specs.Map.{keys_of, lookup};
 ghost use Rattle.std.specs.Option.{option_to_list};
+ghost use Rattle.std.specs.Ordering.{nat_cmp};
 ghost use Rattle.wl_machine.specs.Step.{is_signal};
 ghost use Rattle.wl_index.specs.Stamps.{by_stamp, Distinct};
 ghost use Rattle.wl_index.specs.Order.{places_of, untaken_places, from_stamp, first_of};
+ghost use Rattle.wl_index.specs.declared.ending.Owner.TheVariants as Owner;
+ghost use Rattle.wl_index.specs.declared.ending.Standing.TheVariants.{Holds};
 ghost use Rattle.wl_index.specs.declared.order.Place.{Place};
+ghost use Rattle.wl_index.specs.Ends.{IsOwners, ends_entry, place_if};
 
 use crate::table::{Request, Stage};
 use std::alloc::Global;
-use std::collections::BTreeMap;
+use wl_numbered::NumberMap;
 use wl_types::Memory;
 
 /// A lock's place in the order of grants, and its number.
@@ -19,12 +26,12 @@ pub(crate) struct Place {
 }
 
 /// The places of the locks, by number.
-pub(crate) fn places(requests: &BTreeMap<u64, Request>, alloc: Global) -> Result<Vec<Place>, Memory>
+pub(crate) fn places(requests: &NumberMap<Request>, alloc: Global) -> Result<Vec<Place>, Memory>
     ensures { IfOk result (λ places. places.items ≡ places_of requests.now.entries) }
 {
     let mut places = Vec::new(alloc);
-    for (number, request) in requests {
-        add_lock(&mut places, *number, request)?;
+    for (number, request) in requests.rows(alloc)? {
+        add_lock(&mut places, number, request)?;
     }
     Ok(places)
 }
@@ -56,25 +63,38 @@ pub(crate) fn numbers(places: &[Place], alloc: Global) -> Result<Vec<u64>, Memor
     Ok(places.iter().map(|place| place.number).collect(alloc)?)
 }
 
-/// The first place from a stamp on, of the locks that an abort of the agent's signal would end.
+/// The first place from a stamp on, of the locks that an abort of the agent's signal would end. These numbers find all
+/// requests with that signal.
 pub(crate) fn first_untaken(
-    requests: &BTreeMap<u64, Request>,
+    requests: &NumberMap<Request>,
+    numbers: &[u64],
     agent: u64,
     signal: u64,
     low: u64,
 ) -> Option<Place>
+    requires ordered { IsStrictlySortedBy nat_cmp (keys_of requests.now.entries) }
+    requires rising { IsStrictlySortedBy nat_cmp numbers.now }
+    requires all { IsOwners (Owner.Signal agent signal) requests.now.entries numbers.now }
     ensures { result ≡ first_of (from_stamp low (untaken_places agent signal requests.now.entries)) }
 {
     let mut first = None;
-    for (number, request) in requests {
-        first = earlier(first, untaken_place(*number, request, agent, signal), low);
+    for number in numbers {
+        first = earlier(first, untaken_at(requests, *number, agent, signal), low);
     }
     first
 }
 
-/// The place of a lock that an abort of the agent's signal would end.
+/// The place of the lock of a number, if an abort of the agent's signal would end it.
+fn untaken_at(requests: &NumberMap<Request>, number: u64, agent: u64, signal: u64) -> Option<Place>
+    ensures { result ≡ place_if (ends_entry (Owner.Signal agent signal) Holds) number (lookup (is_at (nat_cmp number)) requests.now.entries) }
+{
+    let request = requests.get(number)?;
+    untaken_place(number, request, agent, signal)
+}
+
+/// The place of a lock, if an abort of the agent's signal would end it.
 fn untaken_place(number: u64, request: &Request, agent: u64, signal: u64) -> Option<Place>
-    ensures { option_to_list result ≡ untaken_places agent signal ((number, request.now) ∷ []) }
+    ensures { result ≡ place_if (ends_entry (Owner.Signal agent signal) Holds) number (Some request.now) }
 {
     match request.stage {
         Stage::Held(stamp, false) => {

@@ -13,8 +13,8 @@ ghost use Rattle.wl_index.specs.Groups.{spared};
 
 use std::alloc::Global;
 use std::collections::BTreeMap;
-use std::collections::btree_map::Iter;
 use std::marker::Model;
+use wl_numbered::{NumberMap, Rows};
 use wl_types::{Kind, Memory, Reason};
 
 /// A live agent, and the numbers of its signals.
@@ -35,8 +35,8 @@ pub struct Signal {
 /// The agents and their signals, and the numbers that are given next.
 #[derive(Drop)]
 pub struct Owners {
-    members: BTreeMap<u64, Member>,
-    signals: BTreeMap<u64, Signal>,
+    members: NumberMap<Member>,
+    signals: NumberMap<Signal>,
     next_agent: u64,
     next_signal: u64,
     alloc: Global,
@@ -63,8 +63,8 @@ impl Owners {
         ensures { result ≡ record { agents = []; signals = []; next_agent = next_agent; next_signal = next_signal } }
     {
         Owners {
-            members: BTreeMap::new(alloc),
-            signals: BTreeMap::new(alloc),
+            members: NumberMap::new(alloc),
+            signals: NumberMap::new(alloc),
             next_agent,
             next_signal,
             alloc,
@@ -72,17 +72,17 @@ impl Owners {
     }
 
     /// The agents by number.
-    pub fn members(&self) -> Iter<'_, u64, Member>
-        ensures { map agent_row result ≡ self.now.agents }
+    pub fn members(&self, alloc: Global) -> Result<Rows<'_, Member>, Memory>
+        ensures { IfOk result (λ rows. map agent_row rows ≡ self.now.agents) }
     {
-        self.members.iter()
+        Ok(self.members.rows(alloc)?)
     }
 
     /// The signals by number.
-    pub fn signals(&self) -> Iter<'_, u64, Signal>
-        ensures { map signal_row result ≡ self.now.signals }
+    pub fn signals(&self, alloc: Global) -> Result<Rows<'_, Signal>, Memory>
+        ensures { IfOk result (λ rows. map signal_row rows ≡ self.now.signals) }
     {
-        self.signals.iter()
+        Ok(self.signals.rows(alloc)?)
     }
 
     /// How many agents are live.
@@ -125,14 +125,14 @@ impl Owners {
     pub fn has(&self, agent: u64) -> bool
         ensures { result ≡ list_any (λ row. row.number == agent) self.now.agents }
     {
-        self.members.contains_key(&agent)
+        self.members.contains(agent)
     }
 
     /// Whether the agent is a window made inactive.
     pub fn is_inactive(&self, agent: u64) -> bool
         ensures { result ≡ list_any (λ row. row.number == agent && is_window row.kind && not row.active) self.now.agents }
     {
-        match self.members.get(&agent) {
+        match self.members.get(agent) {
             Some(member) => is_inactive(member),
             None => false,
         }
@@ -141,7 +141,7 @@ impl Owners {
     pub fn is_worker(&self, agent: u64) -> bool
         ensures { result ≡ list_any (λ row. row.number == agent && not (is_window row.kind)) self.now.agents }
     {
-        match self.members.get(&agent) {
+        match self.members.get(agent) {
             Some(member) => is_worker(member),
             None => false,
         }
@@ -151,7 +151,7 @@ impl Owners {
     pub fn has_signal(&self, agent: u64, signal: u64) -> bool
         ensures { result ≡ list_any (λ row. row.agent == agent && row.number == signal) self.now.signals }
     {
-        match self.signals.get(&signal) {
+        match self.signals.get(signal) {
             Some(found) => found.agent == agent,
             None => false,
         }
@@ -161,7 +161,7 @@ impl Owners {
     pub fn reason(&self, agent: u64, signal: u64) -> Option<Reason>
         ensures { result ≡ reason_in self.now.signals agent signal }
     {
-        match self.signals.get(&signal) {
+        match self.signals.get(signal) {
             Some(found) => reason_of(found, agent),
             None => None,
         }
@@ -172,14 +172,14 @@ impl Owners {
         requires { list_any (λ row. row.number == agent) self.now.agents ≡ true }
         ensures { result ≡ length (signals_of agent self.now.signals) }
     {
-        self.members.get(&agent).unwrap().signals.len()
+        self.members.get(agent).unwrap().signals.len()
     }
 
     /// Makes the agent active or inactive.
     pub fn set_active(&mut self, agent: u64, active: bool)
         ensures { self.new ≡ record self.old { agents = map (with_active agent active) self.old.agents } }
     {
-        let Some(member) = self.members.get_mut(&agent) else {
+        let Some(member) = self.members.get_mut(agent) else {
             return;
         };
         member.active = active;
@@ -189,7 +189,7 @@ impl Owners {
     pub fn set_reason(&mut self, agent: u64, signal: u64, reason: Reason)
         ensures { self.new ≡ record self.old { signals = map (with_reason agent signal reason) self.old.signals } }
     {
-        let Some(found) = self.signals.get_mut(&signal) else {
+        let Some(found) = self.signals.get_mut(signal) else {
             return;
         };
         set_reason_of(found, agent, reason);
@@ -200,7 +200,7 @@ impl Owners {
         requires { list_any (λ row. row.number == agent) self.old.agents ≡ true }
         ensures { self.new ≡ record self.old { agents = filter (λ row. not (row.number == agent)) self.old.agents; signals = filter (λ row. not (row.agent == agent)) self.old.signals } }
     {
-        let member = self.members.remove(&agent).unwrap();
+        let member = self.members.remove(agent).unwrap();
         remove_signals(&mut self.signals, &member.signals);
     }
 
@@ -219,7 +219,7 @@ impl Owners {
         };
         self.signals.insert(number, signal)?;
         let Ok(_) = add_signal(&mut self.members, agent, number) else {
-            self.signals.remove(&number);
+            self.signals.remove(number);
             return Err(Memory);
         };
         self.next_signal = number + 1;
@@ -228,12 +228,12 @@ impl Owners {
 }
 
 /// A signal comes to its agent's list.
-fn add_signal(members: &mut BTreeMap<u64, Member>, agent: u64, signal: u64) -> Result<(), Memory>
+fn add_signal(members: &mut NumberMap<Member>, agent: u64, signal: u64) -> Result<(), Memory>
     requires { IsSome (lookup (is_at (nat_cmp agent)) members.old.entries) }
     ensures ok { OnOk result (IfSome (lookup (is_at (nat_cmp agent)) members.old.entries) (λ m. (now : Member) × (members.new.entries ≡ set_value (is_at (nat_cmp agent)) members.old.entries now) × (now.kind ≡ m.kind) × (now.active ≡ m.active) × (now.signals.entries ≡ insert_entry nat_cmp m.signals.entries signal tt))) }
     ensures err { OnErr result (IfSome (lookup (is_at (nat_cmp agent)) members.old.entries) (λ m. (now : Member) × (members.new.entries ≡ set_value (is_at (nat_cmp agent)) members.old.entries now) × (now.kind ≡ m.kind) × (now.active ≡ m.active) × (now.signals.entries ≡ m.signals.entries))) }
 {
-    let member = members.get_mut(&agent).unwrap();
+    let member = members.get_mut(agent).unwrap();
     member.signals.insert(signal, ())?;
     Ok(())
 }
@@ -248,13 +248,13 @@ fn set_reason_of(signal: &mut Signal, agent: u64, reason: Reason)
 }
 
 /// The signals of these numbers are gone.
-fn remove_signals(signals: &mut BTreeMap<u64, Signal>, numbers: &BTreeMap<u64, ()>)
+fn remove_signals(signals: &mut NumberMap<Signal>, numbers: &BTreeMap<u64, ()>)
     requires { IsStrictlySortedBy nat_cmp (keys_of signals.old.entries) }
     ensures entries { signals.new.entries ≡ filter (spared (keys_of numbers.now.entries)) signals.old.entries }
     ensures ordered { IsStrictlySortedBy nat_cmp (keys_of signals.new.entries) }
 {
     for number in numbers.keys() {
-        signals.remove(number);
+        signals.remove(*number);
     }
 }
 

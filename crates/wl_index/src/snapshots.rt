@@ -64,7 +64,7 @@ fn pending_infos(alloc: Global, table: &Table, names: &Names) -> Result<Infos, M
     ensures { IfOk result (λ infos. infos ≡ flat_map (λ name. map request_info (queue name (pending_of table.now.entries))) (names_of names.now)) }
 {
     let mut infos = Infos::new(alloc);
-    for (_, line) in names.lines() {
+    for (_, line) in names.lines(alloc)? {
         add_queue(alloc, &mut infos, table, line)?;
     }
     Ok(infos)

@@ -20,9 +20,8 @@ use crate::ending::Owner;
 use crate::groups::{Group, clean_signal, enter};
 use crate::order;
 use std::alloc::Global;
-use std::collections::BTreeMap;
-use std::collections::btree_map::Iter;
 use std::marker::Model;
+use wl_numbered::{NumberMap, Rows};
 use wl_types::{Memory, Mode, Name};
 
 /// Where a live request stands: in its queue, or among the locks, by its stamp and whether it was taken.
@@ -45,8 +44,8 @@ pub struct Request {
 /// The live requests by number, the lists that find those of each agent and signal, the next stamp and the next number.
 #[derive(Drop)]
 pub struct Table {
-    requests: BTreeMap<u64, Request>,
-    groups: BTreeMap<u64, Group>,
+    requests: NumberMap<Request>,
+    groups: NumberMap<Group>,
     stamp: u64,
     next: u64,
     alloc: Global,
@@ -70,8 +69,8 @@ impl Table {
         ensures { result ≡ record { entries = []; next = next } }
     {
         Table {
-            requests: BTreeMap::new(alloc),
-            groups: BTreeMap::new(alloc),
+            requests: NumberMap::new(alloc),
+            groups: NumberMap::new(alloc),
             stamp: 1,
             next,
             alloc,
@@ -87,7 +86,7 @@ impl Table {
     /// How many requests are live.
     pub fn len(&self) -> usize
         ensures entries { result ≡ length self.now.entries }
-        ensures small { result < 2 ^ 63 }
+        ensures small { result + 4 < 2 ^ 64 }
         ensures ordered { IsStrictlySortedBy nat_cmp (keys_of self.now.entries) }
         ensures live { result ≡ length (held_of self.now.entries) + length (pending_of self.now.entries) }
     {
@@ -98,14 +97,14 @@ impl Table {
     pub fn get(&self, number: u64) -> Option<&Request>
         ensures { option_copied result ≡ lookup (is_at (nat_cmp number)) self.now.entries }
     {
-        self.requests.get(&number)
+        self.requests.get(number)
     }
 
     /// The live requests by number.
-    pub fn iter(&self) -> Iter<'_, u64, Request>
-        ensures { result ≡ self.now.entries }
+    pub fn rows(&self, alloc: Global) -> Result<Rows<'_, Request>, Memory>
+        ensures { IfOk result (λ rows. rows ≡ self.now.entries) }
     {
-        self.requests.iter()
+        Ok(self.requests.rows(alloc)?)
     }
 
     /// The numbers of the locks, in the order of their grants.
@@ -122,11 +121,12 @@ impl Table {
     pub fn nth_untaken(&self, agent: u64, signal: u64, i: u64) -> Option<u64>
         ensures { result ≡ slice_get (map (λ (lock : HeldRow). lock.number) (filter (is_abortable agent signal) (held_of self.now.entries))) i }
     {
+        let numbers = self.owned(Owner::Signal(agent, signal));
         let mut low = 0;
         for passed in 0..i {
-            low = order::first_untaken(&self.requests, agent, signal, low)?.stamp + 1;
+            low = order::first_untaken(&self.requests, numbers, agent, signal, low)?.stamp + 1;
         }
-        Some(order::first_untaken(&self.requests, agent, signal, low)?.number)
+        Some(order::first_untaken(&self.requests, numbers, agent, signal, low)?.number)
     }
 
     /// The numbers by which an owner's live requests are found, rising. Others may be among them.
@@ -137,8 +137,8 @@ impl Table {
         ensures distinct { Distinct stamp_of (filter holding self.now.entries) }
     {
         match owner {
-            Owner::Signal(agent, signal) => signed_numbers(self.groups.get(&agent), signal),
-            Owner::Agent(agent) => own_numbers(self.groups.get(&agent)),
+            Owner::Signal(agent, signal) => signed_numbers(self.groups.get(agent), signal),
+            Owner::Agent(agent) => own_numbers(self.groups.get(agent)),
         }
     }
 
@@ -152,7 +152,7 @@ impl Table {
                 clean_signal(&self.requests, &mut self.groups, agent, signal);
             }
             Owner::Agent(agent) => {
-                self.groups.remove(&agent);
+                self.groups.remove(agent);
             }
         }
     }
@@ -211,7 +211,7 @@ impl Table {
         requires waits { (r : Request) × (lookup (is_at (nat_cmp number)) self.old.entries ≡ Some r) × (r.stage ≡ Stage.Pending) }
         ensures { self.new ≡ record { entries = filter (other number) self.old.entries; next = number } }
     {
-        self.requests.remove(&number);
+        self.requests.remove(number);
         self.next = number;
     }
 
@@ -223,7 +223,7 @@ impl Table {
         ensures still_ordered { IsStrictlySortedBy nat_cmp (keys_of self.new.entries) }
         ensures next { self.new.next ≡ self.old.next }
     {
-        self.requests.remove(&number)
+        self.requests.remove(number)
     }
 
     /// Whether an agent has the lock of this number.
@@ -231,7 +231,7 @@ impl Table {
         ensures found { result ≡ list_any (is_lock_of agent number) (held_of self.now.entries) }
         ensures lock { result ≡ true → (r : Request) × IsLock agent number self.now.entries r }
     {
-        match self.requests.get(&number) {
+        match self.requests.get(number) {
             Some(request) => is_held_by(request, agent),
             None => false,
         }
@@ -246,7 +246,7 @@ impl Table {
         ensures tags { tags_of self.new.entries ≡ tags_of self.old.entries }
         ensures next { self.new.next ≡ self.old.next }
     {
-        let request = self.requests.get_mut(&number).unwrap();
+        let request = self.requests.get_mut(number).unwrap();
         request.stage = Stage::Held(self.stamp, false);
         self.stamp += 1;
     }
@@ -259,7 +259,7 @@ impl Table {
         ensures tags { tags_of self.new.entries ≡ tags_of self.old.entries }
         ensures next { self.new.next ≡ self.old.next }
     {
-        if let Some(request) = self.requests.get_mut(&number) {
+        if let Some(request) = self.requests.get_mut(number) {
             return mark_taken(request);
         }
         false
@@ -281,7 +281,7 @@ fn signed_numbers(group: Option<&Group>, signal: u64) -> &[u64]
     ensures { result.now ≡ signed_of signal (option_copied group.entry) }
 {
     match group {
-        Some(group) => match group.signed.get(&signal) {
+        Some(group) => match group.signed.get(signal) {
             Some(list) => list,
             None => &[],
         },

@@ -15,7 +15,7 @@ returns-in-Some-clause-rising c =
     let was = c.in-Some.list.now.items in
     let list = c.shrink_to_fit.new.self in
     let cleaned : list.items ≡ filter live was = c.shrink_to_fit.ensures.items ∙ c.retain_live.ensures in
-    updated (λ _ o. IsStrictlySortedBy nat_cmp (numbers_on o)) c.args.signal (Some list) c.args.signed.now.entries (c.get_mut.follows.lender list).entries ((c.get_mut.follows.holds list).3 (ap is_some there)).0
+    updated (λ _ o. IsStrictlySortedBy nat_cmp (numbers_on o)) c.args.signal (Some list) c.args.signed.now.entries (c.get_mut.follows.lender list).entries ((c.get_mut.follows.holds list).1 (ap is_some there))
     (rw cleaned (rising_filter live was (subst (λ o. IsStrictlySortedBy nat_cmp (numbers_on o)) there (c.requires c.args.signal)))) c.requires
 
 pub returns-in-Some-clause-kept : goal.returns-in-Some-clause-kept
@@ -25,5 +25,5 @@ returns-in-Some-clause-kept c =
     let was = c.in-Some.list.now.items in
     let list = c.shrink_to_fit.new.self in
     let cleaned : list.items ≡ filter live was = c.shrink_to_fit.ensures.items ∙ c.retain_live.ensures in
-    updated (λ q o. KeepsLive c.args.live.now.entries (list_at q c.args.signed.now.entries) (numbers_on o)) c.args.signal (Some list) c.args.signed.now.entries (c.get_mut.follows.lender list).entries ((c.get_mut.follows.holds list).3 (ap is_some there)).0
+    updated (λ q o. KeepsLive c.args.live.now.entries (list_at q c.args.signed.now.entries) (numbers_on o)) c.args.signal (Some list) c.args.signed.now.entries (c.get_mut.follows.lender list).entries ((c.get_mut.follows.holds list).1 (ap is_some there))
     (λ n is has. rw cleaned (Contains-filter live was n is (subst (λ o. Contains (numbers_on o) n) there has))) (λ q n is has. has)

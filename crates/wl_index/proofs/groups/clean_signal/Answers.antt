@@ -11,6 +11,6 @@ pub returns-in-Some-clause-kept : goal.returns-in-Some-clause-kept
 returns-in-Some-clause-kept c =
     let there = sym c.get_mut.ensures.value ∙ ap option_copied_mut c.in-Some.is in
     let group = record c.in-Some.group.now { signed = c.clean.new.signed } in
-    updated (λ q o. Keeps c.args.live.now.entries (at q c.args.groups.now.entries) o) c.args.agent (Some group) c.args.groups.now.entries (c.get_mut.follows.lender group).entries ((c.get_mut.follows.holds group).3 (ap is_some there)).0
+    updated (λ q o. Keeps c.args.live.now.entries (at q c.args.groups.now.entries) o) c.args.agent (Some group) c.args.groups.now.entries (c.get_mut.follows.lender group).entries ((c.get_mut.follows.holds group).1 (ap is_some there))
     (subst (λ o. Keeps c.args.live.now.entries o (Some group)) (sym there) (record { own = λ n is has. has; signed = c.clean.ensures.kept }))
     (λ q. record { own = λ n is has. has; signed = λ s n is has. has })

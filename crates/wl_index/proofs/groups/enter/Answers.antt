@@ -9,6 +9,6 @@ returns-in-Some-clause-kept c =
     let there = sym c.get_mut.ensures.value ∙ ap option_copied_mut c.in-Some.is in
     let live = c.args.live.now.entries in
     let group = c.enroll.new.group in
-    updated (λ q o. Keeps live (at q c.args.groups.now.entries) o) c.args.agent (Some group) c.args.groups.now.entries (c.get_mut.follows.lender group).entries ((c.get_mut.follows.holds group).3 (ap is_some there)).0
+    updated (λ q o. Keeps live (at q c.args.groups.now.entries) o) c.args.agent (Some group) c.args.groups.now.entries (c.get_mut.follows.lender group).entries ((c.get_mut.follows.holds group).1 (ap is_some there))
     (subst (λ o. Keeps live o (Some group)) (sym there) c.enroll.ensures.kept)
     (λ q. record { own = λ n is has. has; signed = λ s n is has. has })

@@ -1,10 +1,14 @@
-use Rattle.std.proofs.Common.{◌≡◌, ◌++◌}
+use Rattle.std.proofs.Common.{◌≡◌, ◌++◌, drop}
 use Rattle.std.specs.Option.{option_to_list}
+use Rattle.wl_index.specs.declared.ending.Owner.TheVariants.{Signal}
+use Rattle.wl_index.specs.declared.ending.Standing.TheVariants.{Holds}
+use Rattle.wl_index.specs.Ends.{ends_entry}
 use Rattle.wl_index.specs.Order.{untaken_places, from_stamp, first_of}
+use Rattle.wl_index.proofs.Picks.{picked}
 use Rattle.wl_index.proofs.order.first_untaken.Given as goal
 
 -- the first so far, with what is left
 abbrev pub invariant-loop-number : goal.invariant-loop-number
 invariant-loop-number l =
-    first_of (option_to_list l.first ++ from_stamp l.low (untaken_places l.agent l.signal l.number-iterator))
+    first_of (option_to_list l.first ++ from_stamp l.low (picked (ends_entry (Signal l.agent l.signal) Holds) l.requests.entries (drop l.number-index l.numbers)))
     ≡ first_of (from_stamp l.low (untaken_places l.agent l.signal l.requests.entries))

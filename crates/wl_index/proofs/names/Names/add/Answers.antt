@@ -5,7 +5,7 @@ use Rattle.std.specs.BTreeMap.{is_at, get, UpdatesBy}
 use Rattle.wl_types.specs.NameOrder.{name_cmp}
 use Rattle.wl_index.specs.Lines.{Waiting}
 use Rattle.wl_index.specs.Names.{Placed, among, names_of}
-use Rattle.wl_index.proofs.Keyed.{entry_last, undone}
+use Rattle.wl_numbered.proofs.Keyed.{entry_last, undone}
 use Rattle.wl_index.proofs.Joins.{names_joined}
 use Rattle.wl_index.proofs.Named.{updated_by_name}
 use Rattle.wl_index.proofs.names.Names.add.Goals as goal

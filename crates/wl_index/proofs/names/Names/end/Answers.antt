@@ -6,7 +6,7 @@ use Rattle.wl_types.specs.NameOrder.{name_cmp}
 use Rattle.wl_index.specs.Rows.{other, held_of, pending_of}
 use Rattle.wl_index.specs.Lines.{without}
 use Rattle.wl_index.specs.Names.{Placed, Ready, names_of}
-use Rattle.wl_index.proofs.Keyed.{found}
+use Rattle.wl_numbered.proofs.Keyed.{found}
 use Rattle.wl_index.proofs.Placed.{copied_some}
 use Rattle.std.specs.List.{AllByRecursion}
 use Rattle.wl_index.proofs.Joins.{places_written}

@@ -7,7 +7,7 @@ use Rattle.wl_types.specs.NameOrder.{name_cmp}
 use Rattle.wl_index.specs.Rows.{held_of, pending_of}
 use Rattle.wl_index.specs.Lines.{seized}
 use Rattle.wl_index.specs.Names.{Placed, Ready, names_of}
-use Rattle.wl_index.proofs.Keyed.{found}
+use Rattle.wl_numbered.proofs.Keyed.{found}
 use Rattle.wl_index.proofs.Rows.{is_request}
 use Rattle.wl_index.proofs.Placed.{copied_some}
 use Rattle.wl_index.proofs.Ends.{place_found}

@@ -4,7 +4,7 @@ use Rattle.std.specs.Str.{bytes_eq}
 use Rattle.wl_machine.specs.Grants.{granted_lock}
 use Rattle.wl_index.specs.Rows.{held_of, pending_of}
 use Rattle.wl_index.specs.Names.{WaitsAlone}
-use Rattle.wl_index.proofs.Keyed.{found}
+use Rattle.wl_numbered.proofs.Keyed.{found}
 use Rattle.wl_index.proofs.Rows.{is_request, live_count, tags_length}
 use Rattle.wl_index.proofs.Ends.{one_fewer}
 use Rattle.wl_index.proofs.Seizes.{waiter, fewer_wait}

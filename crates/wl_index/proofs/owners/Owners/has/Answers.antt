@@ -5,4 +5,4 @@ use Rattle.wl_index.proofs.owners.Owners.has.Goals as goal
 pub returns : goal.returns
 returns c =
     let i = c.self.inside in
-    rw (← c.self.view_is) (c.contains_key.ensures ∙ sym (agent_there c.args.agent i.members.entries c.self.invariant.members_ordered))
+    rw (← c.self.view_is) (c.contains.ensures ∙ sym (agent_there c.args.agent i.members.entries c.self.invariant.members_ordered))

@@ -5,7 +5,7 @@ use Rattle.std.specs.Map.{lookup, set_value, remove_entry}
 use Rattle.std.specs.BTreeMap.{is_at, insert_entry}
 use Rattle.wl_index.specs.declared.owners.Member.{Member}
 use Rattle.wl_index.specs.Roll.{Roll}
-use Rattle.wl_index.proofs.Keyed.{found, undone}
+use Rattle.wl_numbered.proofs.Keyed.{found, undone}
 use Rattle.wl_index.proofs.Rolls.{agent_there, some_is, some_at, rows_stay, roll_stays, signalled, signal_rows}
 use Rattle.wl_index.proofs.owners.Owners.make_signal.Goals as goal
 

@@ -2,7 +2,7 @@ use Rattle.std.proofs.Common.{◌≡◌, ◌∙◌, sym, ap, nat_cmp, Some, None
 use Rattle.std.specs.Option.{option_copied_mut}
 use Rattle.std.specs.Map.{lookup}
 use Rattle.std.specs.BTreeMap.{is_at}
-use Rattle.wl_index.proofs.Keyed.{found}
+use Rattle.wl_numbered.proofs.Keyed.{found}
 use Rattle.wl_index.proofs.Rolls.{active_roll, active_set, active_none}
 use Rattle.wl_index.proofs.owners.Owners.set_active.Goals as goal
 

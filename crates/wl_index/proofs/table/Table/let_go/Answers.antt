@@ -13,4 +13,4 @@ pub invariant_of-self-in-Agent : goal.invariant_of-self-in-Agent
 invariant_of-self-in-Agent c =
     let i = c.self.inside in
     let none = subst (λ o. HasNone o i.requests.entries) c.in-Agent.is (subst (λ (v : Rows). HasNone c.args.owner v.entries) (sym c.self.view_is) c.requires) in
-    (c.self.invariant.0, grouped_gone c.in-Agent.agent i.requests.entries i.groups.entries c.remove.new.self.entries c.remove.ensures.updates.0 none c.self.invariant.1)
+    (c.self.invariant.0, grouped_gone c.in-Agent.agent i.requests.entries i.groups.entries c.remove.new.self.entries c.remove.ensures.updates none c.self.invariant.1)
