@@ -172,7 +172,7 @@ module _ {X : Type 0} where
       at_number : (q : ℕ) → cond (n == q) (Some w) (lookup (λ k. q == k) es) ≡ cond (q == n) (Some w) (lookup (is_at (nat_cmp q)) (in_order es))
       at_number q = let back : (n == q) ≡ (q == n) = grind (arith, nat_tests) in rw (back, lookup_in_order es q) refl
 
-  keys_removed : (P : ℕ → Type 0) (t : ℕ → Bool) (es : List (ℕ × X)) → AllByRecursion P (keys_of es) → AllByRecursion P (keys_of (remove_entry t es))
+  pub keys_removed : (P : ℕ → Type 0) (t : ℕ → Bool) (es : List (ℕ × X)) → AllByRecursion P (keys_of es) → AllByRecursion P (keys_of (remove_entry t es))
   keys_removed P t [] all = tt
   keys_removed P t (e ∷ es) all = by (t e.0) (keys_removed P t es all.1)
     where

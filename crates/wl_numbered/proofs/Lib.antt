@@ -1,3 +1,6 @@
 pub mod InOrder
 pub mod Keyed
 pub mod Sorted
+pub mod First
+pub mod Both
+pub mod Weaker

@@ -1,2 +1,3 @@
 pub mod NumberMap
+pub mod Entries
 pub mod Lends

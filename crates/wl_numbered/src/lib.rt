@@ -1,8 +1,12 @@
-//! Values by number, found by hash, and seen by contracts in the order of the numbers.
+//! Values by number: the first few stand together, the others are found by hash. Contracts see them in the order of the
+//! numbers.
 #![tactic(auto)]
 
+mod few;
+mod many;
 mod map;
 mod rows;
+mod store;
 #[cfg(test)]
 mod tests;
 

@@ -9,16 +9,15 @@ ghost use Rattle.wl_numbered.specs.Lends.{lends_value};
 ghost use Rattle.wl_numbered.specs.NumberMap.{found, IsOrdered, IsWritten};
 
 use crate::rows::Rows;
+use crate::store::Store;
 use std::alloc::{AllocError, Global};
-use std::collections::HashMap;
 use std::marker::Model;
 
-/// Values by number, each found by hash: a call takes the same few steps whatever number of values there is. The map keeps
-/// no order; contracts see its entries in the order of their numbers, so that it can stand where an ordered map would.
-/// The hash is a fixed one, so the numbers should be of the program's own making.
-#[derive(Drop)]
+/// Values by number: a call takes the same few steps whatever number of values there is. The first few stand together, and
+/// the others are found by hash. The map keeps no order; contracts see its entries in the order of their numbers, so that
+/// it can stand where an ordered map would. The hash is a fixed one, so the numbers should be of the program's own making.
 pub struct NumberMap<V> {
-    map: HashMap<u64, V>,
+    store: Store<V>,
 }
 
 impl<V> Model for NumberMap<V> {
@@ -28,7 +27,15 @@ impl<V> Model for NumberMap<V> {
 
     ghost coded = { number_map_code V.code };
 
-    ghost view = { λ m. record { entries = in_order m.map.entries } };
+    ghost view = { λ m. record { entries = in_order m.store } };
+}
+
+// Written out, since a derived one is read in place wherever a map is dropped.
+impl<V: Drop> Drop for NumberMap<V> {
+    fn drop(self) {
+        let NumberMap { store } = self;
+        drop(store);
+    }
 }
 
 impl<V> NumberMap<V> {
@@ -37,7 +44,7 @@ impl<V> NumberMap<V> {
         ensures ordered { IsOrdered result }
     {
         NumberMap {
-            map: HashMap::new(alloc),
+            store: Store::new(alloc),
         }
     }
 
@@ -45,7 +52,7 @@ impl<V> NumberMap<V> {
     pub fn get(&self, number: u64) -> Option<&V>
         ensures value { option_copied result ≡ found number self.now }
     {
-        self.map.get(&number)
+        self.store.get(number)
     }
 
     /// How many numbers have a value.
@@ -54,7 +61,7 @@ impl<V> NumberMap<V> {
         ensures small { result + 4 < 2 ^ 64 }
         ensures ordered { IsOrdered self.now }
     {
-        self.map.len()
+        self.store.len()
     }
 
     pub fn contains(&self, number: u64) -> bool
@@ -69,7 +76,7 @@ impl<V> NumberMap<V> {
         ensures value { option_copied_mut result ≡ found number self.old }
         ensures was_ordered { IsOrdered self.old }
     {
-        self.map.get_mut(&number)
+        self.store.get_mut(number)
     }
 
     /// Puts a value at a number. The value that was there is the answer. Only a new number takes memory.
@@ -84,10 +91,7 @@ impl<V> NumberMap<V> {
         ensures ordered { IsOrdered self.new }
         ensures was_ordered { IsOrdered self.old }
     {
-        match self.map.insert(number, value) {
-            Ok(old) => Ok(old),
-            Err(_) => Err(AllocError),
-        }
+        self.store.insert(number, value)
     }
 
     /// Takes the value at a number out.
@@ -99,14 +103,14 @@ impl<V> NumberMap<V> {
         ensures ordered { IsOrdered self.new }
         ensures was_ordered { IsOrdered self.old }
     {
-        self.map.remove(&number)
+        self.store.remove(number)
     }
 
     /// The values with their numbers, in the order of the numbers. It costs a sort of the numbers, and memory for them.
     pub fn rows(&self, alloc: Global) -> Result<Rows<'_, V>, AllocError>
         ensures { IfOk result (λ rows. rows ≡ self.now.entries) }
     {
-        Rows::of(alloc, &self.map)
+        Rows::of(alloc, &self.store)
     }
 
     /// No number has a value any more.
@@ -116,6 +120,6 @@ impl<V> NumberMap<V> {
         ensures empty { self.new.entries ≡ [] }
         ensures ordered { IsOrdered self.new }
     {
-        self.map.clear();
+        self.store.clear();
     }
 }

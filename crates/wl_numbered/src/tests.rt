@@ -11,7 +11,7 @@ fn squares(alloc: Global, numbers: &[u64]) -> Result<NumberMap<u64>, Fail> {
     Ok(map)
 }
 
-/// More than stand together.
+/// More than the few that stand together.
 const NUMBERS: &[u64] = &[7, 2, 9, 4, 30, 21, 5];
 
 #[test]
@@ -44,12 +44,27 @@ fn a_value_takes_the_place_of_another_and_goes(rt: HostRuntime) -> Result<(), Fa
     assert!(rt; map.remove(7) == Some(1));
     assert!(rt; map.remove(7) == None);
     assert!(rt; map.remove(21) == Some(2));
-    // Among the first few there is room again; the number stands elsewhere already.
+    // Among the few there is room again; the number stands elsewhere already.
     assert!(rt; map.insert(5, 6)? == Some(25));
     assert_eq!(rt; map.len(), 6);
     map.clear();
     assert_eq!(rt; map.len(), 0);
     assert!(rt; map.get(2).copied() == None);
+    Ok(())
+}
+
+#[test]
+fn a_map_that_lost_its_values_takes_others(rt: HostRuntime) -> Result<(), Fail> {
+    let mut map = squares(rt.alloc(), NUMBERS)?;
+    for number in NUMBERS {
+        assert!(rt; map.remove(*number).is_some());
+    }
+    assert_eq!(rt; map.len(), 0);
+    for number in 0..9 {
+        assert!(rt; map.insert(number, number)? == None);
+    }
+    assert_eq!(rt; map.len(), 9);
+    assert!(rt; map.get(8).copied() == Some(8));
     Ok(())
 }
 

@@ -4,4 +4,4 @@ use Rattle.wl_numbered.proofs.InOrder.{in_order_sorted}
 use Rattle.wl_numbered.proofs.map.NumberMap.clear.Goals as goal
 
 pub returns : goal.returns
-returns g c = record { empty = ap in_order c.clear.ensures.empty; ordered = in_order_sorted c.clear.new.self.entries }
+returns g c = record { empty = ap in_order c.clear.ensures; ordered = in_order_sorted c.clear.new.self }

@@ -5,15 +5,15 @@ use Rattle.wl_numbered.proofs.map.NumberMap.get_mut.Goals as goal
 
 pub returns : goal.returns
 returns g c =
-    let es = c.self.inside.map.entries in (
+    let es = c.self.inside.store in (
       (
         refl,
-        λ w. let now = (c.get_mut.follows.holds w).0 in (
+        λ w. let now = c.get_mut.follows.holds w in (
           rw (← c.self.view_is, now) (in_order-set_value c.args.number w es),
           rw (← c.self.view_is, now) (found_written c.args.number w es),
-          in_order_sorted (c.get_mut.follows.lender w).entries,
+          in_order_sorted (c.get_mut.follows.lender w),
         ),
-        ap (λ m. record { entries = in_order m.entries }) c.get_mut.follows.holds-at-none ∙ c.self.view_is,
+        ap (λ m. record { entries = in_order m }) c.get_mut.follows.holds-at-none ∙ c.self.view_is,
       ),
       record { writes_back = tt; value = rw (← c.self.view_is) (c.get_mut.ensures.value ∙ sym (lookup_in_order es c.args.number)); was_ordered = rw (← c.self.view_is) (in_order_sorted es) },
     )
