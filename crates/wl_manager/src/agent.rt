@@ -59,15 +59,16 @@ impl<C: LockCore, T: Count> Agent<C, T> {
         };
         // Made before the lock is taken, so that others wait for less.
         let asking = Asking::new(self.manager.alloc, ask, &self.news);
-        let mut locked = self.manager.locked.lock(rt);
+        let mut locked = self.manager.lock(rt);
         let (number, owner) = match locked.request_made(self.number, ask, asking, &mut self.share) {
             Ok(made) => made,
             Err(refusal) => return Err(refusal),
         };
         let tells = tells_of_another(locked.changes(), number);
-        locked.trim();
+        let cut = locked.trim();
         drop(locked);
         self.manager.wake(tells);
+        drop(cut);
         Ok(Ticket {
             manager,
             owner,
@@ -83,7 +84,7 @@ impl<C: LockCore, T: Count> Agent<C, T> {
         ensures ticket { ticket.new ≡ ticket.old }
     {
         let id = ticket.number;
-        let mut locked = self.manager.locked.lock(rt);
+        let mut locked = self.manager.lock(rt);
         let answer = locked.release(self.number, id, &mut self.share);
         let tells = tells_of_another(locked.changes(), id);
         drop(locked);
@@ -99,9 +100,11 @@ impl<C: LockCore, T: Count> Agent<C, T> {
         ensures err { OnErr result (T.COUNTS ≡ true → T.amount self.new.share ≡ T.amount self.old.share) }
         ensures client { self.new.number ≡ self.old.number }
     {
-        let mut locked = self.manager.locked.lock(rt);
+        let mut locked = self.manager.lock(rt);
         let signal = locked.new_signal(self.number, &mut self.share)?;
-        locked.trim();
+        let cut = locked.trim();
+        drop(locked);
+        drop(cut);
         Ok(signal)
     }
 
@@ -118,7 +121,7 @@ impl<C: LockCore, T: Count> Agent<C, T> {
         ensures err { OnErr result (T.COUNTS ≡ true → T.amount self.new.share ≡ T.amount self.old.share) }
         ensures client { self.new.number ≡ self.old.number }
     {
-        let mut locked = self.manager.locked.lock(rt);
+        let mut locked = self.manager.lock(rt);
         let aborted = locked.abort(self.number, signal, reason, &mut self.share);
         let tells = !locked.changes().is_empty();
         drop(locked);
@@ -134,9 +137,11 @@ impl<C: LockCore, T: Count> Agent<C, T> {
         ensures err { OnErr result (T.COUNTS ≡ true → T.amount self.new.share ≡ T.amount self.old.share) }
         ensures client { self.new.number ≡ self.old.number }
     {
-        let mut locked = self.manager.locked.lock(rt);
+        let mut locked = self.manager.lock(rt);
         locked.set_active(self.number, active, &mut self.share)?;
-        locked.trim();
+        let cut = locked.trim();
+        drop(locked);
+        drop(cut);
         Ok(())
     }
 
@@ -147,10 +152,7 @@ impl<C: LockCore, T: Count> Agent<C, T> {
         ensures same { T.COUNTS ≡ true → T.amount self.new.share ≡ T.amount self.old.share }
         ensures client { self.new.number ≡ self.old.number }
     {
-        self.manager
-            .locked
-            .lock(rt)
-            .query(self.number, &mut self.share)
+        self.manager.lock(rt).query(self.number, &mut self.share)
     }
 
     /// Ends this agent: its requests end, its locks are given up, its signals are gone.
@@ -165,7 +167,7 @@ impl<C: LockCore, T: Count> Agent<C, T> {
             news: _news,
         } = self;
         let mut share = share;
-        let mut locked = manager.locked.lock(rt);
+        let mut locked = manager.lock(rt);
         // Only this call ends the agent, so it is never refused.
         let _ = locked.terminate(number, &mut share);
         let tells = !locked.changes().is_empty();

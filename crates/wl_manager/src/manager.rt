@@ -9,10 +9,14 @@ use crate::count::Count;
 use crate::locked::{Leaving, Locked, TallyFault};
 use crate::news::News;
 use std::alloc::Global;
-use std::sync::{Arc, Condvar, Mutex, Wait};
+use std::sync::{Arc, Condvar, Mutex, MutexGuard, Wait};
+use std::thread::yield_now;
 use wl_core::{LockCore, PlainCore};
 use wl_journal::Entry;
 use wl_types::{Kind, Memory, Refusal};
+
+/// How often a thread tries a lock that another holds, before it sleeps until that is free.
+const TRIES: u32 = 64;
 
 /// Who is shown a manager's journal. It is called under the manager's lock: it should be short, and call nothing of
 /// that manager.
@@ -76,16 +80,29 @@ impl<C: LockCore, T: Count> Manager<C, T> {
         let Ok(news) = Arc::new(this.alloc, News::new(this.alloc)) else {
             return Err(Refusal::Memory);
         };
-        let mut locked = this.locked.lock(rt);
+        let mut locked = this.lock(rt);
         let (number, share) = locked.open(kind)?;
-        locked.trim();
+        let cut = locked.trim();
         drop(locked);
+        drop(cut);
         Ok(Agent {
             manager,
             number,
             share,
             news,
         })
+    }
+
+    /// Takes the lock. A thread that finds it held lets others run for a while before it sleeps: what is done under it
+    /// takes a few microseconds, and to wake takes longer.
+    pub(crate) fn lock<R: Wait>(&self, rt: &R) -> MutexGuard<'_, Locked<C, T>> {
+        for _ in 0..TRIES {
+            if let Some(locked) = self.locked.try_lock() {
+                return locked;
+            }
+            yield_now();
+        }
+        self.locked.lock(rt)
     }
 
     /// Wakes those that wait, where there is something that they may wait for. Called without the lock.
@@ -98,7 +115,7 @@ impl<C: LockCore, T: Count> Manager<C, T> {
     /// Calls the visitor once, under the lock: its `visit` while the journal has all entries, and once it was cut its
     /// `visit_since`, with those since the last cut.
     pub fn visit<R: Wait, V: Visitor>(&self, rt: &R, visitor: &mut V) {
-        let locked = self.locked.lock(rt);
+        let locked = self.lock(rt);
         if locked.is_whole() {
             visitor.visit(locked.entries());
         } else {
@@ -111,6 +128,6 @@ impl<C: LockCore, T: Count> Manager<C, T> {
     pub fn tally<R: Wait>(&self, rt: &R, leavings: Vec<Leaving<T>>) -> Result<u64, TallyFault<T>>
         ensures { IfErr result (λ fault. fault ≡ TallyFault.Missing leavings) }
     {
-        self.locked.lock(rt).tally(leavings)
+        self.lock(rt).tally(leavings)
     }
 }

@@ -62,7 +62,7 @@ impl<C: LockCore, T: Count> Ticket<C, T> {
         ensures number { self.new.number ≡ self.old.number }
     {
         let Ticket { manager, owner, .. } = self;
-        let mut locked = manager.locked.lock(rt);
+        let mut locked = manager.lock(rt);
         for _ in rt.forever() {
             let phase = owner.look();
             if phase != Phase::Pending {

@@ -49,17 +49,19 @@ impl<C: LockCore, T: Count> Locked<C, T> {
 
     /// Cuts the journal where it has outgrown what is live, unless all entries are kept: once it has more than 1,024
     /// entries, and more than two for each agent, signal and request of its base. So a cut costs a bounded number of
-    /// steps for each entry that it lets go. Where there is no memory for it the journal stays, and grows on.
-    pub fn trim(&mut self)
+    /// steps for each entry that it lets go. The entries are the answer, so that they can be dropped without the lock.
+    /// Where there is no memory for a cut the journal stays, and grows on.
+    pub fn trim(&mut self) -> Option<Vec<Entry>>
         ensures { (self.new ≡ self.old) ⊎ ((T.KEEPS_ALL ≡ false) × (self.new ≡ record self.old { book = cut_off self.old.book })) }
     {
         if T::KEEPS_ALL {
-            return;
+            return None;
         }
         let entries = self.book.entries().len();
         if entries > FEW && entries / 2 > rows(self.book.base()) {
-            let _ = self.book.cut();
+            return self.book.cut().ok();
         }
+        None
     }
 }
 
