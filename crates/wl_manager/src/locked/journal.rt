@@ -1,6 +1,6 @@
 //! The journal under the lock: what is shown of it, and its cut.
 
-ghost use Rattle.std.specs.Prelude.{◌≡◌, ◌⊎◌, ◌^◌, ◌-◌, min, true, false};
+ghost use Rattle.std.specs.Prelude.{◌≡◌, ◌^◌, ◌-◌, min, true, false, IfSome, OnSome, IfNone};
 ghost use Rattle.wl_journal.specs.Books.{cut_off};
 ghost use Rattle.wl_journal.specs.History.{IsLegal};
 ghost use Rattle.wl_manager.specs.Locked.{WasCut, first, rows_of};
@@ -52,7 +52,9 @@ impl<C: LockCore, T: Count> Locked<C, T> {
     /// steps for each entry that it lets go. The entries are the answer, so that they can be dropped without the lock.
     /// Where there is no memory for a cut the journal stays, and grows on.
     pub fn trim(&mut self) -> Option<Vec<Entry>>
-        ensures { (self.new ≡ self.old) ⊎ ((T.KEEPS_ALL ≡ false) × (self.new ≡ record self.old { book = cut_off self.old.book })) }
+        ensures entries { IfSome result (λ entries. entries.items ≡ self.old.book.entries) }
+        ensures cut { OnSome result ((T.KEEPS_ALL ≡ false) × (self.new ≡ record self.old { book = cut_off self.old.book })) }
+        ensures unchanged { IfNone result (self.new ≡ self.old) }
     {
         if T::KEEPS_ALL {
             return None;
