@@ -78,12 +78,11 @@ def port_is_taken(program):
         taken.bind(("127.0.0.1", 0))
         taken.listen()
         port = taken.getsockname()[1]
-        ended = run_on([program, "serve", "--port", str(port), "--clients", "1"])
+        ended = run_on([program, "serve", "--port", str(port), "--clients", "10000"])
         expect_end(ended, b"", 1, b"weblocks: cannot listen on port %d\n" % port)
 
 
-def nobody_serves(program):
-    port = free_port()
+def nobody_serves(program, port):
     ended = run_on([program, "client", "--port", str(port)])
     expect_end(ended, b"", 1, b"weblocks: cannot connect to port %d\n" % port)
 
@@ -93,9 +92,9 @@ def network_checks(program):
     yield "locks end with their connection", lambda: locks_end_with_their_connection(program)
     yield "a broken handshake", lambda: broken_handshake(program)
     yield "a port that is taken", lambda: port_is_taken(program)
-    yield "a port that nobody serves", lambda: nobody_serves(program)
+    yield "a port that nobody serves", lambda: nobody_serves(program, free_port())
+    yield "the largest port", lambda: nobody_serves(program, 65535)
     for words in (["--port", "0"], ["--port", "65536"], []):
         yield f"client with the words {words}", lambda w=words: wrong_words([program, "client", *w])
-    for clients in ("0", "10001"):
-        words = [program, "serve", "--port", "8080", "--clients", clients]
-        yield f"a server of {clients} clients", lambda w=words: wrong_words(w)
+    for words in ([], ["--clients", "0"], ["--clients", "10001"]):
+        yield f"a server with the words {words}", lambda w=words: wrong_words([program, "serve", "--port", "8080", *w])

@@ -6,8 +6,6 @@
 
 mod job;
 mod network;
-#[cfg(test)]
-mod tests;
 
 use job::{Job, UsageFault, job_of};
 use network::{NetFault, client, serve};

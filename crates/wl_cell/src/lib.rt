@@ -11,8 +11,6 @@ pub mod laws;
 mod open;
 mod owner;
 mod plays;
-#[cfg(test)]
-mod tests;
 mod view;
 mod watch;
 mod word;

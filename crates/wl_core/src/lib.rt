@@ -16,8 +16,6 @@ mod realms;
 mod room;
 mod settling;
 mod snapshots;
-#[cfg(test)]
-mod tests;
 
 pub use commands::{apply, run_commands};
 pub use lock_core::LockCore;

@@ -14,7 +14,5 @@ mod owners;
 mod settle;
 mod snapshots;
 mod table;
-#[cfg(test)]
-mod tests;
 
 pub use index::IndexCore;

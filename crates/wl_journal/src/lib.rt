@@ -8,8 +8,6 @@ mod comparing;
 mod entry;
 pub mod laws;
 mod room;
-#[cfg(test)]
-mod tests;
 
 pub use auditing::{AuditFault, audit};
 pub use book::{Book, Sight, copy_ask};

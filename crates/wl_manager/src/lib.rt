@@ -13,8 +13,6 @@ mod keepers;
 mod locked;
 mod manager;
 mod news;
-#[cfg(test)]
-mod tests;
 mod ticket;
 
 pub use crate::agent::Agent;

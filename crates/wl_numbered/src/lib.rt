@@ -7,8 +7,6 @@ mod many;
 mod map;
 mod rows;
 mod store;
-#[cfg(test)]
-mod tests;
 
 pub use map::NumberMap;
 pub use rows::Rows;

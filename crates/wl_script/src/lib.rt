@@ -14,8 +14,6 @@ mod replying;
 mod running;
 mod standard;
 mod streams;
-#[cfg(test)]
-mod tests;
 
 pub use answerer::Answerer;
 pub use auditing::audit;

@@ -9,8 +9,6 @@ mod directory;
 mod fault;
 mod opaque;
 mod service;
-#[cfg(test)]
-mod tests;
 
 pub use client::{Client, Leaving, Ticket};
 pub use directory::Core;

@@ -8,8 +8,6 @@ pub mod laws;
 mod outcomes;
 mod plan;
 mod session;
-#[cfg(test)]
-mod tests;
 mod told;
 mod upkeep;
 

@@ -11,8 +11,6 @@ pub mod laws;
 mod memory;
 mod phases;
 mod refusal;
-#[cfg(test)]
-mod tests;
 mod text;
 mod words;
 
