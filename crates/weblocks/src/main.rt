@@ -4,10 +4,8 @@
 //! command line are wrong.
 #![tactic(auto)]
 
-mod job;
 mod network;
 
-use job::{Job, UsageFault, job_of};
 use network::{NetFault, client, serve};
 use std::alloc::{AllocError, Global};
 use std::io::Write;
@@ -18,6 +16,7 @@ use std::sync::Wait;
 use std::thread::Threads;
 use std::{env, fmt, io};
 use wl_script::{Reader, ScriptFault, Writer};
+use wl_words::{Job, UsageFault, job_of};
 
 fn main(rt: HostRuntime) -> ExitCode {
     match env::args(&rt) {

@@ -1,7 +1,7 @@
 use Rattle.std.proofs.Common.{◌≡◌, [], map, refl, sym, subst, true}
 use Rattle.clap.specs.Words.{app_of, fault_of, is_simple_and_free}
 use Rattle.clap.proofs.BuiltLemmas.{on_ok_always}
-use Rattle.weblocks.proofs.job.job_of.Goals as goal
+use Rattle.wl_words.proofs.job.job_of.Goals as goal
 
 pub returns-in-Ok-try_get_matches_from-clause-right : goal.returns-in-Ok-try_get_matches_from-clause-right
 returns-in-Ok-try_get_matches_from-clause-right c =

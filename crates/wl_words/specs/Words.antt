@@ -6,10 +6,10 @@ use Rattle.clap.specs.Simple.{on_top}
 use Rattle.clap.specs.Values.{kind_of}
 use Rattle.clap.specs.declared.builder.action.ArgAction.TheVariants.{Set}
 use Rattle.clap.specs.declared.builder.value_parser.ValueParser.TheVariants as values
-use Rattle.weblocks.specs.declared.job.Job.{Job}
-use Rattle.weblocks.specs.declared.job.Job.TheVariants.{Run, Audit, Serve, Client}
-use Rattle.weblocks.specs.declared.job.UsageFault.{UsageFault}
-use Rattle.weblocks.specs.declared.job.UsageFault.TheVariants.{Usage, Memory}
+use Rattle.wl_words.specs.declared.job.Job.{Job}
+use Rattle.wl_words.specs.declared.job.Job.TheVariants.{Run, Audit, Serve, Client}
+use Rattle.wl_words.specs.declared.job.UsageFault.{UsageFault}
+use Rattle.wl_words.specs.declared.job.UsageFault.TheVariants.{Usage, Memory}
 
 -- `run`
 abbrev pub run_app : App

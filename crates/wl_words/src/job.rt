@@ -4,7 +4,7 @@ ghost use Rattle.std.specs.Prelude.{◌≡◌, [], ◌≤◌, map, pos, IfOk, If
 ghost use Rattle.clap.specs.Words.{app_of, fault_of, found_of, rows_of, rule_of, subcommand_name_of, subcommand_of, subcommand_rows_of};
 ghost use Rattle.clap.specs.declared.builder.command.Command.TheViews.{out-Command as fields_of};
 ghost use Rattle.clap.specs.declared.builder.value_parser.ValueParser.TheVariants as values;
-ghost use Rattle.weblocks.specs.Words.{weblocks_app, audit_app, client_app, run_app, scripts_app, serve_app, number_rule, HasNumber, IsJob, IsUsageFault};
+ghost use Rattle.wl_words.specs.Words.{weblocks_app, audit_app, client_app, run_app, scripts_app, serve_app, number_rule, HasNumber, IsJob, IsUsageFault};
 
 use clap::builder::ValueParser;
 use clap::error::ErrorKind;

@@ -1,8 +1,8 @@
 use Rattle.std.proofs.Common.{codes}
 use Rattle.std.specs.Str.Parse.{ParsesUnsigned, ExplainsUnsignedError, HasUnsignedDigitsIfOk}
 use Rattle.clap.specs.Words.{found_of}
-use Rattle.weblocks.proofs.Options.{has_number}
-use Rattle.weblocks.proofs.job.clients_in.Goals as goal
+use Rattle.wl_words.proofs.Options.{has_number}
+use Rattle.wl_words.proofs.job.clients_in.Goals as goal
 
 pub returns : goal.returns
 returns c =

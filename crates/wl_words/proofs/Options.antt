@@ -5,7 +5,7 @@ use Rattle.std.specs.Str.Parse.{digits_value, without_leading_plus}
 use Rattle.clap.specs.Words.{Text, one_text, rows_of, ReadsOne}
 use Rattle.clap.specs.declared.parser.matches.Found.{Found}
 use Rattle.clap.proofs.WalkLemmas.{one_text-rows}
-use Rattle.weblocks.specs.Words.{HasNumber}
+use Rattle.wl_words.specs.Words.{HasNumber}
 
 pub has_number : {E : Type 0} (gives : List ℕ → Result ℕ E → Type 0) (f : Found) (name : Text) (result : Option ℕ)
     → ((text : List ℕ) (n : ℕ) → gives text (Ok n) → n ≡ digits_value 10 (without_leading_plus text))

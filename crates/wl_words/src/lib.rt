@@ -1,0 +1,9 @@
+//! The words of the program's command line: which job they ask for, or what is wrong with them.
+//!
+//! They stand in a crate of their own, so that what `clap` says of words is read here alone, and not beside all that
+//! the program does.
+#![tactic(auto)]
+
+mod job;
+
+pub use job::{Job, UsageFault, job_of};
