@@ -91,7 +91,8 @@ abbrev pub Apart : List PendingRow → Type 0
 Apart [] = Unit {0}
 Apart (request ∷ requests) = AllByRecursion (λ (other : PendingRow). (other.number == request.number) ≡ false) requests × Apart requests
 
--- numbers rise and are below the next; no two locks have one stamp, and stamps are below the next, which stays within the numbers after one grant for each that waits
+-- numbers rise and are below the next; no two locks have one stamp, and stamps are below the next, which stays within the
+-- numbers after one grant for each that waits
 pub record IsTable (es : List Entry) (next_stamp next : ℕ) : Type 0 where
   pub ordered : IsStrictlySortedBy nat_cmp (keys_of es)
   pub below : AllByRecursion (λ e. e.0 < next) es

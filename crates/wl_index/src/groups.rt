@@ -46,9 +46,9 @@ fn make_room(live: &NumberMap<Request>, list: &mut Vec<u64>) -> Result<(), Memor
 }
 
 /// Whether the last number of a list, and so each, is below a number.
-fn is_below(list: &Vec<u64>, number: u64) -> bool
-    requires { IsStrictlySortedBy nat_cmp list.now.items }
-    ensures { result ≡ true → AllByRecursion (λ n. n < number) list.now.items }
+fn is_below(list: &[u64], number: u64) -> bool
+    requires { IsStrictlySortedBy nat_cmp list.now }
+    ensures { result ≡ true → AllByRecursion (λ n. n < number) list.now }
 {
     match list.last() {
         Some(last) => *last < number,

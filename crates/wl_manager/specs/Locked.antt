@@ -55,10 +55,11 @@ pub record IsCut (keeps_all : Bool) (book : Book) : Type 0 where
 abbrev pub ends_in : ℕ → List Change → List Phase
 ends_in id changes = filter is_end (phases_of id changes)
 
--- Whenever the lock is free: the journal has all entries since the opening state, but those that were cut (that its entries are
--- legal from its base and lead to the state is in the book's own type). Requests are numbered from 1. The keepers are those of the live requests, each at its request's phase, and those of the requests that
--- the last changes ended, each at that end; there are no others. Where shares are counted, the total of the ledger is the
--- journal's, and each agent that opened has one part of the whole, until its Leaving is handed in
+-- Whenever the lock is free: the journal has all entries since the opening state, but those that were cut (that its
+-- entries are legal from its base and lead to the state is in the book's own type). Requests are numbered from 1. The
+-- keepers are those of the live requests, each at its request's phase, and those of the requests that the last changes
+-- ended, each at that end; there are no others. Where shares are counted, the total of the ledger is the journal's, and
+-- each agent that opened has one part of the whole, until its Leaving is handed in
 pub record IsKept (counts keeps_all : Bool) (all : ℕ) (l : Inner) : Type 0 where
   pub journal : IsCut keeps_all l.book
   pub standing : IsStanding l.book.state
