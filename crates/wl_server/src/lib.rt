@@ -21,8 +21,6 @@ mod requests;
 mod serving;
 mod socket;
 mod talk;
-#[cfg(test)]
-mod tests;
 mod visit;
 mod writing;
 

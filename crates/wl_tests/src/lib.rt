@@ -2,8 +2,8 @@
 //!
 //! A contract says what a call answers, not that it has the memory to; and nothing of threads, or of texts that are
 //! for people. So each public call is made here once and its answer compared, each generic at a concrete type, each
-//! growth of memory is refused in turn, and threads race. They stand in a crate of their own, since a crate is proved
-//! once more with its tests. The tests of the server look inside it and stand with it.
+//! growth of memory is refused in turn, threads race, and connections come over loopback. They stand in a crate of their
+//! own, since a crate is proved once more with its tests.
 #![tactic(auto)]
 
 #[cfg(test)]
@@ -26,6 +26,8 @@ mod plain_core;
 mod samples;
 #[cfg(test)]
 mod script;
+#[cfg(test)]
+mod server;
 #[cfg(test)]
 mod service;
 #[cfg(test)]

@@ -1,11 +1,11 @@
 //! Connections over loopback.
 
 use super::{NoGate, OPEN};
-use crate::{Served, relay, serve};
 use std::io::Write;
 use std::net::{TcpListener, TcpStream};
 use std::test::Fail;
 use std::thread;
+use wl_server::{Served, relay, serve};
 use wl_service::Service;
 
 /// A window asks for a lock, sees it, and releases it.

@@ -6,14 +6,14 @@ mod frames;
 mod gates;
 mod loopback;
 mod relays;
-mod talks;
 
-use crate::Gate;
+use crate::samples::ask;
 use std::alloc::Global;
 use std::sync::Wait;
 use std::test::Fail;
+use wl_server::Gate;
 use wl_service::Service;
-use wl_types::{Ask, Kind, Mode, Phase, Text};
+use wl_types::{Kind, Mode, Phase};
 
 const OPEN: &[u8] = b"{\"id\":1,\"op\":\"open\",\"url\":\"https://a.test/\"}";
 
@@ -30,15 +30,8 @@ impl Gate for NoGate {
 
 /// Whether a new client of the origin has this number, and is granted the lock `db` at once. It ends then.
 fn is_free<R: Wait>(rt: &R, alloc: Global, service: &Service, number: u64) -> Result<bool, Fail> {
-    let ask = Ask {
-        name: Text::of(alloc, "db")?,
-        mode: Mode::Exclusive,
-        if_available: false,
-        steal: false,
-        signal: None,
-    };
     let mut client = service.open(rt, "https://a.test/", Kind::Window)?;
-    let mut ticket = client.request(rt, &ask)?;
+    let mut ticket = client.request(rt, &ask(alloc, "db", Mode::Exclusive)?)?;
     let is_free = client.client() == Some(number) && ticket.look() == Phase::Granted;
     let _ = client.terminate(rt);
     Ok(is_free)

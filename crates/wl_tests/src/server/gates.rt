@@ -1,11 +1,11 @@
 //! What a gate is told, over loopback.
 
 use super::OPEN;
-use crate::{Gate, Served, relay, serve};
 use std::net::{TcpListener, TcpStream};
 use std::sync::atomic::{AtomicU64, Ordering};
 use std::test::Fail;
 use std::thread;
+use wl_server::{Gate, Served, relay, serve};
 use wl_service::Service;
 
 const TWO_LINES: &[u8] = b"{\"id\":1,\"op\":\"open\",\"url\":\"https://a.test/\"}

@@ -2,7 +2,6 @@
 
 use super::frames::Narrow;
 use super::{NoGate, OPEN};
-use crate::{ListenFault, RelayFault, Served, relay, serve};
 use std::alloc::{AllocError, Global};
 use std::io::{ErrorKind, Read, Write};
 use std::net::{Net, TcpListener, TcpStream};
@@ -12,6 +11,7 @@ use std::test::Fail;
 use std::thread::Threads;
 use std::{io, thread};
 use tungstenite::Message;
+use wl_server::{ListenFault, RelayFault, Served, relay, serve};
 use wl_service::Service;
 
 const OPENED: &[u8] = b"{\"id\":1,\"notices\":[],\"ok\":{\"client\":\"client-1\"}}\n";

@@ -2,13 +2,13 @@
 
 use super::NoGate;
 use super::frames::HELLO;
-use crate::{ListenFault, Served, serve};
 use std::alloc::Global;
 use std::io::{Read, Write};
 use std::net::{Net, TcpListener, TcpStream};
 use std::test::Fail;
 use std::time::Duration;
 use std::{io, thread};
+use wl_server::{ListenFault, Served, serve};
 use wl_service::Service;
 
 /// Whether the server shakes hands within this time.

@@ -4,10 +4,12 @@ use super::frames::{
     BINARY, CLOSE, HELLO, MORE, PING, TEXT, add, add_frame, served, served_narrowly,
 };
 use super::{OPEN, REQUEST, is_free};
-use crate::{ServeEnd, ServeFault};
+use crate::samples::ask;
 use std::alloc::{AllocError, Global};
 use std::test::Fail;
+use wl_server::{ServeEnd, ServeFault};
 use wl_service::Service;
+use wl_types::{Kind, Mode, Phase};
 
 /// The frames of an agent that opens and asks for `db`.
 fn holder(alloc: Global) -> Result<Vec<u8>, AllocError> {
@@ -149,5 +151,30 @@ fn a_frame_without_a_mask(rt: HostRuntime) -> Result<(), Fail> {
     };
     assert_eq!(rt; served(&rt, alloc, &service, HELLO, &frames), end);
     assert!(rt; is_free(&rt, alloc, &service, 2)?);
+    Ok(())
+}
+
+#[test]
+fn a_connection_ends_alone(rt: HostRuntime) -> Result<(), Fail> {
+    let alloc = rt.alloc();
+    let service = Service::new(&rt, alloc)?;
+    let mut client = service.open(&rt, "https://a.test/", Kind::Window)?;
+    let mut ticket = client.request(&rt, &ask(alloc, "other", Mode::Exclusive)?)?;
+    let mut frames = holder(alloc)?;
+    let dropped = ServeEnd {
+        answered: 2,
+        fault: Some(ServeFault::Stream),
+    };
+    assert_eq!(rt; served(&rt, alloc, &service, HELLO, &frames), dropped);
+    assert!(rt; is_free(&rt, alloc, &service, 3)?);
+    assert_eq!(rt; ticket.look(), Phase::Granted);
+    add(&mut frames, CLOSE, b"")?;
+    let closed = ServeEnd {
+        answered: 2,
+        fault: None,
+    };
+    assert_eq!(rt; served(&rt, alloc, &service, HELLO, &frames), closed);
+    assert!(rt; is_free(&rt, alloc, &service, 5)?);
+    assert_eq!(rt; ticket.look(), Phase::Granted);
     Ok(())
 }

@@ -1,11 +1,11 @@
 //! What a client sends, as bytes.
 
-use crate::{ServeEnd, serve_one};
 use std::alloc::{AllocError, Global};
 use std::io;
 use std::io::{ErrorKind, Read, Write};
 use std::sync::Wait;
 use tungstenite::Duplex;
+use wl_server::{ServeEnd, serve_one};
 use wl_service::Service;
 
 /// A client's half of the opening handshake.
