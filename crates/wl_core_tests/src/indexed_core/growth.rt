@@ -1,0 +1,33 @@
+//! Each growth refused in turn.
+
+use std::alloc::Global;
+use std::test::Fail;
+use wl_core::{Command, LockCore, apply};
+use wl_index::IndexCore;
+use wl_samples::{lacks_memory, opening, refused, signalled};
+use wl_types::Kind;
+
+/// A command that is refused memory leaves the core as it was, and is done when it is asked again.
+fn try_command(core: &mut IndexCore, command: &Command) -> Result<(), Fail> {
+    let before = core.copy_plain()?;
+    if !lacks_memory(&apply(core, command)) {
+        return Ok(());
+    }
+    let is_as_before = core.copy_plain()? == before && core.changes().is_empty();
+    refused(is_as_before && !lacks_memory(&apply(core, command)))
+}
+
+/// An agent, its signal, a lock, and a request that waits for it.
+fn try_commands(alloc: Global) -> Result<(), Fail> {
+    let mut core: IndexCore = opening(alloc);
+    let wanted = Command::Request(1, signalled(alloc, "db", 1)?);
+    try_command(&mut core, &Command::Enter(Kind::Window))?;
+    try_command(&mut core, &Command::NewSignal(1))?;
+    try_command(&mut core, &wanted)?;
+    try_command(&mut core, &wanted)
+}
+
+#[test]
+fn a_refused_growth_changes_no_table(rt: HostRuntime) -> Result<(), Fail> {
+    try_commands(rt.alloc())
+}

@@ -1,0 +1,79 @@
+//! What the tests of several crates begin with, and how a test ends that was refused memory.
+//!
+//! The functions have no contract: the tests run them, and prove nothing by them.
+#![tactic(auto)]
+
+use std::alloc::Global;
+use std::test::Fail;
+use wl_core::{Command, LockCore, Reply};
+use wl_origin::{OriginKey, Standing, key_of};
+use wl_types::{Ask, Kind, Memory, Mode, Numbers, Refusal, Text};
+
+/// A core, of whatever kind, whose next numbers are all 1.
+pub fn opening<C: LockCore<Seed = ()>>(alloc: Global) -> C {
+    let next = Numbers {
+        agent: 1,
+        request: 1,
+        signal: 1,
+    };
+    C::make(alloc, (), next)
+}
+
+/// A request without options.
+pub fn ask(alloc: Global, name: &str, mode: Mode) -> Result<Ask, Memory> {
+    Ok(Ask {
+        name: Text::of(alloc, name)?,
+        mode,
+        if_available: false,
+        steal: false,
+        signal: None,
+    })
+}
+
+/// An exclusive request with a signal.
+pub fn signalled(alloc: Global, name: &str, signal: u64) -> Result<Ask, Memory> {
+    let mut asked = ask(alloc, name, Mode::Exclusive)?;
+    asked.signal = Some(signal);
+    Ok(asked)
+}
+
+/// A reader has the lock, a writer waits for it, and another reader behind the writer; a query shows them. Then each
+/// takes its lock and gives it up.
+pub fn reader_behind_writer(alloc: Global) -> Result<Vec<Command>, Memory> {
+    let mut commands = Vec::new(alloc);
+    for _ in 0..3 {
+        commands.push(Command::Enter(Kind::Window))?;
+    }
+    commands.push(Command::Request(1, ask(alloc, "db", Mode::Shared)?))?;
+    commands.push(Command::Take(1))?;
+    commands.push(Command::Request(2, ask(alloc, "db", Mode::Exclusive)?))?;
+    commands.push(Command::Request(3, ask(alloc, "db", Mode::Shared)?))?;
+    commands.push(Command::Query(1))?;
+    for (agent, next) in [(1, 2), (2, 3)] {
+        commands.push(Command::Release(agent, agent))?;
+        commands.push(Command::Take(next))?;
+    }
+    Ok(commands)
+}
+
+/// The key of a URL that has one.
+pub fn key(alloc: Global, url: &str) -> Result<OriginKey, Fail> {
+    match key_of(alloc, url)? {
+        Standing::Tuple(key) => Ok(key),
+        Standing::Opaque => Err(Fail::new("an opaque origin")),
+    }
+}
+
+/// How a test ends that met a refusal. tests/refuse_growths, which makes the N-th growth of a run of a test fail, knows
+/// the two texts.
+pub fn refused(is_as_before: bool) -> Result<(), Fail> {
+    if is_as_before {
+        Err(Fail::new("refused, and all is as before"))
+    } else {
+        Err(Fail::new("refused, and something changed"))
+    }
+}
+
+pub fn lacks_memory(reply: &Reply) -> bool {
+    matches!(reply, Reply::Refused(Refusal::Memory))
+}

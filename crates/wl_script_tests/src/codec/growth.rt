@@ -1,0 +1,52 @@
+//! Each growth refused in turn.
+
+use std::alloc::Global;
+use std::test::Fail;
+use wl_codec::{Body, Line, Notice, Notices, Outcome, WireReply, read_line, write_reply};
+use wl_samples::refused;
+use wl_types::{Memory, Mode, Phase};
+
+const LINE: &[u8] =
+    b"{\"agent\":\"a\",\"id\":1,\"name\":\"db\",\"op\":\"request\",\"options\":{\"mode\":\"shared\"}}";
+
+const TEXT: &str =
+    "{\"id\":1,\"notices\":[{\"phase\":\"granted\",\"request\":1}],\"ok\":{\"request\":1}}";
+
+fn is_read(line: &Line) -> bool {
+    let Line::Good(agent, message) = line else {
+        return false;
+    };
+    let Body::Request(ask) = &message.body else {
+        return false;
+    };
+    agent.as_str() == "a" && ask.name.as_str() == "db" && ask.mode == Mode::Shared
+}
+
+/// A line or a reply that is refused memory is no fault and no shorter text.
+fn try_both(alloc: Global) -> Result<(), Fail> {
+    match read_line(alloc, LINE) {
+        Ok(line) if is_read(&line) => {}
+        Ok(_) => return refused(false),
+        Err(Memory) => return refused(is_read(&read_line(alloc, LINE)?)),
+    }
+    let mut notices = Notices::new(alloc);
+    notices.push(Notice {
+        request: 1,
+        phase: Phase::Taken,
+    })?;
+    let reply = WireReply {
+        id: Some(1),
+        notices,
+        outcome: Outcome::Request(1),
+    };
+    match write_reply(alloc, &reply) {
+        Ok(text) if text.as_str() == TEXT => Ok(()),
+        Ok(_) => refused(false),
+        Err(Memory) => refused(write_reply(alloc, &reply)?.as_str() == TEXT),
+    }
+}
+
+#[test]
+fn a_refused_growth_is_no_fault(rt: HostRuntime) -> Result<(), Fail> {
+    try_both(rt.alloc())
+}

@@ -1,0 +1,65 @@
+//! Each growth refused in turn.
+
+ghost use Rattle.std.specs.Prelude.{◌<◌};
+
+use std::alloc::Global;
+use std::test::Fail;
+use wl_codec::Outcome;
+use wl_samples::refused;
+use wl_session::{InTime, Session, SessionOf};
+use wl_types::Phase;
+
+fn is_told(session: &mut Session) -> bool {
+    let looks = [(1, Phase::Taken)];
+    let Ok(text) = session.finish_changed(Some(2), Outcome::Request(1), &looks) else {
+        return false;
+    };
+    text.as_str()
+        == "{\"id\":2,\"notices\":[{\"phase\":\"granted\",\"request\":1}],\"ok\":{\"request\":1}}"
+        && session.live() == looks.as_slice()
+}
+
+/// A reply that is refused memory tells nothing, and is whole when it is asked again.
+fn try_reply(alloc: Global) -> Result<(), Fail> {
+    let mut session = Session::new(alloc);
+    if is_told(&mut session) {
+        return Ok(());
+    }
+    refused(session.live().is_empty() && is_told(&mut session))
+}
+
+#[test]
+fn a_refused_growth_tells_nothing(rt: HostRuntime) -> Result<(), Fail> {
+    try_reply(rt.alloc())
+}
+
+/// A reply without notices, since the first request was told as granted and the other's phase is no news.
+fn is_quiet(session: &mut SessionOf<InTime>, number: u64, phase: Phase) -> bool
+    requires { 1 < number }
+{
+    let looks = [(1, Phase::Taken), (number, phase)];
+    let Ok(text) = session.finish_changed(Some(3), Outcome::Polled, &looks) else {
+        return false;
+    };
+    text.as_str() == "{\"id\":3,\"notices\":[],\"ok\":{}}"
+}
+
+/// The same where ends stay, over a list that is full a few times, with ends and without.
+fn try_in_time(alloc: Global) -> Result<(), Fail> {
+    let mut session = SessionOf::<InTime>::new(alloc);
+    session.finish_changed(Some(2), Outcome::Request(1), &[(1, Phase::Taken)])?;
+    for number in 2..10 {
+        if !is_quiet(&mut session, number, Phase::Pending) {
+            return refused(is_quiet(&mut session, number, Phase::Pending));
+        }
+        if number % 2 == 0 && !is_quiet(&mut session, number, Phase::Released) {
+            return refused(is_quiet(&mut session, number, Phase::Released));
+        }
+    }
+    Ok(())
+}
+
+#[test]
+fn a_refused_growth_forgets_nothing_told(rt: HostRuntime) -> Result<(), Fail> {
+    try_in_time(rt.alloc())
+}

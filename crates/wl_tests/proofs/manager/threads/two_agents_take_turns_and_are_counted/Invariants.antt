@@ -1,5 +1,0 @@
-use Rattle.wl_tests.proofs.manager.threads.two_agents_take_turns_and_are_counted.Given as goal
-
--- the ledger that was just made
-abbrev pub ghosts-two_agents : goal.ghosts-two_agents
-ghosts-two_agents g a = record { name = a.blank.name; parts = a.blank.parts }
