@@ -6,14 +6,12 @@
 #![tactic(auto)]
 
 #[cfg(test)]
-mod indexed_core;
+mod cores;
 #[cfg(test)]
 mod journal;
 #[cfg(test)]
 mod numbers;
 #[cfg(test)]
 mod origins;
-#[cfg(test)]
-mod plain_core;
 #[cfg(test)]
 mod types;

@@ -1,21 +1,11 @@
 //! The words of a lock manager: limits, orders, names of faults.
 
-use std::alloc::Global;
 use std::cmp::Ordering;
 use std::test::Fail;
-use wl_samples::ask;
+use wl_samples::{ask, letters};
 use wl_types::{
     Infos, Kind, LockInfo, Memory, Mode, Name, Phase, Reason, Refusal, Text, client_text,
 };
-
-/// A text of this many letters `x`.
-fn letters(alloc: Global, count: usize) -> Result<String, Fail> {
-    let mut text = String::new(alloc);
-    for _ in 0..count {
-        text.push_str("x")?;
-    }
-    Ok(text)
-}
 
 #[test]
 fn a_name_has_at_most_1024_bytes_and_is_not_reserved(rt: HostRuntime) -> Result<(), Fail> {

@@ -3,6 +3,11 @@
 //! The functions have no contract: the tests run them, and prove nothing by them.
 #![tactic(auto)]
 
+mod answers;
+mod calls;
+
+pub use answers::told;
+pub use calls::{done, done_often};
 use std::alloc::Global;
 use std::test::Fail;
 use wl_core::{Command, LockCore, Reply};
@@ -54,6 +59,15 @@ pub fn reader_behind_writer(alloc: Global) -> Result<Vec<Command>, Memory> {
         commands.push(Command::Take(next))?;
     }
     Ok(commands)
+}
+
+/// A text of this many letters `x`.
+pub fn letters(alloc: Global, count: usize) -> Result<String, Memory> {
+    let mut text = String::new(alloc);
+    for _ in 0..count {
+        text.push_str("x")?;
+    }
+    Ok(text)
 }
 
 /// The key of a URL that has one.

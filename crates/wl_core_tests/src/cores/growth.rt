@@ -2,13 +2,13 @@
 
 use std::alloc::Global;
 use std::test::Fail;
-use wl_core::{Command, LockCore, apply};
+use wl_core::{Command, LockCore, PlainCore, apply};
 use wl_index::IndexCore;
 use wl_samples::{lacks_memory, opening, refused, signalled};
 use wl_types::Kind;
 
 /// A command that is refused memory leaves the core as it was, and is done when it is asked again.
-fn try_command(core: &mut IndexCore, command: &Command) -> Result<(), Fail> {
+fn try_command<C: LockCore>(core: &mut C, command: &Command) -> Result<(), Fail> {
     let before = core.copy_plain()?;
     if !lacks_memory(&apply(core, command)) {
         return Ok(());
@@ -18,8 +18,8 @@ fn try_command(core: &mut IndexCore, command: &Command) -> Result<(), Fail> {
 }
 
 /// An agent, its signal, a lock, and a request that waits for it.
-fn try_commands(alloc: Global) -> Result<(), Fail> {
-    let mut core: IndexCore = opening(alloc);
+fn try_commands<C: LockCore<Seed = ()>>(alloc: Global) -> Result<(), Fail> {
+    let mut core: C = opening(alloc);
     let wanted = Command::Request(1, signalled(alloc, "db", 1)?);
     try_command(&mut core, &Command::Enter(Kind::Window))?;
     try_command(&mut core, &Command::NewSignal(1))?;
@@ -28,6 +28,11 @@ fn try_commands(alloc: Global) -> Result<(), Fail> {
 }
 
 #[test]
+fn a_refused_growth_changes_nothing(rt: HostRuntime) -> Result<(), Fail> {
+    try_commands::<PlainCore>(rt.alloc())
+}
+
+#[test]
 fn a_refused_growth_changes_no_table(rt: HostRuntime) -> Result<(), Fail> {
-    try_commands(rt.alloc())
+    try_commands::<IndexCore>(rt.alloc())
 }

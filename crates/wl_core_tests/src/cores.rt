@@ -1,0 +1,10 @@
+//! That calls succeed with ample memory, on the plain core and on the indexed one, the limits in use, and worked runs.
+
+mod growth;
+mod limits;
+mod lists;
+mod random;
+mod realm;
+mod runs;
+
+pub use lists::assert_lists;

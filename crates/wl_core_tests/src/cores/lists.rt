@@ -1,0 +1,149 @@
+//! Worked lists of calls, for every kind of core. wl_samples says how they are written.
+
+use std::alloc::Global;
+use std::process::Abort;
+use std::test::Fail;
+use wl_core::{LockCore, PlainCore};
+use wl_index::IndexCore;
+use wl_samples::{done, opening};
+
+const AGENTS_COME_AND_GO: &str = "\
+may open -> yes
+open window -> Agent(1)
+open worker -> Agent(2)
+may set 1 -> yes
+set 1 inactive -> Done
+request 1 db shared -> InvalidStateError/inactive
+set 1 active -> Done
+may set 2 -> NotAWindow/active
+terminate 2 -> Done
+terminate 2 -> NoSuch/agent
+";
+
+const ONE_LOCK: &str = "\
+open window -> Agent(1)
+may request 1 db -> yes
+request 1 db -> Request(1), 1 Granted
+take 1 -> Took(Taken)
+take 1 -> Took(NotGranted)
+release 1 1 -> Released(Released), 1 Released
+release 1 1 -> Released(NotHeld)
+";
+
+const AN_ABORT: &str = "\
+open window -> Agent(1)
+may signal 1 -> yes
+signal 1 -> Signal(1)
+may request 1 db signal=1 -> yes
+request 1 db signal=1 -> Request(1), 1 Granted
+untaken 1 1 0 -> 1
+untaken 1 1 1 -> none
+abort 1 1 TimeoutError -> Aborted(Done), 1 Aborted(TimeoutError)
+abort 1 1 AbortError -> Aborted(AlreadyAborted)
+";
+
+/// The second is granted once the first is released, and so after the third; the fourth is granted last.
+const GRANTED_OUT_OF_ORDER: &str = "\
+open worker -> Agent(1)
+signal 1 -> Signal(1)
+request 1 a signal=1 -> Request(1), 1 Granted
+request 1 a signal=1 -> Request(2)
+request 1 b signal=1 -> Request(3), 3 Granted
+release 1 1 -> Released(Released), 1 Released, 2 Granted
+untaken 1 1 0 -> 3
+untaken 1 1 1 -> 2
+untaken 1 1 2 -> none
+request 1 c signal=1 -> Request(4), 4 Granted
+above 1 1 0 -> 2
+above 1 1 2 -> 3
+take 3 -> Took(Taken)
+untaken 1 1 0 -> 2
+above 1 1 2 -> 4
+above 1 1 4 -> none
+above 1 2 0 -> none
+";
+
+const HELD_AND_WAITED_FOR: &str = "\
+open window -> Agent(1)
+open worker -> Agent(2)
+request 1 db -> Request(1), 1 Granted
+request 2 db shared -> Request(2)
+query 2 -> held db/exclusive/1, waiting db/shared/2
+terminate 2 -> Done, 2 Aborted(AbortError)
+terminate 1 -> Done, 1 Released
+";
+
+/// `available` of a lock that is held, and then a steal of it.
+const NOT_AVAILABLE_AND_STOLEN: &str = "\
+open window -> Agent(1)
+open window -> Agent(2)
+request 1 db -> Request(1), 1 Granted
+request 2 db shared available -> Request(2), 2 Unavailable
+request 2 db steal -> Request(3), 1 Stolen, 3 Granted
+query 1 -> held db/exclusive/2, waiting
+";
+
+const A_READER_BEHIND_A_WRITER: &str = "\
+open window -> Agent(1)
+open window -> Agent(2)
+open window -> Agent(3)
+request 1 db shared -> Request(1), 1 Granted
+take 1 -> Took(Taken)
+request 2 db -> Request(2)
+request 3 db shared -> Request(3)
+query 1 -> held db/shared/1, waiting db/exclusive/2 db/shared/3
+release 1 1 -> Released(Released), 1 Released, 2 Granted
+take 2 -> Took(Taken)
+release 2 2 -> Released(Released), 2 Released, 3 Granted
+take 3 -> Took(Taken)
+";
+
+const LISTS: [&str; 7] = [
+    AGENTS_COME_AND_GO,
+    ONE_LOCK,
+    AN_ABORT,
+    GRANTED_OUT_OF_ORDER,
+    HELD_AND_WAITED_FOR,
+    NOT_AVAILABLE_AND_STOLEN,
+    A_READER_BEHIND_A_WRITER,
+];
+
+/// Wants each list to come out as it is written, on a new core of the kind.
+pub fn assert_lists<C: LockCore<Seed = ()>, R: Abort>(rt: &R, alloc: Global) -> Result<(), Fail> {
+    for list in LISTS {
+        let mut core: C = opening(alloc);
+        assert_eq!(rt; done(alloc, &mut core, list)?.as_str(), list);
+    }
+    Ok(())
+}
+
+#[test]
+fn the_plain_core_does_the_lists(rt: HostRuntime) -> Result<(), Fail> {
+    assert_lists::<PlainCore, _>(&rt, rt.alloc())
+}
+
+#[test]
+fn the_indexed_core_does_the_lists(rt: HostRuntime) -> Result<(), Fail> {
+    assert_lists::<IndexCore, _>(&rt, rt.alloc())
+}
+
+const TWO_READERS: &str = "\
+open window -> Agent(1)
+request 1 db shared -> Request(1), 1 Granted
+request 1 db shared -> Request(2), 2 Granted
+";
+
+#[test]
+fn a_copy_equals_its_origin_whatever_changed_last(rt: HostRuntime) -> Result<(), Fail> {
+    let mut core: PlainCore = opening(rt.alloc());
+    done(rt.alloc(), &mut core, TWO_READERS)?;
+    let copy = core.copy_plain()?;
+    assert!(rt; copy == core);
+    assert_eq!(rt; copy.changes().len(), 0);
+    // The same state by another way: these differ in the changes of the last call alone.
+    core.take(9);
+    assert!(rt; copy == core);
+    core.take(1);
+    assert!(rt; copy != core);
+    Ok(())
+}

@@ -1,0 +1,159 @@
+//! The same random calls on the indexed core and on the plain one.
+
+use std::alloc::Global;
+use std::test::Fail;
+use wl_core::{LockCore, PlainCore};
+use wl_index::IndexCore;
+use wl_samples::{done, opening};
+use wl_types::Memory;
+
+/// How many calls are made from one seed, and from how many seeds.
+const CALLS: u64 = 400;
+
+const SEEDS: u64 = 40;
+
+/// The calls that are made, each as often as it stands here. A, R and S stand for numbers of agents, requests and
+/// signals, of which most were given.
+const KINDS: [&str; 32] = [
+    "open window",
+    "open window",
+    "open worker",
+    "set A active",
+    "set A inactive",
+    "set A active",
+    "signal A",
+    "signal A",
+    "take R",
+    "take R",
+    "take R",
+    "release A R",
+    "release A R",
+    "release A R",
+    "release A R",
+    "release A R",
+    "abort A S TimeoutError",
+    "terminate A",
+    "query A",
+    "request A a",
+    "request A b",
+    "request A a shared",
+    "request A b shared",
+    "request A c shared",
+    "request A a shared",
+    "request A a signal=S",
+    "request A b shared signal=S",
+    "request A b shared signal=S",
+    "request A c shared available",
+    "request A a available",
+    "request A b steal",
+    "request A c shared steal",
+];
+
+/// Numbers that look random: a xorshift generator.
+#[derive(Drop)]
+struct Dice {
+    state: u64,
+}
+
+impl Dice {
+    /// Below the number of sides; 0 where there are none.
+    fn roll(&mut self, sides: u64) -> u64 {
+        self.state ^= self.state.wrapping_shl(13);
+        self.state ^= self.state >> 7;
+        self.state ^= self.state.wrapping_shl(17);
+        self.state.checked_rem(sides).unwrap_or(0)
+    }
+
+    /// One of the last numbers that were given, or one that was not.
+    fn near(&mut self, last: u64) -> u64 {
+        (last.saturating_add(1)).saturating_sub(self.roll(7))
+    }
+
+    fn kind(&mut self) -> &'static str {
+        KINDS.get(self.roll(32) as usize).copied().unwrap_or("")
+    }
+}
+
+/// The numbers that were given last.
+#[derive(Clone, Copy)]
+struct Last {
+    agent: u64,
+    request: u64,
+    signal: u64,
+}
+
+impl Last {
+    /// Notes what a call was answered: numbers are given in turn.
+    fn note(&mut self, answer: &str) {
+        if answer.starts_with("Agent") {
+            self.agent = self.agent.saturating_add(1);
+        } else if answer.starts_with("Request") {
+            self.request = self.request.saturating_add(1);
+        } else if answer.starts_with("Signal") {
+            self.signal = self.signal.saturating_add(1);
+        }
+    }
+}
+
+/// Adds a word of a kind and a space, with a number in the place of its letter.
+fn add_word(call: &mut String, word: &str, dice: &mut Dice, last: Last) -> Result<(), Memory> {
+    match word {
+        "A" => write!(call, "{} ", dice.near(last.agent))?,
+        "R" => write!(call, "{} ", dice.near(last.request))?,
+        "S" => write!(call, "{} ", dice.near(last.signal))?,
+        "signal=S" => write!(call, "signal={} ", dice.near(last.signal))?,
+        _ => write!(call, "{word} ")?,
+    }
+    Ok(())
+}
+
+fn add_words(call: &mut String, kind: &str, dice: &mut Dice, last: Last) -> Result<(), Memory> {
+    for word in kind.split(' ') {
+        add_word(call, word, dice, last)?;
+    }
+    Ok(())
+}
+
+fn random_call(alloc: Global, dice: &mut Dice, last: Last) -> Result<String, Memory> {
+    let mut call = String::new(alloc);
+    let kind = dice.kind();
+    add_words(&mut call, kind, dice, last)?;
+    Ok(call)
+}
+
+/// Whether the cores have the same state and tell the same changes.
+fn same_core(plain: &PlainCore, index: &IndexCore) -> Result<bool, Memory> {
+    Ok(plain.changes() == index.changes() && index.copy_plain()? == *plain)
+}
+
+/// The first call after which the cores differ, if they do, as the plain one answers it.
+fn first_difference(alloc: Global, seed: u64) -> Result<Option<String>, Memory> {
+    let mut index: IndexCore = opening(alloc);
+    let mut plain: PlainCore = opening(alloc);
+    let mut dice = Dice { state: seed };
+    let mut last = Last {
+        agent: 0,
+        request: 0,
+        signal: 0,
+    };
+    for _ in 0..CALLS {
+        let call = random_call(alloc, &mut dice, last)?;
+        let line = done(alloc, &mut plain, call.as_str())?;
+        let other = done(alloc, &mut index, call.as_str())?;
+        if line.as_str() != other.as_str() || !same_core(&plain, &index)? {
+            return Ok(Some(line));
+        }
+        let (_, answer) = line.as_str().split_once(" -> ").unwrap_or(("", ""));
+        last.note(answer);
+    }
+    Ok(None)
+}
+
+#[test]
+fn both_cores_do_the_same(rt: HostRuntime) -> Result<(), Fail> {
+    for seed in 1..=SEEDS {
+        let difference = first_difference(rt.alloc(), seed)?;
+        assert!(rt; difference.is_none(), "seed {seed}: {difference:?}");
+    }
+    Ok(())
+}
