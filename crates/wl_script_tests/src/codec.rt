@@ -1,7 +1,83 @@
-//! Messages read, replies written.
+//! Messages and lines that are read, and replies that are written.
 
 mod faults;
 mod growth;
 mod reading;
 mod scratch;
 mod writing;
+
+use std::alloc::Global;
+use wl_codec::{Body, CodecFault, Line, Message, Reading, read_line, read_message};
+use wl_types::{Ask, Memory};
+
+/// Reads the messages of a list, and gives the list as it came out. Each row is a message, an arrow and what it is, as
+/// `told` says it.
+fn read_messages(alloc: Global, list: &str) -> Result<String, Memory> {
+    let mut came = String::new(alloc);
+    for row in list.lines() {
+        let (text, _) = row.split_once(" -> ").unwrap_or((row, ""));
+        let read = told(alloc, &read_message(alloc, text.as_bytes())?)?;
+        write!(came, "{text} -> {read}\n")?;
+    }
+    Ok(came)
+}
+
+/// The same of the lines of a script.
+fn read_lines(alloc: Global, list: &str) -> Result<String, Memory> {
+    let mut came = String::new(alloc);
+    for row in list.lines() {
+        let (text, _) = row.split_once(" -> ").unwrap_or((row, ""));
+        let read = line_told(alloc, &read_line(alloc, text.as_bytes())?)?;
+        write!(came, "{text} -> {read}\n")?;
+    }
+    Ok(came)
+}
+
+/// A message's id and what it asks, or the id, where it has one, and the name and rule of its fault.
+fn told(alloc: Global, reading: &Reading) -> Result<String, Memory> {
+    match reading {
+        Reading::Good(message) => asked(alloc, message),
+        Reading::Bad(id, fault) => wrong(alloc, *id, *fault),
+    }
+}
+
+/// The same of a line, with its label before it.
+fn line_told(alloc: Global, line: &Line) -> Result<String, Memory> {
+    match line {
+        Line::Good(label, message) => {
+            let asked = asked(alloc, message)?;
+            Ok(format!(in alloc; "{}: {asked}", label.as_str())?)
+        }
+        Line::Bad(id, fault) => wrong(alloc, *id, *fault),
+    }
+}
+
+fn asked(alloc: Global, message: &Message) -> Result<String, Memory> {
+    let id = message.id;
+    Ok(match &message.body {
+        Body::Enter { url, kind } => format!(in alloc; "{id} open {} {kind:?}", url.as_str())?,
+        Body::Request(ask) => wish(alloc, id, ask)?,
+        body => format!(in alloc; "{id} {body:?}")?,
+    })
+}
+
+fn wish(alloc: Global, id: u64, ask: &Ask) -> Result<String, Memory> {
+    let mut text = format!(in alloc; "{id} request {} {}", ask.name.as_str(), ask.mode.word())?;
+    if ask.if_available {
+        text.push_str(" available")?;
+    }
+    if ask.steal {
+        text.push_str(" steal")?;
+    }
+    if let Some(signal) = ask.signal {
+        write!(text, " signal {signal}")?;
+    }
+    Ok(text)
+}
+
+fn wrong(alloc: Global, id: Option<u64>, fault: CodecFault) -> Result<String, Memory> {
+    Ok(match id {
+        Some(id) => format!(in alloc; "{id} {}/{}", fault.name(), fault.rule())?,
+        None => format!(in alloc; "{}/{}", fault.name(), fault.rule())?,
+    })
+}

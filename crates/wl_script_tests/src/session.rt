@@ -1,9 +1,12 @@
 //! Whole replies of a session, in the order in which an agent would read them.
 
+ghost use Rattle.wl_session.specs.Told.{IsByNumber};
+
 mod growth;
 mod upkeep;
 
 use std::alloc::Global;
+use std::process::Abort;
 use std::test::Fail;
 use wl_codec::{Body, CodecFault, Outcome, read_message};
 use wl_session::{Action, Plan, Session, tells};
@@ -12,6 +15,40 @@ use wl_types::{AbortAnswer, Kind, Memory, Phase, Reason, Refusal, ReleaseAnswer}
 const OPEN: &[u8] = b"{\"id\":1,\"kind\":\"window\",\"op\":\"open\",\"url\":\"https://a.test/\"}";
 
 const POLL: &[u8] = b"{\"id\":7,\"op\":\"poll\"}";
+
+/// Wants this reply to message 7 from looks at what changed, and then this told list.
+fn assert_changed<R: Abort>(
+    rt: &R,
+    session: &mut Session,
+    outcome: Outcome,
+    looks: &[(u64, Phase)],
+    text: &str,
+    told: &[(u64, Phase)],
+) -> Result<(), Memory>
+    requires { IsByNumber looks.now }
+{
+    let reply = session.finish_changed(Some(7), outcome, looks)?;
+    assert_eq!(rt; reply.as_str(), text);
+    assert_eq!(rt; session.live(), told);
+    Ok(())
+}
+
+/// The same from looks at all requests.
+fn assert_all<R: Abort>(
+    rt: &R,
+    session: &mut Session,
+    outcome: Outcome,
+    looks: &[(u64, Phase)],
+    text: &str,
+    told: &[(u64, Phase)],
+) -> Result<(), Memory>
+    requires { IsByNumber looks.now }
+{
+    let reply = session.finish(Some(7), outcome, looks)?;
+    assert_eq!(rt; reply.as_str(), text);
+    assert_eq!(rt; session.live(), told);
+    Ok(())
+}
 
 /// A session that was opened, and whose first request was granted and told.
 fn with_a_lock(alloc: Global) -> Result<Session, Memory> {
@@ -29,39 +66,46 @@ fn planned(alloc: Global, session: &Session, message: &[u8]) -> Result<Plan, Mem
 #[test]
 fn an_agent_is_told_each_phase_once(rt: HostRuntime) -> Result<(), Fail> {
     let mut session = Session::new(rt.alloc());
-    let opened = session.finish(Some(1), Outcome::Client(Some(1)), &[])?;
-    assert_eq!(rt;
-        opened.as_str(),
-        "{\"id\":1,\"notices\":[],\"ok\":{\"client\":\"client-1\"}}"
-    );
-    let granted = session.finish(Some(2), Outcome::Request(1), &[(1, Phase::Taken)])?;
-    assert_eq!(rt;
-        granted.as_str(),
-        "{\"id\":2,\"notices\":[{\"phase\":\"granted\",\"request\":1}],\"ok\":{\"request\":1}}"
-    );
-    let again = session.finish(Some(3), Outcome::Polled, &[(1, Phase::Taken)])?;
-    assert_eq!(rt; again.as_str(), "{\"id\":3,\"notices\":[],\"ok\":{}}");
-    let looks = [(1, Phase::Taken), (2, Phase::Pending)];
-    let queued = session.finish(Some(4), Outcome::Request(2), &looks)?;
-    assert_eq!(rt;
-        queued.as_str(),
-        "{\"id\":4,\"notices\":[],\"ok\":{\"request\":2}}"
-    );
+    let opened = "{\"id\":7,\"notices\":[],\"ok\":{\"client\":\"client-1\"}}";
+    assert_all(
+        &rt,
+        &mut session,
+        Outcome::Client(Some(1)),
+        &[],
+        opened,
+        &[],
+    )?;
+    let granted =
+        "{\"id\":7,\"notices\":[{\"phase\":\"granted\",\"request\":1}],\"ok\":{\"request\":1}}";
+    let told = [(1, Phase::Taken)];
+    assert_all(
+        &rt,
+        &mut session,
+        Outcome::Request(1),
+        &told,
+        granted,
+        &told,
+    )?;
+    let nothing = "{\"id\":7,\"notices\":[],\"ok\":{}}";
+    assert_all(&rt, &mut session, Outcome::Polled, &told, nothing, &told)?;
+    let queued = "{\"id\":7,\"notices\":[],\"ok\":{\"request\":2}}";
+    let both = [(1, Phase::Taken), (2, Phase::Pending)];
+    assert_all(&rt, &mut session, Outcome::Request(2), &both, queued, &both)?;
     let looks = [(1, Phase::Taken), (2, Phase::Aborted(Reason::TimeoutError))];
-    let aborted = session.finish(Some(5), Outcome::Abort(AbortAnswer::Done), &looks)?;
-    assert_eq!(rt;
-        aborted.as_str(),
-        "{\"id\":5,\"notices\":[{\"phase\":\"aborted\",\"reason\":\"TimeoutError\",\"request\":2}],\"ok\":{\"abort\":\"done\"}}"
-    );
-    assert_eq!(rt; session.live(), [(1, Phase::Taken)].as_slice());
-    let released = session.finish(Some(6), Outcome::Release(ReleaseAnswer::Released), &[])?;
-    assert_eq!(rt;
-        released.as_str(),
-        "{\"id\":6,\"notices\":[],\"ok\":{\"release\":\"released\"}}"
-    );
-    assert!(rt; session.live().is_empty());
-    let closed = session.finish(Some(7), Outcome::Closed, &[])?;
-    assert_eq!(rt; closed.as_str(), "{\"id\":7,\"notices\":[],\"ok\":{}}");
+    let aborted =
+        "{\"id\":7,\"notices\":[{\"phase\":\"aborted\",\"reason\":\"TimeoutError\",\"request\":2}],\"ok\":{\"abort\":\"done\"}}";
+    assert_all(
+        &rt,
+        &mut session,
+        Outcome::Abort(AbortAnswer::Done),
+        &looks,
+        aborted,
+        &told,
+    )?;
+    let released = "{\"id\":7,\"notices\":[],\"ok\":{\"release\":\"released\"}}";
+    let release = Outcome::Release(ReleaseAnswer::Released);
+    assert_all(&rt, &mut session, release, &[], released, &[])?;
+    assert_all(&rt, &mut session, Outcome::Closed, &[], nothing, &[])?;
     Ok(())
 }
 
@@ -70,23 +114,26 @@ fn only_changed_requests_need_a_look(rt: HostRuntime) -> Result<(), Fail> {
     let mut session = with_a_lock(rt.alloc())?;
     session.finish_changed(Some(3), Outcome::Request(4), &[(4, Phase::Pending)])?;
     session.finish_changed(Some(4), Outcome::Request(6), &[(6, Phase::Pending)])?;
-    let held = [(1, Phase::Taken), (4, Phase::Pending), (6, Phase::Pending)];
-    assert_eq!(rt; session.live(), held.as_slice());
-    let looks = [(1, Phase::Released), (4, Phase::Taken)];
-    let text = session.finish_changed(Some(5), Outcome::Release(ReleaseAnswer::Released), &looks)?;
-    assert_eq!(rt;
-        text.as_str(),
-        "{\"id\":5,\"notices\":[{\"phase\":\"granted\",\"request\":4}],\"ok\":{\"release\":\"released\"}}"
-    );
-    let left = [(4, Phase::Taken), (6, Phase::Pending)];
-    assert_eq!(rt; session.live(), left.as_slice());
-    let looks = [(4, Phase::Stolen), (7, Phase::Unavailable)];
-    let text = session.finish_changed(Some(6), Outcome::Request(7), &looks)?;
-    assert_eq!(rt;
-        text.as_str(),
-        "{\"id\":6,\"notices\":[{\"phase\":\"stolen\",\"request\":4},{\"phase\":\"unavailable\",\"request\":7}],\"ok\":{\"request\":7}}"
-    );
-    assert_eq!(rt; session.live(), [(6, Phase::Pending)].as_slice());
+    let released =
+        "{\"id\":7,\"notices\":[{\"phase\":\"granted\",\"request\":4}],\"ok\":{\"release\":\"released\"}}";
+    assert_changed(
+        &rt,
+        &mut session,
+        Outcome::Release(ReleaseAnswer::Released),
+        &[(1, Phase::Released), (4, Phase::Taken)],
+        released,
+        &[(4, Phase::Taken), (6, Phase::Pending)],
+    )?;
+    let stolen =
+        "{\"id\":7,\"notices\":[{\"phase\":\"stolen\",\"request\":4},{\"phase\":\"unavailable\",\"request\":7}],\"ok\":{\"request\":7}}";
+    assert_changed(
+        &rt,
+        &mut session,
+        Outcome::Request(7),
+        &[(4, Phase::Stolen), (7, Phase::Unavailable)],
+        stolen,
+        &[(6, Phase::Pending)],
+    )?;
     Ok(())
 }
 
@@ -96,34 +143,38 @@ fn a_grant_that_was_stolen_before_it_was_told_tells_the_end_alone(
 ) -> Result<(), Fail> {
     let mut session = with_a_lock(rt.alloc())?;
     session.finish_changed(Some(3), Outcome::Request(2), &[(2, Phase::Pending)])?;
-    let text = session.finish_changed(Some(4), Outcome::Polled, &[(2, Phase::Stolen)])?;
-    assert_eq!(rt;
-        text.as_str(),
-        "{\"id\":4,\"notices\":[{\"phase\":\"stolen\",\"request\":2}],\"ok\":{}}"
-    );
-    assert_eq!(rt; session.live(), [(1, Phase::Taken)].as_slice());
+    let text = "{\"id\":7,\"notices\":[{\"phase\":\"stolen\",\"request\":2}],\"ok\":{}}";
+    assert_changed(
+        &rt,
+        &mut session,
+        Outcome::Polled,
+        &[(2, Phase::Stolen)],
+        text,
+        &[(1, Phase::Taken)],
+    )?;
     Ok(())
 }
 
+/// A refused command's reply tells the news that a fault's didn't.
 #[test]
 fn a_fault_tells_nothing_and_keeps_the_list(rt: HostRuntime) -> Result<(), Fail> {
     let mut session = with_a_lock(rt.alloc())?;
     let looks = [(1, Phase::Stolen)];
-    let text = session.finish_changed(None, Outcome::Fault(CodecFault::BadJson), &looks)?;
-    assert_eq!(rt;
-        text.as_str(),
-        "{\"error\":{\"name\":\"BadJson\",\"rule\":\"json\"},\"id\":null,\"notices\":[]}"
-    );
-    assert_eq!(rt; session.live(), [(1, Phase::Taken)].as_slice());
-    let text = session.finish_changed(Some(3), Outcome::Refused(Refusal::NoSuchSignal), &looks)?;
-    assert_eq!(rt;
-        text.as_str(),
-        "{\"error\":{\"name\":\"NoSuch\",\"rule\":\"signal\"},\"id\":3,\"notices\":[{\"phase\":\"stolen\",\"request\":1}]}"
-    );
-    assert!(rt; session.live().is_empty());
+    let told = [(1, Phase::Taken)];
+    let fault = Outcome::Fault(CodecFault::BadOp);
+    let text = "{\"error\":{\"name\":\"BadOp\",\"rule\":\"op\"},\"id\":7,\"notices\":[]}";
+    assert_changed(&rt, &mut session, fault, &looks, text, &told)?;
+    let refused = Outcome::Refused(Refusal::NoSuchSignal);
+    let text =
+        "{\"error\":{\"name\":\"NoSuch\",\"rule\":\"signal\"},\"id\":7,\"notices\":[{\"phase\":\"stolen\",\"request\":1}]}";
+    assert_changed(&rt, &mut session, refused, &looks, text, &[])?;
+    Ok(())
+}
+
+#[test]
+fn replies_that_tell(rt: HostRuntime) {
     assert!(rt; tells(&Outcome::Polled));
     assert!(rt; !tells(&Outcome::Closed));
-    Ok(())
 }
 
 #[test]

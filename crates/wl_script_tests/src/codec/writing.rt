@@ -4,7 +4,8 @@ use std::alloc::Global;
 use std::test::Fail;
 use wl_codec::{CodecFault, Member, Notice, Notices, Outcome, WireReply, write_reply};
 use wl_types::{
-    AbortAnswer, Infos, LockInfo, Mode, Name, Phase, Reason, Refusal, ReleaseAnswer, Snapshot,
+    AbortAnswer, Infos, LockInfo, Memory, Mode, Name, Phase, Reason, Refusal, ReleaseAnswer,
+    Snapshot,
 };
 
 fn no_locks(alloc: Global) -> Snapshot {
@@ -135,46 +136,63 @@ fn notices_keep_their_order(rt: HostRuntime) -> Result<(), Fail> {
     Ok(())
 }
 
+fn info(alloc: Global, name: &str, mode: Mode, client: u64) -> Result<LockInfo, Refusal> {
+    let name = Name::of(alloc, name)?;
+    Ok(LockInfo { name, mode, client })
+}
+
+/// A snapshot in which agent 1 holds a lock of this name, and nobody waits.
+fn one_lock(alloc: Global, name: &str) -> Result<Snapshot, Fail> {
+    let mut seen = no_locks(alloc);
+    seen.held.push(info(alloc, name, Mode::Exclusive, 1)?)?;
+    Ok(seen)
+}
+
+/// The text of a reply that shows it.
+fn shown(alloc: Global, seen: Snapshot) -> Result<String, Memory> {
+    let reply = WireReply {
+        id: Some(1),
+        notices: Notices::new(alloc),
+        outcome: Outcome::Seen(seen),
+    };
+    write_reply(alloc, &reply)
+}
+
+#[test]
+fn a_snapshot_shows_what_is_held_and_what_waits(rt: HostRuntime) -> Result<(), Fail> {
+    let alloc = rt.alloc();
+    let mut seen = one_lock(alloc, "db")?;
+    seen.pending.push(info(alloc, "db", Mode::Shared, 2)?)?;
+    seen.pending.push(info(alloc, "db", Mode::Shared, 3)?)?;
+    assert_eq!(rt;
+        shown(alloc, seen)?.as_str(),
+        "{\"id\":1,\"notices\":[],\"ok\":{\"held\":[{\"clientId\":\"client-1\",\"mode\":\"exclusive\",\"name\":\"db\"}],\"pending\":[{\"clientId\":\"client-2\",\"mode\":\"shared\",\"name\":\"db\"},{\"clientId\":\"client-3\",\"mode\":\"shared\",\"name\":\"db\"}]}}"
+    );
+    Ok(())
+}
+
+const ESCAPED: [(&str, &str); 8] = [
+    ("", ""),
+    ("db/1 'x'", "db/1 'x'"),
+    ("a\"b", "a\\\"b"),
+    ("a\\b", "a\\\\b"),
+    ("\u{8}\u{c}\n\r\t", "\\b\\f\\n\\r\\t"),
+    ("\u{0}\u{1}\u{1f}", "\\u0000\\u0001\\u001f"),
+    ("\u{7f}", "\u{7f}"),
+    (
+        "\u{e9}\u{20ac}\u{1f512}\u{2028}",
+        "\u{e9}\u{20ac}\u{1f512}\u{2028}",
+    ),
+];
+
 #[test]
 fn names_are_escaped_only_where_json_asks_for_it(rt: HostRuntime) -> Result<(), Fail> {
-    let alloc = rt.alloc();
-    let names = [
-        ("", ""),
-        ("db/1 'x'", "db/1 'x'"),
-        ("a\"b", "a\\\"b"),
-        ("a\\b", "a\\\\b"),
-        ("\u{8}\u{c}\n\r\t", "\\b\\f\\n\\r\\t"),
-        ("\u{0}\u{1}\u{1f}", "\\u0000\\u0001\\u001f"),
-        ("\u{7f}", "\u{7f}"),
-        (
-            "\u{e9}\u{20ac}\u{1f512}\u{2028}",
-            "\u{e9}\u{20ac}\u{1f512}\u{2028}",
-        ),
-    ];
-    for (name, written) in names {
-        let mut held = Infos::new(alloc);
-        held.push(LockInfo {
-            name: Name::of(alloc, name)?,
-            mode: Mode::Exclusive,
-            client: 1,
-        })?;
-        let mut pending = Infos::new(alloc);
-        for client in [2, 3] {
-            pending.push(LockInfo {
-                name: Name::of(alloc, "db")?,
-                mode: Mode::Shared,
-                client,
-            })?;
-        }
-        let reply = WireReply {
-            id: Some(1),
-            notices: Notices::new(alloc),
-            outcome: Outcome::Seen(Snapshot { held, pending }),
-        };
-        let wanted = format!(in alloc;
-            "{{\"id\":1,\"notices\":[],\"ok\":{{\"held\":[{{\"clientId\":\"client-1\",\"mode\":\"exclusive\",\"name\":\"{written}\"}}],\"pending\":[{{\"clientId\":\"client-2\",\"mode\":\"shared\",\"name\":\"db\"}},{{\"clientId\":\"client-3\",\"mode\":\"shared\",\"name\":\"db\"}}]}}}}"
+    for (name, written) in ESCAPED {
+        let text = shown(rt.alloc(), one_lock(rt.alloc(), name)?)?;
+        let wanted = format!(in rt.alloc();
+            "{{\"id\":1,\"notices\":[],\"ok\":{{\"held\":[{{\"clientId\":\"client-1\",\"mode\":\"exclusive\",\"name\":\"{written}\"}}],\"pending\":[]}}}}"
         )?;
-        assert_eq!(rt; write_reply(alloc, &reply)?.as_str(), wanted.as_str());
+        assert_eq!(rt; text.as_str(), wanted.as_str());
     }
     Ok(())
 }
