@@ -1,66 +1,99 @@
 //! Looks, takes and aborts of one cell, and their race.
 
-ghost use Rattle.std.specs.Prelude.{◌≡◌};
-ghost use Rattle.wl_types.specs.declared.phases.Phase.TheVariants.{Granted};
+ghost use Rattle.std.specs.Prelude.{◌≡◌, IsTrue};
+ghost use Rattle.wl_types.specs.declared.phases.Phase.TheVariants.{Granted, Pending};
+ghost use Rattle.wl_cell.specs.Seats.{may_settle};
 
+use std::alloc::Global;
 use std::process::Abort;
 use std::test::Fail;
 use std::thread;
 use std::thread::Threads;
-use wl_cell::{Keeper, Owner, Taking, agree, cell};
-use wl_types::{Phase, Reason};
+use wl_cell::{Keeper, Owner, Taking, Watch, agree, cell};
+use wl_types::{Memory, Phase, Reason};
 
 const ABORTED: Phase = Phase::Aborted(Reason::AbortError);
+
+/// Wants the owner to take the granted lock, once.
+fn assert_taken_once<R: Abort>(rt: &R, owner: &mut Owner)
+    ensures { owner.new.cell ≡ owner.old.cell }
+{
+    assert_eq!(rt; owner.look(), Phase::Granted);
+    assert_eq!(rt; owner.take(), Taking::Taken);
+    assert_eq!(rt; owner.take(), Taking::Before(Phase::Taken));
+}
+
+/// Wants both ends to see this phase, and to agree on it.
+fn assert_agreed<R: Abort>(
+    rt: &R,
+    owner: &mut Owner,
+    watch: &mut Watch,
+    phase: Phase,
+) -> Result<(), Memory>
+    requires { watch.old.cell ≡ owner.old.cell }
+{
+    assert_eq!(rt; owner.look(), phase);
+    assert_eq!(rt; watch.look(), phase);
+    assert_eq!(rt; agree(owner, watch)?, (phase, phase));
+    Ok(())
+}
 
 #[test]
 fn a_lock_is_taken_once_and_then_not_aborted(rt: HostRuntime) -> Result<(), Fail> {
     let (mut keeper, mut owner) = cell(rt.alloc())?;
     keeper.settle(Phase::Granted);
-    assert_eq!(rt; owner.look(), Phase::Granted);
-    assert_eq!(rt; owner.take(), Taking::Taken);
-    assert_eq!(rt; owner.take(), Taking::Before(Phase::Taken));
+    assert_taken_once(&rt, &mut owner);
     let aborted = keeper.try_abort(Reason::AbortError);
     assert!(rt; !aborted);
     assert_eq!(rt; keeper.phase(), Phase::Taken);
     let mut watch = owner.watch()?;
-    let agreed = agree(&mut owner, &mut watch)?;
-    assert_eq!(rt; agreed, (Phase::Taken, Phase::Taken));
+    assert_agreed(&rt, &mut owner, &mut watch, Phase::Taken)?;
     keeper.settle(Phase::Released);
     assert_eq!(rt; watch.look(), Phase::Released);
     assert_eq!(rt; owner.take(), Taking::Before(Phase::Released));
     Ok(())
 }
 
+/// Wants the end of a request that waited to be seen by both ends at once.
+fn assert_end_is_seen<R: Abort>(rt: &R, alloc: Global, end: Phase) -> Result<(), Memory>
+    requires { IsTrue (may_settle Pending end) }
+{
+    let (mut keeper, mut owner) = cell(alloc)?;
+    let mut watch = owner.watch()?;
+    assert_eq!(rt; owner.look(), Phase::Pending);
+    assert_eq!(rt; watch.look(), Phase::Pending);
+    assert_eq!(rt; owner.take(), Taking::Pending);
+    keeper.settle(end);
+    assert_agreed(rt, &mut owner, &mut watch, end)
+}
+
 #[test]
-fn a_look_is_of_now_and_repeats_no_older_phase(rt: HostRuntime) -> Result<(), Fail> {
-    let ends = [
-        ABORTED,
-        Phase::Aborted(Reason::TimeoutError),
-        Phase::Unavailable,
-    ];
-    for end in ends {
-        let (mut keeper, mut owner) = cell(rt.alloc())?;
-        let mut watch = owner.watch()?;
-        assert_eq!(rt; owner.look(), Phase::Pending);
-        assert_eq!(rt; watch.look(), Phase::Pending);
-        assert_eq!(rt; owner.take(), Taking::Pending);
-        keeper.settle(end);
-        assert_eq!(rt; owner.look(), end);
-        assert_eq!(rt; watch.look(), end);
-        assert_eq!(rt; owner.take(), Taking::Before(end));
-    }
-    for end in [Phase::Released, Phase::Stolen] {
-        let (mut keeper, mut owner) = cell(rt.alloc())?;
-        let mut watch = owner.watch()?;
-        keeper.settle(Phase::Granted);
-        assert_eq!(rt; owner.look(), Phase::Granted);
-        assert_eq!(rt; watch.look(), Phase::Granted);
-        keeper.settle(end);
-        assert_eq!(rt; owner.look(), end);
-        assert_eq!(rt; watch.look(), end);
-        let agreed = agree(&mut owner, &mut watch)?;
-        assert_eq!(rt; agreed, (end, end));
-    }
+fn a_look_is_of_now(rt: HostRuntime) -> Result<(), Fail> {
+    assert_end_is_seen(&rt, rt.alloc(), ABORTED)?;
+    assert_end_is_seen(&rt, rt.alloc(), Phase::Aborted(Reason::TimeoutError))?;
+    assert_end_is_seen(&rt, rt.alloc(), Phase::Unavailable)?;
+    Ok(())
+}
+
+/// The same of the end of a lock that was granted and seen so.
+fn assert_lock_end_is_seen<R: Abort>(rt: &R, alloc: Global, end: Phase) -> Result<(), Memory>
+    requires { IsTrue (may_settle Granted end) }
+{
+    let (mut keeper, mut owner) = cell(alloc)?;
+    let mut watch = owner.watch()?;
+    keeper.settle(Phase::Granted);
+    assert_eq!(rt; owner.look(), Phase::Granted);
+    assert_eq!(rt; watch.look(), Phase::Granted);
+    keeper.settle(end);
+    assert_agreed(rt, &mut owner, &mut watch, end)?;
+    assert_eq!(rt; owner.take(), Taking::Before(end));
+    Ok(())
+}
+
+#[test]
+fn a_look_repeats_no_older_phase(rt: HostRuntime) -> Result<(), Fail> {
+    assert_lock_end_is_seen(&rt, rt.alloc(), Phase::Released)?;
+    assert_lock_end_is_seen(&rt, rt.alloc(), Phase::Stolen)?;
     Ok(())
 }
 
