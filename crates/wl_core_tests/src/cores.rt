@@ -4,7 +4,6 @@ mod growth;
 mod limits;
 mod lists;
 mod random;
-mod realm;
 mod runs;
 
 pub use lists::assert_lists;

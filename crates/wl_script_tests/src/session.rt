@@ -9,7 +9,7 @@ use std::alloc::Global;
 use std::process::Abort;
 use std::test::Fail;
 use wl_codec::{Body, CodecFault, Outcome, read_message};
-use wl_session::{Action, Plan, Session, tells};
+use wl_session::{Action, Session, tells};
 use wl_types::{AbortAnswer, Kind, Memory, Phase, Reason, Refusal, ReleaseAnswer};
 
 const OPEN: &[u8] = b"{\"id\":1,\"kind\":\"window\",\"op\":\"open\",\"url\":\"https://a.test/\"}";
@@ -58,9 +58,40 @@ fn with_a_lock(alloc: Global) -> Result<Session, Memory> {
     Ok(session)
 }
 
-fn planned(alloc: Global, session: &Session, message: &[u8]) -> Result<Plan, Memory> {
-    let reading = read_message(alloc, message)?;
-    Ok(session.plan(reading))
+/// What is done with a message that was passed on.
+fn act_told(body: &Body) -> &'static str {
+    match body {
+        Body::Enter { url, kind } => {
+            if *kind == Kind::Window && url.as_str() == "https://a.test/" {
+                "open a window of a.test"
+            } else {
+                "open something else"
+            }
+        }
+        Body::Poll => "poll",
+        _ => "another act",
+    }
+}
+
+fn action_told(action: &Action) -> &'static str {
+    match action {
+        Action::Act(body) => act_told(body),
+        Action::Answer(Outcome::NotOpen) => "answer NotOpen",
+        Action::Answer(Outcome::AlreadyOpen) => "answer AlreadyOpen",
+        Action::Answer(Outcome::Fault(CodecFault::BadOp)) => "answer BadOp",
+        Action::Answer(Outcome::Fault(CodecFault::BadId)) => "answer BadId",
+        _ => "another answer",
+    }
+}
+
+/// The id that a message's reply has, and what a session plans to do with it.
+fn planned(
+    alloc: Global,
+    session: &Session,
+    message: &[u8],
+) -> Result<(Option<u64>, &'static str), Memory> {
+    let plan = session.plan(read_message(alloc, message)?);
+    Ok((plan.id, action_told(&plan.action)))
 }
 
 #[test]
@@ -179,57 +210,34 @@ fn replies_that_tell(rt: HostRuntime) {
 
 #[test]
 fn a_session_that_is_not_open_can_only_be_opened(rt: HostRuntime) -> Result<(), Fail> {
-    let alloc = rt.alloc();
-    let session = Session::new(alloc);
-    let plan = planned(alloc, &session, POLL)?;
-    assert_eq!(rt; plan.id, Some(7));
-    assert!(rt; matches!(&plan.action, Action::Answer(Outcome::NotOpen)));
-    let plan = planned(alloc, &session, OPEN)?;
-    assert_eq!(rt; plan.id, Some(1));
-    match &plan.action {
-        Action::Act(Body::Enter { url, kind }) => {
-            assert_eq!(rt; url.as_str(), "https://a.test/");
-            assert!(rt; *kind == Kind::Window);
-        }
-        _ => return Err("the message was not passed on".into()),
-    }
+    let session = Session::new(rt.alloc());
+    let polled = planned(rt.alloc(), &session, POLL)?;
+    assert!(rt; polled == (Some(7), "answer NotOpen"));
+    let opened = planned(rt.alloc(), &session, OPEN)?;
+    assert!(rt; opened == (Some(1), "open a window of a.test"));
     Ok(())
 }
 
 #[test]
 fn an_open_session_passes_all_on_but_an_open(rt: HostRuntime) -> Result<(), Fail> {
-    let alloc = rt.alloc();
-    let mut session = Session::new(alloc);
+    let mut session = Session::new(rt.alloc());
     session.finish_changed(Some(1), Outcome::Client(None), &[])?;
-    let plan = planned(alloc, &session, OPEN)?;
-    assert!(rt; matches!(&plan.action, Action::Answer(Outcome::AlreadyOpen)));
-    let plan = planned(alloc, &session, POLL)?;
-    assert!(rt; matches!(&plan.action, Action::Act(Body::Poll)));
+    let opened = planned(rt.alloc(), &session, OPEN)?;
+    assert!(rt; opened == (Some(1), "answer AlreadyOpen"));
+    let polled = planned(rt.alloc(), &session, POLL)?;
+    assert!(rt; polled == (Some(7), "poll"));
     session.finish_changed(Some(9), Outcome::Closed, &[])?;
-    let plan = planned(alloc, &session, POLL)?;
-    assert!(rt; matches!(&plan.action, Action::Answer(Outcome::NotOpen)));
+    let polled = planned(rt.alloc(), &session, POLL)?;
+    assert!(rt; polled == (Some(7), "answer NotOpen"));
     Ok(())
 }
 
 #[test]
 fn a_message_with_a_fault_is_answered(rt: HostRuntime) -> Result<(), Fail> {
-    let alloc = rt.alloc();
-    let session = Session::new(alloc);
-    let plan = planned(alloc, &session, b"{\"id\":8,\"op\":\"peek\"}")?;
-    assert_eq!(rt; plan.id, Some(8));
-    assert!(rt;
-        matches!(
-            &plan.action,
-            Action::Answer(Outcome::Fault(CodecFault::BadOp))
-        )
-    );
-    let plan = planned(alloc, &session, b"{\"op\":\"poll\"}")?;
-    assert!(rt; plan.id.is_none());
-    assert!(rt;
-        matches!(
-            &plan.action,
-            Action::Answer(Outcome::Fault(CodecFault::BadId))
-        )
-    );
+    let session = Session::new(rt.alloc());
+    let unknown = planned(rt.alloc(), &session, b"{\"id\":8,\"op\":\"peek\"}")?;
+    assert!(rt; unknown == (Some(8), "answer BadOp"));
+    let unnumbered = planned(rt.alloc(), &session, b"{\"op\":\"poll\"}")?;
+    assert!(rt; unnumbered == (None, "answer BadId"));
     Ok(())
 }

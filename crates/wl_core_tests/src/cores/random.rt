@@ -107,18 +107,13 @@ fn add_word(call: &mut String, word: &str, dice: &mut Dice, last: Last) -> Resul
     Ok(())
 }
 
-fn add_words(call: &mut String, kind: &str, dice: &mut Dice, last: Last) -> Result<(), Memory> {
+/// Writes a call of a kind in place of the last one.
+fn write_call(call: &mut String, kind: &str, dice: &mut Dice, last: Last) -> Result<(), Memory> {
+    call.clear();
     for word in kind.split(' ') {
         add_word(call, word, dice, last)?;
     }
     Ok(())
-}
-
-fn random_call(alloc: Global, dice: &mut Dice, last: Last) -> Result<String, Memory> {
-    let mut call = String::new(alloc);
-    let kind = dice.kind();
-    add_words(&mut call, kind, dice, last)?;
-    Ok(call)
 }
 
 /// Whether the cores have the same state and tell the same changes.
@@ -136,8 +131,9 @@ fn first_difference(alloc: Global, seed: u64) -> Result<Option<String>, Memory> 
         request: 0,
         signal: 0,
     };
+    let mut call = String::new(alloc);
     for _ in 0..CALLS {
-        let call = random_call(alloc, &mut dice, last)?;
+        write_call(&mut call, dice.kind(), &mut dice, last)?;
         let line = done(alloc, &mut plain, call.as_str())?;
         let other = done(alloc, &mut index, call.as_str())?;
         if line.as_str() != other.as_str() || !same_core(&plain, &index)? {

@@ -54,19 +54,26 @@ where
     ))
 }
 
-/// What was served, where a connection ended without a close frame.
-fn one_failed() -> Result<Served, ListenFault> {
-    Ok(Served {
+/// Whether relaying what the reader gives comes to this and has written these replies. The server has seen the
+/// connection fail just where relaying failed.
+fn relays<R, I>(
+    rt: &R,
+    alloc: Global,
+    reader: I,
+    expected: Result<u64, RelayFault>,
+    replies: &[u8],
+) -> Result<bool, Fail>
+where
+    R: Net<Listener = TcpListener, Stream = TcpStream> + Threads + Wait + RandomSource + Sync,
+    I: Read + Drop + Send,
+{
+    let mut written = Vec::new(alloc);
+    let (served, relayed) = relayed(rt, alloc, reader, &mut written)?;
+    let one = Served {
         connections: 1,
-        failed: 1,
-    })
-}
-
-fn one_closed() -> Result<Served, ListenFault> {
-    Ok(Served {
-        connections: 1,
-        failed: 0,
-    })
+        failed: if expected.is_ok() { 0 } else { 1 },
+    };
+    Ok(served == Ok(one) && relayed == expected && written.as_slice() == replies)
 }
 
 /// The line that opens, and one of so many spaces.
@@ -81,86 +88,62 @@ fn spaces(alloc: Global, count: usize) -> Result<Vec<u8>, AllocError> {
 
 #[test]
 fn an_empty_input(rt: HostRuntime) -> Result<(), Fail> {
-    let alloc = rt.alloc();
-    let mut replies = Vec::new(alloc);
-    let (served, relayed) = relayed(&rt, alloc, b"".as_slice(), &mut replies)?;
-    assert_eq!(rt; relayed, Ok(0));
-    assert_eq!(rt; served, one_closed());
+    assert!(rt; relays(&rt, rt.alloc(), b"".as_slice(), Ok(0), b"")?);
     Ok(())
 }
 
 #[test]
 fn a_last_line_without_its_end(rt: HostRuntime) -> Result<(), Fail> {
-    let alloc = rt.alloc();
-    let mut replies = Vec::new(alloc);
-    let (served, relayed) = relayed(&rt, alloc, OPEN, &mut replies)?;
-    assert_eq!(rt; relayed, Ok(1));
-    assert_eq!(rt; served, one_closed());
-    assert_eq!(rt; replies.as_slice(), OPENED);
+    assert!(rt; relays(&rt, rt.alloc(), OPEN, Ok(1), OPENED)?);
     Ok(())
 }
 
 #[test]
 fn a_line_that_is_not_utf8(rt: HostRuntime) -> Result<(), Fail> {
-    let alloc = rt.alloc();
-    let mut lines = Vec::new(alloc);
+    let mut lines = Vec::new(rt.alloc());
     lines.extend_from_slice(OPEN)?;
     lines.extend_from_slice(b"\n\xff\n")?;
-    let mut replies = Vec::new(alloc);
-    let (served, relayed) = relayed(&rt, alloc, lines.as_slice(), &mut replies)?;
-    assert_eq!(rt; relayed, Ok(2));
-    assert_eq!(rt; served, one_closed());
-    assert_eq!(rt; replies.as_slice(), OPENED_THEN_BAD);
+    assert!(rt; relays(&rt, rt.alloc(), lines.as_slice(), Ok(2), OPENED_THEN_BAD)?);
     Ok(())
 }
 
 #[test]
 fn a_line_as_long_as_may_be(rt: HostRuntime) -> Result<(), Fail> {
-    let alloc = rt.alloc();
-    let lines = spaces(alloc, 65_536)?;
-    let mut replies = Vec::new(alloc);
-    let (served, relayed) = relayed(&rt, alloc, lines.as_slice(), &mut replies)?;
-    assert_eq!(rt; relayed, Ok(2));
-    assert_eq!(rt; served, one_closed());
-    assert_eq!(rt; replies.as_slice(), OPENED_THEN_BAD);
+    let lines = spaces(rt.alloc(), 65_536)?;
+    assert!(rt; relays(&rt, rt.alloc(), lines.as_slice(), Ok(2), OPENED_THEN_BAD)?);
     Ok(())
 }
 
 #[test]
 fn a_line_that_is_too_long(rt: HostRuntime) -> Result<(), Fail> {
-    let alloc = rt.alloc();
-    let lines = spaces(alloc, 65_537)?;
-    let mut replies = Vec::new(alloc);
-    let (served, relayed) = relayed(&rt, alloc, lines.as_slice(), &mut replies)?;
-    assert_eq!(rt; relayed, Err(RelayFault::LineTooLong(1)));
-    assert_eq!(rt; served, one_failed());
-    assert_eq!(rt; replies.as_slice(), OPENED);
+    let lines = spaces(rt.alloc(), 65_537)?;
+    let too_long = Err(RelayFault::LineTooLong(1));
+    assert!(rt; relays(&rt, rt.alloc(), lines.as_slice(), too_long, OPENED)?);
     Ok(())
 }
 
 #[test]
 fn a_reader_that_fails(rt: HostRuntime) -> Result<(), Fail> {
-    let alloc = rt.alloc();
-    let lines = spaces(alloc, 3)?;
-    let mut replies = Vec::new(alloc);
+    let lines = spaces(rt.alloc(), 3)?;
     let reader = Failing {
         bytes: lines.as_slice(),
     };
-    let (served, relayed) = relayed(&rt, alloc, reader, &mut replies)?;
-    assert_eq!(rt; relayed, Err(RelayFault::Read(2)));
-    assert_eq!(rt; served, one_failed());
-    assert_eq!(rt; replies.as_slice(), OPENED_THEN_BAD);
+    let fails = Err(RelayFault::Read(2));
+    assert!(rt; relays(&rt, rt.alloc(), reader, fails, OPENED_THEN_BAD)?);
     Ok(())
 }
 
 #[test]
 fn a_writer_that_fails(rt: HostRuntime) -> Result<(), Fail> {
-    let alloc = rt.alloc();
-    let lines = spaces(alloc, 3)?;
+    let lines = spaces(rt.alloc(), 3)?;
     let mut writer = Narrow { writes: 1 };
-    let (served, relayed) = relayed(&rt, alloc, lines.as_slice(), &mut writer)?;
+    let (served, relayed) = relayed(&rt, rt.alloc(), lines.as_slice(), &mut writer)?;
     assert_eq!(rt; relayed, Err(RelayFault::Write(1)));
-    assert_eq!(rt; served, one_failed());
+    let one = Served {
+        connections: 1,
+        failed: 1,
+    };
+    assert_eq!(rt; served, Ok(one));
     Ok(())
 }
 
