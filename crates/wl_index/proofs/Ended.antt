@@ -15,21 +15,7 @@ use Rattle.wl_machine.specs.Refusals.{refusal, reason_in}
 use Rattle.wl_machine.specs.Step.{Gives, settled, with_reason}
 use Rattle.wl_index.specs.declared.ending.Owner.{Owner}
 use Rattle.wl_index.specs.declared.ending.Owner.TheVariants.{Signal, Agent}
-use Rattle.wl_index.specs.Names.{Placed, names_of}
-use Rattle.wl_index.specs.Roll.{Roll}
-use Rattle.wl_index.specs.Rows.{Rows, held_of, pending_of}
 use Rattle.wl_index.specs.Ends.{without_owned, owned_ends}
-
--- the state that owners, lines and live requests tell
-abbrev pub the_state : Roll → List Placed → Rows → State
-the_state o lines rows = record {
-  agents = o.agents;
-  signals = o.signals;
-  names = names_of lines;
-  held = held_of rows.entries;
-  pending = pending_of rows.entries;
-  next = record { agent = o.next_agent; request = rows.next; signal = o.next_signal };
-}
 
 -- what an owner has ended, from this state, and the queues were processed
 abbrev pub EndsOwned : Owner → Phase → Phase → State → Reply → State → List Change → Type 0

@@ -24,7 +24,7 @@ use Rattle.wl_index.specs.Names.{Placed, names_of, among, has_place, is_touched,
 use Rattle.wl_index.proofs.Lists.{filter_whole, all_weaker, all_append, all_front, all_back, all_filter, all_map}
 use Rattle.wl_numbered.proofs.Keyed.{Found, number_same}
 use Rattle.wl_index.proofs.Rows.{pending_filter, held_filter, live_count}
-use Rattle.wl_index.proofs.Placed.{At, at_place, name_found, written_names, written_is}
+use Rattle.wl_index.proofs.Placed.{At, at_place, of_line, name_found, written_names, written_is}
 use Rattle.wl_index.proofs.Used.{in_use_same}
 
 abbrev pub other_lock : ℕ → HeldRow → Bool
@@ -240,8 +240,7 @@ pub one_ended : (number : ℕ) (r : Request) (place : ℕ) (es : List Entry) (li
     → Ready lines (held_of es) (pending_of es) touched → lines' ≡ set_value (is_at (nat_cmp place)) lines (without number a.line) → Ended number place es lines lines' touched uses
 one_ended number r place es lines lines' touched uses f names a ready set =
     let M : Placed → Type 0 = λ e. Matches e.1 (held_of es) (pending_of es) in
-    let all = subst (AllByRecursion M) a.split.whole ready.matched in
-    let matches = without_matches a.line number (held_of es) (pending_of es) (all_back M a.split.front ((place, a.line) ∷ a.split.back) all).0 in
+    let matches = without_matches a.line number (held_of es) (pending_of es) (of_line M a ready.matched) in
     record {
       ready = rw (set, held_without number es, pending_without number es)
           (one_touched r.name place touched lines (without number a.line) (held_of es) (filter (other_lock number) (held_of es)) (pending_of es) (filter (other_request number) (pending_of es)) a (end_differs number r es lines touched f ready) ready refl matches);

@@ -31,7 +31,7 @@ use Rattle.wl_index.specs.Lines.{Numbered, Waiting, Matches, admits, with_one_mo
 use Rattle.wl_index.specs.Names.{Placed, names_of, among, has_place, is_touched, IsNames, Ready, Joined, Entered, IsBelow}
 use Rattle.wl_index.proofs.Lists.{all_append, all_front, all_back, all_filter, all_map, all_weaker, filter_none, filter_whole}
 use Rattle.wl_numbered.proofs.Keyed.{same_number, number_same, set_same}
-use Rattle.wl_index.proofs.Placed.{At, at_line, at_place, remove_apart, name_found, written_names}
+use Rattle.wl_index.proofs.Placed.{At, at_line, at_place, of_line, remove_apart, name_found, written_names}
 use Rattle.wl_index.proofs.Used.{in_use_same}
 use Rattle.wl_index.proofs.Ends.{Differ, one_touched}
 use Rattle.wl_index.proofs.Underway.{nobody}
@@ -99,7 +99,7 @@ old_entered : (find : List ℕ → Option ℕ) (place : ℕ) (old new : List Pla
 old_entered find place old new held pending r w names ready there at named set =
     let a = at_line place w old find names at in
     let M : Placed → Type 0 = λ e. Matches e.1 held pending in
-    let mine = (all_back M a.split.front ((place, w) ∷ a.split.back) (subst (AllByRecursion M) a.split.whole ready.matched)).0 in
+    let mine = of_line M a ready.matched in
     let differ : Differ w.name held held pending (pending ++ r ∷ []) = record {
       same = λ m differs. (refl, queue_stays pending r m (ap (λ n. bytes_eq n m) (sym named) ∙ differs));
       alone = ready.alone w.name;
@@ -204,9 +204,6 @@ places_more n lines all = all_weaker (λ (e : Placed). e.0 < n) (λ e. e.0 < n +
 
 pub places_added : (n : ℕ) (lines : List Placed) (w : Waiting) → AllByRecursion (λ (e : Placed). e.0 < n) lines → AllByRecursion (λ (e : Placed). e.0 < n + 1) (lines ++ (n, w) ∷ [])
 places_added n lines w all = all_append (λ (e : Placed). e.0 < n + 1) lines ((n, w) ∷ []) (places_more n lines all) (omega arith, tt)
-
-pub below_at : (name : List ℕ) (place number : ℕ) (lines : List Placed) → (a : At name place lines) → AllByRecursion (λ (e : Placed). IsBelow number e.1) lines → IsBelow number a.line
-below_at name place number lines a all = (all_back (λ (e : Placed). IsBelow number e.1) a.split.front ((place, a.line) ∷ a.split.back) (subst (AllByRecursion (λ (e : Placed). IsBelow number e.1)) a.split.whole all)).0
 
 pub places_removed : (n : ℕ) (name : List ℕ) (place : ℕ) (lines : List Placed) (line : Waiting) → At name place lines → AllByRecursion (λ (e : Placed). e.0 < n) lines → AllByRecursion (λ (e : Placed). e.0 < n) (remove_entry (is_at (nat_cmp place)) (set_value (is_at (nat_cmp place)) lines line))
 places_removed n name place lines line a all =

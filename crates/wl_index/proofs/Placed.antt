@@ -122,6 +122,10 @@ at_line place w lines uses names there =
       back_differs = others_named w.name place f.back uses back.0 back.1 f.high;
     }
 
+-- what holds of all lines holds of it
+pub of_line : {name : List ℕ} {place : ℕ} {lines : List NameAt} (P : NameAt → Type 0) (a : At name place lines) → AllByRecursion P lines → P (place, a.line)
+of_line P a all = (all_back P a.split.front _ (subst (AllByRecursion P) a.split.whole all)).0
+
 pub none_at : (place : ℕ) (lines : List NameAt) → lookup (is_at (nat_cmp place)) lines ≡ None → AllByRecursion (λ (e : NameAt). (e.0 == place) ≡ false) lines
 none_at place [] none = tt
 none_at place (e ∷ lines) none = by (e.0 == place) refl (none_at place lines)

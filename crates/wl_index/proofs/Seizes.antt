@@ -1,5 +1,5 @@
 -- A request that steals takes its name.
-use Rattle.std.proofs.Common.{◌≡◌, ℕ, ◌==◌, ◌+◌, Bool, true, false, cond, List, [], ◌∷◌, ◌++◌, length, map, refl, ap, subst, sym, ◌∙◌, append-nil, arith}
+use Rattle.std.proofs.Common.{◌≡◌, ℕ, ◌==◌, ◌+◌, Bool, true, false, cond, List, [], ◌∷◌, ◌++◌, length, map, refl, ap, sym, ◌∙◌, append-nil, arith}
 use Rattle.std.specs.Prelude.{not, ◌||◌, filter, Option, Some}
 use Rattle.std.specs.Str.{bytes_eq}
 use Rattle.std.specs.List.{list_any, AllByRecursion}
@@ -19,11 +19,10 @@ use Rattle.wl_index.specs.declared.table.Stage.TheVariants.{Pending}
 use Rattle.wl_index.specs.Rows.{Entry, request_row, held_of, pending_of}
 use Rattle.wl_index.specs.Lines.{Matches, number_and_mode, lock_and_mode, seized}
 use Rattle.wl_index.specs.Names.{Placed, IsNames, Ready, WaitsAlone, names_of}
-use Rattle.wl_index.proofs.Lists.{all_back}
 use Rattle.wl_numbered.proofs.Keyed.{found}
 use Rattle.wl_index.proofs.Rows.{is_request, pending_there}
 use Rattle.wl_index.proofs.Grants.{pending_one}
-use Rattle.wl_index.proofs.Placed.{At, written_names, written_is}
+use Rattle.wl_index.proofs.Placed.{At, of_line, written_names, written_is}
 use Rattle.wl_index.proofs.Ends.{Differ, one_touched, queue_apart, without_matches}
 
 -- the request that waits alone
@@ -73,7 +72,7 @@ one_seized number place name es es' lines lines' touched find sorted w names a r
     let f = found number es w.request sorted w.there in
     let row = request_row (number, w.request) in
     let M : Placed → Type 0 = λ e. Matches e.1 (held_of es) (pending_of es) in
-    let mine = (all_back M a.split.front ((place, a.line) ∷ a.split.back) (subst (AllByRecursion M) a.split.whole ready.matched)).0 in
+    let mine = of_line M a ready.matched in
     let held_is : held_of es' ≡ held_of es ++ granted_lock row ∷ [] = held ∙ ap (λ l. held_of es ++ map granted_lock l) w.only in
     let one : locks name (held_of es') ≡ granted_lock row ∷ [] = ap (locks name) held_is ∙ filter-append (λ (l : HeldRow). bytes_eq l.name name) (held_of es) (granted_lock row ∷ []) ∙ ap (λ l. l ++ locks name (granted_lock row ∷ [])) gone ∙ ap (λ b. cond b (granted_lock row ∷ []) []) (ap (λ n. bytes_eq n name) w.named ∙ same_bytes name) in
     let matches : Matches (seized number a.line) (held_of es') (pending_of es') = record {
@@ -96,9 +95,7 @@ one_seized number place name es es' lines lines' touched find sorted w names a r
 -- nobody holds it
 pub line_free : (name : List ℕ) (place : ℕ) (lines : List Placed) (held : List HeldRow) (pending : List PendingRow) → (a : At name place lines) → AllByRecursion (λ (e : Placed). Matches e.1 held pending) lines → locks name held ≡ [] → a.line.holders ≡ []
 line_free name place lines held pending a all gone =
-    let M : Placed → Type 0 = λ e. Matches e.1 held pending in
-    let mine = (all_back M a.split.front ((place, a.line) ∷ a.split.back) (subst (AllByRecursion M) a.split.whole all)).0 in
-    mine.holders ∙ ap (λ n. map lock_and_mode (locks n held)) a.named ∙ ap (map lock_and_mode) gone
+    (of_line (λ (e : Placed). Matches e.1 held pending) a all).holders ∙ ap (λ n. map lock_and_mode (locks n held)) a.named ∙ ap (map lock_and_mode) gone
 
 -- one waits no more
 pub fewer_wait : (number : ℕ) (pending pending' : List PendingRow) (r : Request) (es : List Entry) → filter (is_request number) pending ≡ request_row (number, r) ∷ [] → pending' ≡ filter (λ (request : PendingRow). not (request.number == number)) pending → length pending' + 1 ≡ length pending

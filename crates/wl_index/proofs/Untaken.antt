@@ -1,6 +1,5 @@
 -- The locks that an abort of a signal would end, one after the other in the order of grants.
-use Rattle.std.proofs.Common.{◌≡◌, ℕ, ◌<◌, List, [], ◌∷◌, ◌++◌, refl, sym, ap, ◌∙◌, map, filter, nat_le, arith, Option, Some, append_assoc, ◌+◌, ◌-◌, None, option_map}
-use Rattle.std.proofs.lemmas.List.{map-append}
+use Rattle.std.proofs.Common.{◌≡◌, ℕ, ◌<◌, List, ◌∷◌, ◌++◌, refl, sym, ap, ◌∙◌, map, filter, nat_le, arith, Option, Some, append_assoc, ◌+◌, ◌-◌, None, option_map}
 use Rattle.std.proofs.lemmas.Option.{slice_get-map}
 use Rattle.std.specs.List.{AllByRecursion, slice_get}
 use Rattle.std.specs.Option.{option_to_list}

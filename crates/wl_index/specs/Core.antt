@@ -1,8 +1,21 @@
--- What an indexed core keeps (own).
+-- What an indexed core is, and what it keeps (own).
 use Rattle.std.specs.Prelude.{ℕ, ◌≤◌, ◌<◌, List, [], length}
 use Rattle.std.specs.List.{AllByRecursion}
-use Rattle.wl_index.specs.Rows.{Entry, held_of, pending_of}
-use Rattle.wl_index.specs.Names.{Placed, Ready}
+use Rattle.wl_machine.specs.State.{State}
+use Rattle.wl_index.specs.Roll.{Roll}
+use Rattle.wl_index.specs.Rows.{Entry, Rows, held_of, pending_of}
+use Rattle.wl_index.specs.Names.{Placed, Ready, names_of}
+
+-- the machine's state
+abbrev pub machine_state : Roll → List Placed → Rows → State
+machine_state roll lines rows = record {
+  agents = roll.agents;
+  signals = roll.signals;
+  names = names_of lines;
+  held = held_of rows.entries;
+  pending = pending_of rows.entries;
+  next = record { agent = roll.next_agent; request = rows.next; signal = roll.next_signal };
+}
 
 -- the lines say what the lists say, nothing is left to grant, each line has the number of a
 -- request as its place, and there is room for the end of each live request

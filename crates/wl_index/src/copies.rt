@@ -8,6 +8,7 @@ ghost use Rattle.std.specs.Ordering.{nat_cmp};
 ghost use Rattle.wl_machine.specs.declared.rows.HeldRow.{HeldRow};
 ghost use Rattle.wl_index.specs.Rows.{held_of, pending_of, lock_row, is_taken};
 ghost use Rattle.wl_index.specs.Names.{names_of};
+ghost use Rattle.wl_index.specs.Core.{machine_state};
 
 use crate::names::Names;
 use crate::owners::Owners;
@@ -132,14 +133,7 @@ pub(crate) fn plain_copy(
     names: &Names,
     table: &Table,
 ) -> Result<PlainCore, Memory>
-    ensures state { IfOk result (λ copy. copy.state ≡ record {
-      agents = owners.now.agents;
-      signals = owners.now.signals;
-      names = names_of names.now;
-      held = held_of table.now.entries;
-      pending = pending_of table.now.entries;
-      next = record { agent = owners.now.next_agent; request = table.now.next; signal = owners.now.next_signal };
-    }) }
+    ensures state { IfOk result (λ copy. copy.state ≡ machine_state owners.now names.now table.now) }
     ensures recent { IfOk result (λ copy. copy.recent ≡ []) }
 {
     let next = Numbers {

@@ -1,6 +1,5 @@
 //! What an abort or a termination ends.
-ghost use Rattle.std.specs.Prelude.{◌≡◌, ℕ, ◌+◌, ◌≤◌, ◌<◌, List, [], ◌++◌, map, filter, not, length, vec_len, vec_capacity};
-ghost use Rattle.std.specs.List.{AllByRecursion};
+ghost use Rattle.std.specs.Prelude.{◌≡◌, ℕ, ◌+◌, ◌≤◌, ◌<◌, [], ◌++◌, map, filter, not, length, vec_len, vec_capacity};
 ghost use Rattle.std.specs.List.Sorted.{IsStrictlySortedBy};
 ghost use Rattle.std.specs.Map.{keys_of, lookup};
 ghost use Rattle.std.specs.BTreeMap.{is_at};
@@ -9,9 +8,8 @@ ghost use Rattle.std.specs.Ordering.{nat_cmp};
 ghost use Rattle.wl_machine.specs.Step.{is_signal, request_ends, lock_ends};
 ghost use Rattle.wl_index.specs.declared.ending.Standing.TheVariants.{Waits, Holds};
 ghost use Rattle.wl_index.specs.declared.order.Place.{Place};
-ghost use Rattle.wl_index.specs.Ends.{ends_request, ends_lock, ends_entry, place_if, place_ends, numbers_of, AreLive};
+ghost use Rattle.wl_index.specs.Ends.{ends_request, ends_lock, ends_entry, place_if, place_ends, numbers_of, AreLive, CanEnd, HasEnded};
 ghost use Rattle.wl_index.specs.Groups.{spared};
-ghost use Rattle.wl_index.specs.Names.{names_of, Ready};
 ghost use Rattle.wl_index.specs.Order.{place_of};
 ghost use Rattle.wl_index.specs.Rows.{held_of, pending_of, holding, stamp_of};
 ghost use Rattle.wl_index.specs.Stamps.{Distinct};
@@ -152,20 +150,10 @@ fn end_all(
     touched: &mut Vec<u64>,
 )
     requires live { AreLive (numbers_of ending.now) table.old.entries }
-    requires ready { Ready names.old (held_of table.old.entries) (pending_of table.old.entries) touched.old.items }
-    requires changes_room { vec_len changes.old + length table.old.entries ≤ vec_capacity changes.old }
-    requires touched_room { vec_len touched.old + length table.old.entries ≤ vec_capacity touched.old }
+    requires can { CanEnd names.old table.old changes.old touched.old }
     ensures entries { table.new.entries ≡ filter (spared (numbers_of ending.now)) table.old.entries }
     ensures changes { changes.new.items ≡ changes.old.items ++ place_ends phase ending.now }
-    ensures ready { Ready names.new (held_of table.new.entries) (pending_of table.new.entries) touched.new.items }
-    ensures names { names_of names.new ≡ names_of names.old }
-    ensures places { (n : ℕ) → AllByRecursion (λ e. e.0 < n) names.old → AllByRecursion (λ e. e.0 < n) names.new }
-    ensures next { table.new.next ≡ table.old.next }
-    ensures fewer { length table.new.entries ≤ length table.old.entries }
-    ensures changes_sum { vec_len changes.new + length table.new.entries ≡ vec_len changes.old + length table.old.entries }
-    ensures touched_sum { vec_len touched.new + length table.new.entries ≡ vec_len touched.old + length table.old.entries }
-    ensures changes_capacity { vec_capacity changes.old ≤ vec_capacity changes.new }
-    ensures touched_capacity { vec_capacity touched.old ≤ vec_capacity touched.new }
+    ensures ended { HasEnded names.old names.new table.old table.new changes.old changes.new touched.old touched.new }
 {
     for place in ending {
         names.end(place.number, phase, table, changes, touched);
@@ -183,22 +171,12 @@ pub(crate) fn end_requests(
     ending: &mut Vec<Place>,
 )
     requires none { ending.old.items ≡ [] }
-    requires ready { Ready names.old (held_of table.old.entries) (pending_of table.old.entries) touched.old.items }
-    requires changes_room { vec_len changes.old + length table.old.entries ≤ vec_capacity changes.old }
-    requires touched_room { vec_len touched.old + length table.old.entries ≤ vec_capacity touched.old }
+    requires can { CanEnd names.old table.old changes.old touched.old }
     requires ending_room { length table.old.entries ≤ vec_capacity ending.old }
     ensures pending { pending_of table.new.entries ≡ filter (λ request. not (ends_request owner request)) (pending_of table.old.entries) }
     ensures held { held_of table.new.entries ≡ held_of table.old.entries }
     ensures changes { changes.new.items ≡ changes.old.items ++ request_ends phase (filter (ends_request owner) (pending_of table.old.entries)) }
-    ensures ready { Ready names.new (held_of table.new.entries) (pending_of table.new.entries) touched.new.items }
-    ensures names { names_of names.new ≡ names_of names.old }
-    ensures places { (n : ℕ) → AllByRecursion (λ e. e.0 < n) names.old → AllByRecursion (λ e. e.0 < n) names.new }
-    ensures next { table.new.next ≡ table.old.next }
-    ensures fewer { length table.new.entries ≤ length table.old.entries }
-    ensures changes_sum { vec_len changes.new + length table.new.entries ≡ vec_len changes.old + length table.old.entries }
-    ensures touched_sum { vec_len touched.new + length table.new.entries ≡ vec_len touched.old + length table.old.entries }
-    ensures changes_capacity { vec_capacity changes.old ≤ vec_capacity changes.new }
-    ensures touched_capacity { vec_capacity touched.old ≤ vec_capacity touched.new }
+    ensures ended { HasEnded names.old names.new table.old table.new changes.old changes.new touched.old touched.new }
     ensures emptied { ending.new.items ≡ [] }
     ensures ending_capacity { vec_capacity ending.old ≤ vec_capacity ending.new }
 {
@@ -218,22 +196,12 @@ pub(crate) fn end_locks(
     ending: &mut Vec<Place>,
 )
     requires none { ending.old.items ≡ [] }
-    requires ready { Ready names.old (held_of table.old.entries) (pending_of table.old.entries) touched.old.items }
-    requires changes_room { vec_len changes.old + length table.old.entries ≤ vec_capacity changes.old }
-    requires touched_room { vec_len touched.old + length table.old.entries ≤ vec_capacity touched.old }
+    requires can { CanEnd names.old table.old changes.old touched.old }
     requires ending_room { length table.old.entries ≤ vec_capacity ending.old }
     ensures pending { pending_of table.new.entries ≡ pending_of table.old.entries }
     ensures held { held_of table.new.entries ≡ filter (λ lock. not (ends_lock owner lock)) (held_of table.old.entries) }
     ensures changes { changes.new.items ≡ changes.old.items ++ lock_ends phase (filter (ends_lock owner) (held_of table.old.entries)) }
-    ensures ready { Ready names.new (held_of table.new.entries) (pending_of table.new.entries) touched.new.items }
-    ensures names { names_of names.new ≡ names_of names.old }
-    ensures places { (n : ℕ) → AllByRecursion (λ e. e.0 < n) names.old → AllByRecursion (λ e. e.0 < n) names.new }
-    ensures next { table.new.next ≡ table.old.next }
-    ensures fewer { length table.new.entries ≤ length table.old.entries }
-    ensures changes_sum { vec_len changes.new + length table.new.entries ≡ vec_len changes.old + length table.old.entries }
-    ensures touched_sum { vec_len touched.new + length table.new.entries ≡ vec_len touched.old + length table.old.entries }
-    ensures changes_capacity { vec_capacity changes.old ≤ vec_capacity changes.new }
-    ensures touched_capacity { vec_capacity touched.old ≤ vec_capacity touched.new }
+    ensures ended { HasEnded names.old names.new table.old table.new changes.old changes.new touched.old touched.new }
     ensures emptied { ending.new.items ≡ [] }
     ensures ending_capacity { vec_capacity ending.old ≤ vec_capacity ending.new }
 {

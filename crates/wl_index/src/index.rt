@@ -1,9 +1,7 @@
 //! The machine over indexes.
-ghost use Rattle.std.specs.Prelude.{◌≡◌, ℕ, ◌+◌, ◌≤◌, List, [], ◌∷◌, IfOk, IfErr, OnErr, OnOk, Option, Some, None, true, false, not, ◌&&◌, slice_get};
-ghost use Rattle.wl_types.specs.Refusals.{refused_or_memory};
+ghost use Rattle.std.specs.Prelude.{◌≡◌, ℕ, ◌+◌, [], IfOk, OnErr, Option, Some, None, true, false, not, ◌&&◌};
 ghost use Rattle.wl_machine.specs.Refusals.{refusal};
-ghost use Rattle.wl_machine.specs.State.{opening, AreNumbers};
-ghost use Rattle.wl_machine.specs.Step.{step, Gives, settled, available, new_request, untaken_numbers};
+ghost use Rattle.wl_machine.specs.Step.{Gives, settled, available, new_request};
 ghost use Rattle.wl_index.specs.Ends.{without_owned, owned_ends};
 
 use crate::by_number::least_untaken;
@@ -41,23 +39,11 @@ pub struct IndexCore {
 impl Model for IndexCore {
     ghost use Rattle.std.specs.Prelude.{vec_capacity, ◌≡◌, []};
     ghost use Rattle.wl_machine.specs.State.{Content};
-    ghost use Rattle.wl_index.specs.Rows.{held_of, pending_of};
-    ghost use Rattle.wl_index.specs.Names.{names_of};
-    ghost use Rattle.wl_index.specs.Core.{IsCore};
+    ghost use Rattle.wl_index.specs.Core.{IsCore, machine_state};
 
     ghost Value = { Content };
 
-    ghost view = { λ c. record {
-      state = record {
-        agents = c.owners.agents;
-        signals = c.owners.signals;
-        names = names_of c.names;
-        held = held_of c.table.entries;
-        pending = pending_of c.table.entries;
-        next = record { agent = c.owners.next_agent; request = c.table.next; signal = c.owners.next_signal };
-      };
-      recent = c.changes.items;
-    } };
+    ghost view = { λ c. record { state = machine_state c.owners c.names c.table; recent = c.changes.items } };
 
     ghost invariant = { λ c. IsCore c.names c.table.entries c.table.next (vec_capacity c.changes) (vec_capacity c.touched) (vec_capacity c.ending) × (c.touched.items ≡ []) × (c.ending.items ≡ []) };
 }

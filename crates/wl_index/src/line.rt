@@ -1,7 +1,6 @@
 //! One name in use.
-ghost use Rattle.std.specs.Prelude.{map, ◌≡◌, ℕ, ◌<◌, List, [], ◌∷◌, OnOk, OnErr, slice_get, Some, None, false, true, ◌&&◌};
+ghost use Rattle.std.specs.Prelude.{map, ◌≡◌, ◌<◌, [], ◌∷◌, OnOk, OnErr, slice_get, Some, None, ◌&&◌};
 ghost use Rattle.std.specs.List.{AllByRecursion};
-ghost use Rattle.std.specs.Map.{keys_of};
 ghost use Rattle.wl_types.specs.declared.words.Mode.TheVariants.{Exclusive};
 ghost use Rattle.wl_machine.specs.Grants.{is_empty};
 ghost use Rattle.wl_index.specs.Lines.{admits, excludes, next_grant, after_grant, is_busy, with_one_more, without, holder_without, head_number, live_after, first_left, first_or};

@@ -1,18 +1,19 @@
 //! The names in use.
-ghost use Rattle.std.specs.Prelude.{◌≡◌, ℕ, ◌+◌, ◌≤◌, ◌<◌, ◌==◌, true, false, List, [], ◌∷◌, ◌++◌, filter, map, not, ◌&&◌, slice_get, length, vec_len, vec_capacity, IsSome, IfSome, OnOk, OnErr, IfOk, IfNone, Some, None};
+ghost use Rattle.std.specs.Prelude.{◌≡◌, ℕ, ◌+◌, ◌≤◌, ◌<◌, ◌==◌, true, false, List, [], ◌∷◌, ◌++◌, filter, map, not, ◌&&◌, slice_get, length, vec_len, vec_capacity, IsSome, IfSome, OnOk, OnErr, IfOk, Some, None};
 ghost use Rattle.std.specs.List.{AllByRecursion};
 ghost use Rattle.std.specs.Map.{lookup, set_value, keys_of};
 ghost use Rattle.std.specs.BTreeMap.{is_at};
 ghost use Rattle.std.specs.Ordering.{nat_cmp};
 ghost use Rattle.wl_machine.specs.declared.rows.HeldRow.{HeldRow};
 ghost use Rattle.wl_machine.specs.declared.rows.PendingRow.{PendingRow};
-ghost use Rattle.wl_machine.specs.Grants.{Lists, lists_of, settle_name, settle_names, in_use, is_empty, grants, locks, queue, granted_lock};
+ghost use Rattle.wl_machine.specs.Grants.{Lists, lists_of, settle_names, in_use, is_empty, grants, locks, queue, granted_lock};
 ghost use Rattle.wl_machine.specs.Step.{with_name, lock_ends};
 ghost use Rattle.wl_types.specs.declared.phases.Phase.TheVariants.{Stolen, Granted};
 ghost use Rattle.std.specs.Str.{bytes_eq};
 ghost use Rattle.std.specs.List.Sorted.{IsStrictlySortedBy};
 ghost use Rattle.wl_index.specs.Rows.{other, held_of, pending_of, tags_of};
-ghost use Rattle.wl_index.specs.Lines.{Waiting, Matches, without, is_busy, with_one_more, seized};
+ghost use Rattle.wl_index.specs.Lines.{Matches, without, is_busy, with_one_more, seized};
+ghost use Rattle.wl_index.specs.Ends.{CanEnd, HasEnded};
 ghost use Rattle.wl_index.specs.Names.{names_of, among, IsNames, Ready, Underway, Entered, IsBelow, WaitsAlone};
 
 use crate::line::Line;
@@ -160,22 +161,13 @@ impl Names {
         touched: &mut Vec<u64>,
     ) -> Request
         requires there { IsSome (lookup (is_at (nat_cmp number)) table.old.entries) }
-        requires ready { Ready self.old (held_of table.old.entries) (pending_of table.old.entries) touched.old.items }
-        requires changes_room { vec_len changes.old + length table.old.entries ≤ vec_capacity changes.old }
-        requires touched_room { vec_len touched.old + length table.old.entries ≤ vec_capacity touched.old }
+        requires can { CanEnd self.old table.old changes.old touched.old }
         ensures value { lookup (is_at (nat_cmp number)) table.old.entries ≡ Some result }
         ensures entries { table.new.entries ≡ filter (other number) table.old.entries }
-        ensures ready { Ready self.new (held_of table.new.entries) (pending_of table.new.entries) touched.new.items }
-        ensures names { names_of self.new ≡ names_of self.old }
-        ensures places { (n : ℕ) → AllByRecursion (λ e. e.0 < n) self.old → AllByRecursion (λ e. e.0 < n) self.new }
+        ensures ended { HasEnded self.old self.new table.old table.new changes.old changes.new touched.old touched.new }
         ensures changes { changes.new.items ≡ changes.old.items ++ record { id = number; phase = phase } ∷ [] }
-        ensures next { table.new.next ≡ table.old.next }
         ensures ordered { IsStrictlySortedBy nat_cmp (keys_of table.new.entries) }
         ensures fewer { length table.new.entries + 1 ≡ length table.old.entries }
-        ensures changes_len { vec_len changes.new ≡ vec_len changes.old + 1 }
-        ensures touched_len { vec_len touched.new ≡ vec_len touched.old + 1 }
-        ensures changes_capacity { vec_capacity changes.old ≤ vec_capacity changes.new }
-        ensures touched_capacity { vec_capacity touched.old ≤ vec_capacity touched.new }
     {
         let request = table.remove(number).unwrap();
         let place = *self.uses.get(&request.name).unwrap();
@@ -205,24 +197,14 @@ impl Names {
         changes: &mut Vec<Change>,
         touched: &mut Vec<u64>,
     )
-        requires ready { Ready self.old (held_of table.old.entries) (pending_of table.old.entries) touched.old.items }
+        requires can { CanEnd self.old table.old changes.old touched.old }
         requires ordered { IsStrictlySortedBy nat_cmp (keys_of table.old.entries) }
-        requires changes_room { vec_len changes.old + length table.old.entries ≤ vec_capacity changes.old }
-        requires touched_room { vec_len touched.old + length table.old.entries ≤ vec_capacity touched.old }
         ensures held { held_of table.new.entries ≡ filter (λ lock. not (bytes_eq lock.name name.now)) (held_of table.old.entries) }
         ensures gone { locks name.now (held_of table.new.entries) ≡ [] }
         ensures pending { pending_of table.new.entries ≡ pending_of table.old.entries }
         ensures changes { changes.new.items ≡ changes.old.items ++ lock_ends Stolen (locks name.now (held_of table.old.entries)) }
-        ensures ready { Ready self.new (held_of table.new.entries) (pending_of table.new.entries) touched.new.items }
-        ensures names { names_of self.new ≡ names_of self.old }
-        ensures places { (n : ℕ) → AllByRecursion (λ e. e.0 < n) self.old → AllByRecursion (λ e. e.0 < n) self.new }
-        ensures next { table.new.next ≡ table.old.next }
+        ensures ended { HasEnded self.old self.new table.old table.new changes.old changes.new touched.old touched.new }
         ensures ordered { IsStrictlySortedBy nat_cmp (keys_of table.new.entries) }
-        ensures fewer { length table.new.entries ≤ length table.old.entries }
-        ensures changes_sum { vec_len changes.new + length table.new.entries ≡ vec_len changes.old + length table.old.entries }
-        ensures touched_sum { vec_len touched.new + length table.new.entries ≡ vec_len touched.old + length table.old.entries }
-        ensures changes_capacity { vec_capacity changes.old ≤ vec_capacity changes.new }
-        ensures touched_capacity { vec_capacity touched.old ≤ vec_capacity touched.new }
     {
         while let Some(number) = self.first_holder(table, name) {
             self.end(number, Phase::Stolen, table, changes, touched);
@@ -260,11 +242,9 @@ impl Names {
         changes: &mut Vec<Change>,
         touched: &mut Vec<u64>,
     )
-        requires ready { Ready self.old (held_of table.old.entries) (pending_of table.old.entries) touched.old.items }
+        requires can { CanEnd self.old table.old changes.old touched.old }
         requires ordered { IsStrictlySortedBy nat_cmp (keys_of table.old.entries) }
         requires waits { WaitsAlone number name.now (pending_of table.old.entries) }
-        requires changes_room { vec_len changes.old + length table.old.entries ≤ vec_capacity changes.old }
-        requires touched_room { vec_len touched.old + length table.old.entries ≤ vec_capacity touched.old }
         ensures held { held_of table.new.entries ≡ filter (λ lock. not (bytes_eq lock.name name.now)) (held_of table.old.entries) ++ map granted_lock (filter (λ (request : PendingRow). request.number == number) (pending_of table.old.entries)) }
         ensures pending { pending_of table.new.entries ≡ filter (λ (request : PendingRow). not (request.number == number)) (pending_of table.old.entries) }
         ensures changes { changes.new.items ≡ (changes.old.items ++ lock_ends Stolen (locks name.now (held_of table.old.entries))) ++ record { id = number; phase = Granted } ∷ [] }

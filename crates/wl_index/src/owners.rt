@@ -1,5 +1,5 @@
 //! Agents and their signals, by number.
-ghost use Rattle.std.specs.Prelude.{◌≡◌, ℕ, ◌+◌, ◌≤◌, ◌<◌, ◌==◌, ◌&&◌, true, not, List, [], ◌∷◌, ◌++◌, map, filter, length, OnOk, OnErr, IfOk, IfSome, IsSome, None, if◌then◌else◌};
+ghost use Rattle.std.specs.Prelude.{◌≡◌, ◌+◌, ◌<◌, ◌==◌, ◌&&◌, true, not, [], ◌∷◌, ◌++◌, map, filter, length, OnOk, OnErr, IfOk, IfSome, IsSome, None, if◌then◌else◌};
 ghost use Rattle.std.specs.List.{list_any};
 ghost use Rattle.std.specs.Map.{keys_of, lookup, set_value};
 ghost use Rattle.std.specs.List.Sorted.{IsStrictlySortedBy};

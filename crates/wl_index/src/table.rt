@@ -1,5 +1,5 @@
 //! The live requests by number. A lock keeps its place in the order of grants as a stamp, so a grant writes in place.
-ghost use Rattle.std.specs.Prelude.{◌≡◌, ◌+◌, ◌≤◌, ◌<◌, ◌^◌, ◌==◌, true, List, [], ◌∷◌, ◌++◌, map, filter, not, length, slice_get, IfOk, OnOk, OnErr, Some, false, ◌&&◌};
+ghost use Rattle.std.specs.Prelude.{◌≡◌, ◌+◌, ◌≤◌, ◌<◌, ◌^◌, ◌==◌, true, [], ◌∷◌, ◌++◌, map, filter, not, length, slice_get, IfOk, OnOk, OnErr, Some, false, ◌&&◌};
 ghost use Rattle.std.specs.List.{list_any, AllByRecursion};
 ghost use Rattle.std.specs.List.Sorted.{IsStrictlySortedBy};
 ghost use Rattle.std.specs.Map.{keys_of, lookup};

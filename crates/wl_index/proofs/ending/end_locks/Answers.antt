@@ -1,37 +1,39 @@
-use Rattle.std.proofs.Common.{◌∙◌, ◌++◌, ap, subst, sym, filter}
+use Rattle.std.proofs.Common.{◌≡◌, ◌∙◌, ◌++◌, ap, filter, map}
 use Rattle.wl_index.specs.declared.order.Place.{Place}
 use Rattle.wl_index.specs.Stamps.{by_stamp}
+use Rattle.wl_index.specs.Order.{place_of}
 use Rattle.wl_index.specs.Rows.{pending_of, held_of}
 use Rattle.wl_index.specs.Groups.{spared}
-use Rattle.wl_index.specs.Ends.{numbers_of, place_ends, AreLive}
+use Rattle.wl_index.specs.Ends.{numbers_of, place_ends, ends_entry}
+use Rattle.wl_index.specs.declared.ending.Standing.TheVariants.{Holds}
 use Rattle.wl_index.proofs.Owned.{locks_distinct, locks_live, locks_pending, locks_held, locks_told}
+use Rattle.wl_index.proofs.ending.end_locks.Goals.{After-deref, After-clear}
 use Rattle.wl_index.proofs.ending.end_locks.Goals as goal
 
 pub sort-requires : goal.sort-requires
 sort-requires c =
-    let es = c.args.table.now.entries in
-    rw c.gather.ensures.items (locks_distinct c.args.owner es c.gather.ensures.distinct)
+    rw c.gather.ensures.items (locks_distinct c.args.owner c.args.table.now.entries c.gather.ensures.distinct)
+
+-- the places of the locks that end, in the order of their grants
+places : (c : After-deref) → c.deref.result.now ≡ by_stamp (λ (p : Place). p.stamp) (map place_of (filter (ends_entry c.args.owner Holds) c.args.table.now.entries))
+places c = c.deref.ensures.value ∙ c.sort.ensures.items ∙ ap (by_stamp (λ (p : Place). p.stamp)) c.gather.ensures.items
 
 pub end_all-requires-clause-live : goal.end_all-requires-clause-live
 end_all-requires-clause-live c =
-    let es = c.args.table.now.entries in
-    let places = c.deref.ensures.value ∙ c.sort.ensures.items ∙ ap (by_stamp (λ (p : Place). p.stamp)) c.gather.ensures.items in
-    subst (λ ps. AreLive (numbers_of ps) es) (sym places) (locks_live c.args.owner es c.gather.ensures.ordered)
+    rw (places (goal.at.end_all-requires-clause-live c).After-deref) (locks_live c.args.owner c.args.table.now.entries c.gather.ensures.ordered)
+
+-- the table without them
+left : (c : After-clear)
+    → c.end_all.new.table.entries ≡ filter (spared (numbers_of (by_stamp (λ (p : Place). p.stamp) (map place_of (filter (ends_entry c.args.owner Holds) c.args.table.now.entries))))) c.args.table.now.entries
+left c = c.end_all.ensures.entries ∙ ap (λ ps. filter (spared (numbers_of ps)) c.args.table.now.entries) (places (goal.at.returns-clause-held c).After-deref)
 
 pub returns-clause-pending : goal.returns-clause-pending
-returns-clause-pending c =
-    let es = c.args.table.now.entries in
-    let places = c.deref.ensures.value ∙ c.sort.ensures.items ∙ ap (by_stamp (λ (p : Place). p.stamp)) c.gather.ensures.items in
-    ap pending_of (c.end_all.ensures.entries ∙ ap (λ ps. filter (spared (numbers_of ps)) es) places) ∙ locks_pending c.args.owner es c.gather.ensures.ordered
+returns-clause-pending c = ap pending_of (left c) ∙ locks_pending c.args.owner c.args.table.now.entries c.gather.ensures.ordered
 
 pub returns-clause-held : goal.returns-clause-held
-returns-clause-held c =
-    let es = c.args.table.now.entries in
-    let places = c.deref.ensures.value ∙ c.sort.ensures.items ∙ ap (by_stamp (λ (p : Place). p.stamp)) c.gather.ensures.items in
-    ap held_of (c.end_all.ensures.entries ∙ ap (λ ps. filter (spared (numbers_of ps)) es) places) ∙ locks_held c.args.owner es c.gather.ensures.ordered
+returns-clause-held c = ap held_of (left c) ∙ locks_held c.args.owner c.args.table.now.entries c.gather.ensures.ordered
 
 pub returns-clause-changes : goal.returns-clause-changes
 returns-clause-changes c =
-    let es = c.args.table.now.entries in
-    let places = c.deref.ensures.value ∙ c.sort.ensures.items ∙ ap (by_stamp (λ (p : Place). p.stamp)) c.gather.ensures.items in
-    c.end_all.ensures.changes ∙ ap (λ cs. c.args.changes.now.items ++ cs) (ap (place_ends c.args.phase) places ∙ locks_told c.args.owner es c.args.phase)
+    c.end_all.ensures.changes
+    ∙ ap (λ cs. c.args.changes.now.items ++ cs) (ap (place_ends c.args.phase) (places (goal.at.returns-clause-changes c).After-deref) ∙ locks_told c.args.owner c.args.table.now.entries c.args.phase)
