@@ -16,7 +16,7 @@ mod news;
 mod ticket;
 
 pub use crate::agent::Agent;
-pub use crate::count::{Count, Ledgered, Loose, Recent};
+pub use crate::count::{Count, Ledgered, Loose, Recent, Uncounted};
 pub use crate::locked::{Leaving, Locked, TallyFault};
 pub use crate::manager::{Manager, Visitor};
 pub use crate::news::News;
