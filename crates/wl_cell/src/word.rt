@@ -1,6 +1,6 @@
 //! Phases as words. This file and specs/Words.antt are the only ones that know which word stands for which phase.
 
-ghost use Rattle.std.specs.Prelude.{◌≡◌, ◌+◌, ◌<◌, ◌^◌};
+ghost use Rattle.std.specs.Prelude.{◌≡◌, ◌+◌, ◌<◌};
 ghost use Rattle.wl_cell.specs.Words.{word_of, reason_code, reason_count, word_count};
 ghost use Rattle.wl_types.specs.declared.phases.Phase.{Phase};
 ghost use Rattle.wl_types.specs.declared.words.Reason.{Reason};

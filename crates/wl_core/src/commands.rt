@@ -1,6 +1,6 @@
 //! One command, and a list of them, on any core.
 
-ghost use Rattle.std.specs.Prelude.{◌≡◌, ℕ, ◌≤◌, List, length, take, IfOk, IfErr, OnOk};
+ghost use Rattle.std.specs.Prelude.{◌≡◌, ◌≤◌, length, take, IfOk, IfErr, OnOk};
 ghost use Rattle.wl_machine.specs.Step.{replies_of, state_after};
 ghost use Rattle.wl_core.specs.Answers.{Answers, content_of, is_memory};
 

@@ -1,6 +1,6 @@
 //! What a lock manager's core does, however it keeps its state.
 
-ghost use Rattle.std.specs.Prelude.{◌≡◌, ℕ, ◌≤◌, ◌<◌, List, [], ◌∷◌, IfOk, IfErr, OnErr, OnOk, Option, Some, None, true};
+ghost use Rattle.std.specs.Prelude.{◌≡◌, ℕ, ◌<◌, List, [], IfOk, IfErr, OnErr, OnOk, Option, Some, None, true};
 ghost use Rattle.std.specs.List.{slice_get};
 ghost use Rattle.wl_types.specs.Refusals.{refused_or_memory};
 ghost use Rattle.wl_types.specs.declared.phases.Change.{Change};

@@ -1,7 +1,6 @@
 //! The lock machine over lists.
 
-ghost use Rattle.std.specs.Prelude.{◌≡◌, ℕ, ◌+◌, ◌≤◌, ◌<◌, List, [], ◌∷◌, ◌++◌, IfOk, IfErr, OnErr, OnOk, Option, None, Some, true};
-ghost use Rattle.wl_machine.specs.State.{State, opening, AreNumbers};
+ghost use Rattle.std.specs.Prelude.{◌≡◌, ◌+◌, ◌≤◌, ◌<◌, [], IfOk, OnErr, Option, None, Some, true};
 ghost use Rattle.wl_machine.specs.Refusals.{refusal};
 ghost use Rattle.wl_machine.specs.Step.{Gives};
 

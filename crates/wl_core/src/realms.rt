@@ -1,8 +1,8 @@
 //! A core for each key.
 
-ghost use Rattle.std.specs.Prelude.{◌≡◌, ◌<◌, ℕ, Bool, true, false, List, [], length, slice_get, Option, Some, None, is_some, IsTrue, ◌↔◌, OnOk, OnErr, if◌then◌else◌};
+ghost use Rattle.std.specs.Prelude.{◌≡◌, ◌<◌, false, List, [], length, slice_get, Some, None, is_some, IsTrue, ◌↔◌, OnOk, OnErr, if◌then◌else◌};
 ghost use Rattle.std.specs.BTreeMap.{insert_entry};
-ghost use Rattle.wl_machine.specs.State.{State, opening};
+ghost use Rattle.wl_machine.specs.State.{opening};
 ghost use Rattle.wl_machine.specs.Step.{step};
 ghost use Rattle.wl_core.specs.Answers.{Answers, content_of, is_memory};
 ghost use Rattle.wl_core.specs.Realm.{all_ones, at_key, with_at, realm_of, stepped};

@@ -1,6 +1,6 @@
 //! A core that keeps a journal.
 
-ghost use Rattle.std.specs.Prelude.{◌≡◌, ◌<◌, ◌^◌, ℕ, [], ◌↔◌, IsTrue, IfOk, IfErr, OnErr, OnOk, length};
+ghost use Rattle.std.specs.Prelude.{◌≡◌, ◌<◌, ◌^◌, [], ◌↔◌, IsTrue, IfOk, IfErr, OnErr, OnOk, length};
 ghost use Rattle.wl_types.specs.Refusals.{refused_or_memory};
 ghost use Rattle.wl_machine.specs.Refusals.{refusal};
 ghost use Rattle.wl_machine.specs.Step.{step};

@@ -1,6 +1,6 @@
 //! What lies under a manager's lock.
 
-ghost use Rattle.std.specs.Prelude.{◌≡◌, ◌+◌, ◌^◌, ◌≤◌, [], length, true, IfOk, IfErr, OnErr, OnOk};
+ghost use Rattle.std.specs.Prelude.{◌≡◌, ◌+◌, ◌^◌, ◌≤◌, [], true, IfOk, IfErr, OnErr, OnOk};
 ghost use Rattle.wl_types.specs.Refusals.{refused_or_memory};
 ghost use Rattle.wl_machine.specs.Refusals.{refusal};
 ghost use Rattle.wl_machine.specs.Step.{step};

@@ -1,11 +1,10 @@
 //! Audits a script: runs it over books, and says for each origin whether its journal is legal.
 
-ghost use Rattle.std.specs.Prelude.{◌≡◌, ◌+◌, ◌<◌, ◌≤◌, ◌^◌, true, Some, None, All, length, IfOk, IfErr, IfSome, OnOk, string_bytes};
-ghost use Rattle.std.specs.Io.KnownBytes.{Appends};
+ghost use Rattle.std.specs.Prelude.{◌≡◌, ◌+◌, ◌<◌, ◌≤◌, ◌^◌, true, None, All, length, IfOk, IfErr, IfSome, string_bytes};
 ghost use Rattle.serde_json.specs.View.{view};
 ghost use Rattle.wl_script.specs.Audits.{Audited, LeavesAudit, LeavesOrigins, IsUnwritten, WritesNext, WritesOrigins, all_seen, audit_line, audit_value, recording, seen};
 ghost use Rattle.wl_script.specs.Faults.{is_read, is_write, IsTooManyTurns};
-ghost use Rattle.wl_script.specs.Leaves.{AnswersAtOnce, GaveBytes};
+ghost use Rattle.wl_script.specs.Leaves.{GaveBytes};
 ghost use Rattle.wl_script.specs.Lines.{lines};
 ghost use Rattle.wl_script.specs.Streams.{Counts, GrewBy, GrewAtMostBy};
 ghost use Rattle.wl_script.specs.Transcript.{after};

@@ -1,5 +1,5 @@
 -- Parts of lines, one after another.
-use Rattle.std.proofs.Common.{Bool, true, not, ◌==◌, Result, Ok, ◌≡◌, ◌⊎◌, ◌≤◌, ◌<◌, ◌+◌, ◌∙◌, refl, sym, ap, subst, arith, ℕ, List, [], ◌∷◌, ◌++◌, append_assoc, append-nil, length, drop, Option, None, Some, false, inl, inr, suc, add-one}
+use Rattle.std.proofs.Common.{Bool, true, not, ◌==◌, Result, Ok, ◌≡◌, ◌<◌, ◌+◌, ◌∙◌, refl, sym, ap, subst, arith, ℕ, List, [], ◌∷◌, ◌++◌, append_assoc, append-nil, length, drop, Option, None, Some, false, inl, inr, suc, add-one}
 use Rattle.std.specs.Io.KnownBytes.{Consumes, Keeps, IsAtEnd, prepend_known}
 use Rattle.std.proofs.KnownBytes.{Consumes-trans, Consumes-kept}
 use Rattle.std.proofs.lemmas.List.Elements.{All-nil, All-append}

@@ -1,6 +1,6 @@
 //! Does what a message asks for.
 
-ghost use Rattle.std.specs.Prelude.{◌≡◌, ℕ, List, IfOk};
+ghost use Rattle.std.specs.Prelude.{ℕ, List, IfOk};
 ghost use Rattle.wl_codec.specs.declared.message.Body.{Body};
 ghost use Rattle.wl_codec.specs.declared.message.Body.TheVariants.{Enter, Request};
 ghost use Rattle.wl_server.specs.Peers.{IsOutcome, IsOutcomeOf};

@@ -1,7 +1,7 @@
 //! The lines of a reader.
 
-ghost use Rattle.std.specs.Prelude.{◌≡◌, ◌≢◌, ◌≤◌, ◌<◌, ◌∷◌, ◌++◌, [], length, drop, true, false, Ok, Err, None, Option, ℕ, List, IfSome, OnOk};
-ghost use Rattle.std.specs.Io.KnownBytes.{Consumes, IsAtEnd};
+ghost use Rattle.std.specs.Prelude.{◌≡◌, ◌≤◌, ◌<◌, ◌∷◌, ◌++◌, [], length, true, false, Ok, Err, None, Option, ℕ, List, IfSome, OnOk};
+ghost use Rattle.std.specs.Io.KnownBytes.{IsAtEnd};
 ghost use Rattle.wl_server.specs.Lines.{HasNoLf, GivesLine, GivesTooLong, GivesPart, to_come};
 
 use crate::piece::Piece;

@@ -1,6 +1,6 @@
 //! A thread for each connection.
 
-ghost use Rattle.std.specs.Prelude.{◌≡◌, ◌≤◌, ◌<◌, IfOk, IfErr};
+ghost use Rattle.std.specs.Prelude.{◌≡◌, ◌<◌, IfOk, IfErr};
 ghost use Rattle.wl_server.specs.Listening.{ended};
 
 use crate::crowd::Crowd;

@@ -1,6 +1,6 @@
 //! The agent of a connection.
 
-ghost use Rattle.std.specs.Prelude.{◌≡◌, IfOk, OnOk, string_bytes};
+ghost use Rattle.std.specs.Prelude.{◌≡◌, IfOk, string_bytes};
 ghost use Rattle.wl_session.specs.Step.{closed};
 ghost use Rattle.wl_server.specs.Peers.{Answers};
 

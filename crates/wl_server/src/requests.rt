@@ -1,6 +1,6 @@
 //! The requests of an agent whose end it wasn't told.
 
-ghost use Rattle.std.specs.Prelude.{◌≡◌, ◌≢◌, All, IfOk, IfSome};
+ghost use Rattle.std.specs.Prelude.{◌≢◌, All, IfOk, IfSome};
 ghost use Rattle.wl_types.specs.declared.phases.Phase.TheVariants.{Granted};
 ghost use Rattle.wl_session.specs.Told.{IsByNumber};
 

@@ -4,7 +4,7 @@
 //! that leaves from the middle moves those behind it. So a list may also keep ends in their places (`Upkeep` says
 //! which does): the told list is what is live in it.
 
-ghost use Rattle.std.specs.Prelude.{◌≡◌, ◌+◌, ◌<◌, ◌≤◌, length, filter, fold, map, vec_len, vec_capacity, IfOk, IfErr, OnErr};
+ghost use Rattle.std.specs.Prelude.{◌≡◌, ◌+◌, ◌<◌, ◌≤◌, length, filter, fold, map, vec_len, vec_capacity, IfOk, IfErr};
 ghost use Rattle.wl_session.specs.Places.{IsAt, IsGapFor};
 ghost use Rattle.wl_session.specs.Told.{IsByNumber, IsToldList, is_live, put, phase_in, phase_told, is_news, news, released, completed, still_told};
 

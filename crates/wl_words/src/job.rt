@@ -1,6 +1,6 @@
 //! The words of the command line.
 
-ghost use Rattle.std.specs.Prelude.{◌≡◌, [], ◌≤◌, map, pos, IfOk, IfErr, IfSome, IsSome, OnOk, Some, codes, false};
+ghost use Rattle.std.specs.Prelude.{◌≡◌, [], map, pos, IfOk, IfErr, IfSome, IsSome, OnOk, Some, codes, false};
 ghost use Rattle.clap.specs.Words.{app_of, fault_of, found_of, rows_of, rule_of, subcommand_name_of, subcommand_of, subcommand_rows_of};
 ghost use Rattle.clap.specs.declared.builder.command.Command.TheViews.{out-Command as fields_of};
 ghost use Rattle.clap.specs.declared.builder.value_parser.ValueParser.TheVariants as values;

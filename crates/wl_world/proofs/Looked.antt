@@ -7,11 +7,9 @@ use Rattle.std.specs.Map.{keys_of, values_of}
 use Rattle.wl_numbered.specs.NumberMap.{NumberMap}
 use Rattle.wl_numbered.proofs.Keyed.{found_each}
 use Rattle.std.specs.Ordering.{nat_cmp}
-use Rattle.std.specs.Cmp.{nat_cmp_total}
 use Rattle.std.proofs.lemmas.List.{flat_map_more, take_more}
-use Rattle.std.proofs.lemmas.List.Elements.{recursion_from_All}
 use Rattle.std.proofs.lemmas.Map.Lookups.{exact_unsigned}
-use Rattle.std.proofs.lemmas.Map.Views.{All-found, Contains-keys_from_lookup, tells_apart}
+use Rattle.std.proofs.lemmas.Map.Views.{Contains-keys_from_lookup, tells_apart}
 use Rattle.wl_types.specs.declared.phases.Phase.{Phase}
 use Rattle.wl_session.specs.Told.{Look}
 use Rattle.wl_world.specs.declared.requests.Request.{Request}

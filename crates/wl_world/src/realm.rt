@@ -1,6 +1,6 @@
 //! The managers of all origins.
 
-ghost use Rattle.std.specs.Prelude.{◌≡◌, IfOk, OnOk, IsSome, string_bytes};
+ghost use Rattle.std.specs.Prelude.{◌≡◌, IfOk, OnOk, string_bytes};
 ghost use Rattle.wl_codec.specs.Replies.{reply_text};
 ghost use Rattle.wl_machine.specs.declared.command.Command.TheVariants as command;
 ghost use Rattle.wl_world.specs.Agents.{served};

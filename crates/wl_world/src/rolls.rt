@@ -1,6 +1,6 @@
 //! The requests of an origin by number, and of each agent a roll of numbers that its requests are found by.
 
-ghost use Rattle.std.specs.Prelude.{◌≡◌, ◌∷◌, ◌++◌, List, [], map, filter, is_some, true, IfOk, IsSome, OnOk, Some, None, ℕ};
+ghost use Rattle.std.specs.Prelude.{◌≡◌, ◌∷◌, ◌++◌, [], map, filter, is_some, true, IfOk, IsSome, OnOk, Some, None, ℕ};
 ghost use Rattle.std.specs.List.{Contains, flat_map};
 ghost use Rattle.std.specs.List.Sorted.{IsStrictlyIncreasing, IsStrictlySortedBy};
 ghost use Rattle.std.specs.Map.{keys_of, values_of};

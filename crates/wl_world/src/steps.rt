@@ -1,6 +1,6 @@
 //! An agent's operation on a core, and what it makes of the requests.
 
-ghost use Rattle.std.specs.Prelude.{◌≡◌, IfOk, OnOk};
+ghost use Rattle.std.specs.Prelude.{◌≡◌, IfOk};
 ghost use Rattle.wl_machine.specs.declared.command.Command.TheVariants as command;
 ghost use Rattle.wl_world.specs.Origins.{act, stepped};
 ghost use Rattle.wl_world.specs.Requests.{noted, listed, IsRising};

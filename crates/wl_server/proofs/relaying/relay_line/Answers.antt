@@ -1,4 +1,4 @@
-use Rattle.std.proofs.Common.{refl, ap, Ok, rules, sym, ◌∙◌}
+use Rattle.std.proofs.Common.{refl, ap, Ok}
 use Rattle.std.proofs.KnownBytes.{Keeps-refl}
 use Rattle.wl_server.specs.Lines.{to_come}
 use Rattle.wl_server.proofs.relaying.relay_line.Goals as goal

@@ -1,7 +1,7 @@
-use Rattle.std.proofs.Common.{◌≡◌, sym, subst, rules, ℕ, List, ◌++◌, [], append-nil, take, drop, Option}
+use Rattle.std.proofs.Common.{◌≡◌, sym, subst, rules, ℕ, List, [], append-nil, take, drop, Option}
 use Rattle.std.proofs.Math.Seq.{take-add}
 use Rattle.std.proofs.lemmas.List.{take_rest, take-append-drop}
-use Rattle.std.specs.Io.KnownBytes.{Appends, Keeps}
+use Rattle.std.specs.Io.KnownBytes.{Appends}
 use Rattle.std.proofs.KnownBytes.{Appends-trans, Appends-kept}
 use Rattle.wl_server.proofs.writing.write_all.Goals as goal
 

@@ -1,4 +1,3 @@
-use Rattle.std.proofs.Common.{◌≡◌}
 use Rattle.wl_server.specs.Lines.{to_come}
 use Rattle.wl_server.proofs.Parts.{IsBegun}
 use Rattle.wl_server.proofs.lines.Lines.next_line.Given as goal

@@ -1,4 +1,4 @@
-use Rattle.std.proofs.Common.{rules, ap, sym, ◌∙◌, refl}
+use Rattle.std.proofs.Common.{rules, sym, ◌∙◌, refl}
 use Rattle.wl_server.proofs.Parts.{ended, used, long_ended}
 use Rattle.wl_server.proofs.lines.Lines.take_part.Goals as goal
 

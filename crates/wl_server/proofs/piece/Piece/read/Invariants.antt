@@ -1,4 +1,3 @@
-use Rattle.std.proofs.Common.{◌≡◌, []}
 use Rattle.std.specs.Io.KnownBytes.{Keeps}
 use Rattle.wl_server.proofs.piece.Piece.read.Given as goal
 
