@@ -107,40 +107,80 @@ fn add_word(call: &mut String, word: &str, dice: &mut Dice, last: Last) -> Resul
     Ok(())
 }
 
-/// Writes a call of a kind in place of the last one.
-fn write_call(call: &mut String, kind: &str, dice: &mut Dice, last: Last) -> Result<(), Memory> {
-    call.clear();
-    for word in kind.split(' ') {
-        add_word(call, word, dice, last)?;
-    }
-    Ok(())
+/// Random calls from one seed, one after another.
+#[derive(Drop)]
+struct Calls {
+    dice: Dice,
+    last: Last,
+    text: String,
 }
 
-/// Whether the cores have the same state and tell the same changes.
-fn same_core(plain: &PlainCore, index: &IndexCore) -> Result<bool, Memory> {
-    Ok(plain.changes() == index.changes() && index.copy_plain()? == *plain)
+impl Calls {
+    fn new(alloc: Global, seed: u64) -> Calls {
+        let last = Last {
+            agent: 0,
+            request: 0,
+            signal: 0,
+        };
+        Calls {
+            dice: Dice { state: seed },
+            last,
+            text: String::new(alloc),
+        }
+    }
+
+    /// Writes the next call in place of the one before.
+    fn write_next(&mut self) -> Result<(), Memory> {
+        self.text.clear();
+        for word in self.dice.kind().split(' ') {
+            add_word(&mut self.text, word, &mut self.dice, self.last)?;
+        }
+        Ok(())
+    }
+
+    /// Notes what the call was answered.
+    fn note(&mut self, line: &str) {
+        let (_, answer) = line.split_once(" -> ").unwrap_or(("", ""));
+        self.last.note(answer);
+    }
+}
+
+/// Both cores, to which the same is done.
+#[derive(Drop)]
+struct Both {
+    index: IndexCore,
+    plain: PlainCore,
+}
+
+impl Both {
+    /// Does the call, and gives it as the plain core answers it, and whether the other answers the same.
+    fn call(&mut self, alloc: Global, call: &str) -> Result<(String, bool), Memory> {
+        let line = done(alloc, &mut self.plain, call)?;
+        let other = done(alloc, &mut self.index, call)?;
+        let same = line.as_str() == other.as_str();
+        Ok((line, same))
+    }
+
+    /// Whether they have the same state and tell the same changes.
+    fn are_alike(&self) -> Result<bool, Memory> {
+        Ok(self.plain.changes() == self.index.changes() && self.index.copy_plain()? == self.plain)
+    }
 }
 
 /// The first call after which the cores differ, if they do, as the plain one answers it.
 fn first_difference(alloc: Global, seed: u64) -> Result<Option<String>, Memory> {
-    let mut index: IndexCore = opening(alloc);
-    let mut plain: PlainCore = opening(alloc);
-    let mut dice = Dice { state: seed };
-    let mut last = Last {
-        agent: 0,
-        request: 0,
-        signal: 0,
+    let mut cores = Both {
+        index: opening(alloc),
+        plain: opening(alloc),
     };
-    let mut call = String::new(alloc);
+    let mut calls = Calls::new(alloc, seed);
     for _ in 0..CALLS {
-        write_call(&mut call, dice.kind(), &mut dice, last)?;
-        let line = done(alloc, &mut plain, call.as_str())?;
-        let other = done(alloc, &mut index, call.as_str())?;
-        if line.as_str() != other.as_str() || !same_core(&plain, &index)? {
+        calls.write_next()?;
+        let (line, same) = cores.call(alloc, calls.text.as_str())?;
+        if !same || !cores.are_alike()? {
             return Ok(Some(line));
         }
-        let (_, answer) = line.as_str().split_once(" -> ").unwrap_or(("", ""));
-        last.note(answer);
+        calls.note(line.as_str());
     }
     Ok(None)
 }

@@ -1,0 +1,128 @@
+"""The further edits of tests/edits: what each changes, what its crate reads, and what is on record of it."""
+
+from __future__ import annotations
+
+import hashlib
+import subprocess
+from dataclasses import dataclass
+from pathlib import Path
+
+TOP = Path(__file__).resolve().parent.parent
+EDITS = TOP / "tests" / "edits"
+RECORD = EDITS / "TRIED"
+# What a check reads of a crate.
+PARTS = ("src", "specs", "proofs")
+
+HEAD = """\
+# What tests/try_edits tried: an edit, a digest of all that its try read, and where the prover refused it.
+# An edit that has no line here, or one with another digest than the sources now give, is due.
+"""
+
+
+@dataclass(frozen=True)
+class Edit:
+    """An edit of a crate's code, which the prover must refuse."""
+
+    crate: str
+    path: Path
+
+    @property
+    def name(self) -> str:
+        return f"{self.crate}/{self.path.stem}"
+
+    def fault(self) -> str | None:
+        """Why the edit can't be applied, if it can't: each old text must be in its file just once."""
+        file, count = None, 0
+        for line in self.path.read_text().splitlines():
+            word, _, rest = line.partition(": ")
+            if word == "file":
+                file = TOP / "crates" / self.crate / rest.strip()
+            elif word == "old":
+                count += 1
+                if not file or not file.is_file():
+                    return "it names no file of the crate"
+                if file.read_text().count(rest) != 1:
+                    return f"not just once in {file.name}: {rest.strip()}"
+        return None if count else "it replaces nothing"
+
+
+def edits_of(crate: str) -> list[Edit]:
+    """The further edits of a crate, by name."""
+    return [Edit(crate, path) for path in sorted((EDITS / crate).glob("*.edit"))]
+
+
+def edited_crates() -> list[str]:
+    """The crates that have further edits, by name."""
+    return sorted(folder.name for folder in EDITS.iterdir() if folder.is_dir())
+
+
+def kit_line() -> str:
+    """The line by which the kit names itself, or nothing where there is no kit."""
+    try:
+        return subprocess.run(["rt", "version"], check=True, text=True, stdout=subprocess.PIPE).stdout.strip()
+    except (OSError, subprocess.CalledProcessError):
+        return ""
+
+
+class Digests:
+    """Digests of all that the try of an edit reads: the kit, the edit, its crate and those below it."""
+
+    def __init__(self, top: Path = TOP) -> None:
+        self.top, self.kit = top, kit_line()
+        self.lines: dict[str, tuple[str, list[str]]] = {}
+        for line in (top / "crates.txt").read_text().splitlines():
+            head, colon, below = line.partition("#")[0].partition(":")
+            if colon:
+                self.lines[head.split()[0]] = (" ".join(line.split()), below.split())
+        self.crates: dict[str, str] = {}
+
+    def of_crate(self, crate: str) -> str:
+        """A digest of what a check of the crate reads, with the crates of the repository that it stands on."""
+        if crate not in self.crates:
+            line, below = self.lines[crate]
+            digest = hashlib.sha256(line.encode())
+            folder = self.top / "crates" / crate
+            for file in sorted(file for part in PARTS for file in (folder / part).rglob("*") if file.is_file()):
+                digest.update(f"\n{file.relative_to(folder).as_posix()} ".encode())
+                digest.update(hashlib.sha256(file.read_bytes()).digest())
+            for other in below:
+                if other in self.lines:
+                    digest.update(f"\n{other} {self.of_crate(other)}".encode())
+            self.crates[crate] = digest.hexdigest()
+        return self.crates[crate]
+
+    def of_edit(self, edit: Edit) -> str:
+        handles = (self.top / "HANDLES").read_bytes()
+        whole = (self.kit.encode(), handles, self.of_crate(edit.crate).encode(), edit.path.read_bytes())
+        return hashlib.sha256(b"\0".join(whole)).hexdigest()[:32]
+
+
+class Record:
+    """What is on record: for each edit the digest at its last try, and where it was refused."""
+
+    def __init__(self) -> None:
+        self.tried: dict[str, tuple[str, str]] = {}
+        for line in RECORD.read_text().splitlines() if RECORD.is_file() else ():
+            if line and not line.startswith("#"):
+                name, digest, place = line.split(" ", 2)
+                self.tried[name] = digest, place
+
+    def is_due(self, edit: Edit, digest: str) -> bool:
+        return self.tried.get(edit.name, ("", ""))[0] != digest
+
+    def strangers(self, edits: list[Edit]) -> list[str]:
+        """The names on record that no edit has."""
+        return sorted({*self.tried} - {edit.name for edit in edits})
+
+    def note(self, edit: Edit, digest: str, place: str) -> None:
+        self.tried[edit.name] = digest, place
+
+    def forget(self, name: str) -> None:
+        self.tried.pop(name, None)
+
+    def write(self) -> None:
+        """Writes the record whole, then puts it in the place of the old one."""
+        lines = [f"{name} {digest} {place}\n" for name, (digest, place) in sorted(self.tried.items())]
+        new = RECORD.with_name("TRIED.new")
+        new.write_text(HEAD + "".join(lines))
+        new.replace(RECORD)
