@@ -2,10 +2,9 @@
 
 import re
 import shutil
-import subprocess
 from pathlib import Path
 
-from running import SECONDS, Wrong, expect, expect_end, run_on, text
+from running import Wrong, expect, expect_end, run_on, text
 
 TOP = Path(__file__).resolve().parent.parent
 
@@ -148,8 +147,7 @@ def tells_its_version(words):
         raise Wrong(f"the version is {text(ended.out)}")
     expect_end(ended, ended.out)
     if shutil.which("rt"):
-        kit = subprocess.run(["rt", "version"], stdout=subprocess.PIPE, text=True, timeout=SECONDS, check=True)
-        expect("the kit", found[1], kit.stdout.strip())
+        expect("the kit", found[1], run_on(["rt", "version"]).out.decode().strip())
 
 
 def full_output(words):
