@@ -5,7 +5,7 @@ import subprocess
 import time
 from pathlib import Path
 
-from running import SECONDS, Ended, Wrong, expect, expect_end, read_line, run_on, run_whole, wrong_words
+from running import SECONDS, Ended, Wrong, expect, expect_end, read_line, run_on, run_whole
 
 SCRIPT = Path(__file__).resolve().parent / "scripts" / "a_lock_is_held_and_released"
 
@@ -93,8 +93,5 @@ def network_checks(program):
     yield "a broken handshake", lambda: broken_handshake(program)
     yield "a port that is taken", lambda: port_is_taken(program)
     yield "a port that nobody serves", lambda: nobody_serves(program, free_port())
+    yield "the smallest port", lambda: nobody_serves(program, 1)
     yield "the largest port", lambda: nobody_serves(program, 65535)
-    for words in (["--port", "0"], ["--port", "65536"], []):
-        yield f"client with the words {words}", lambda w=words: wrong_words([program, "client", *w])
-    for words in ([], ["--clients", "0"], ["--clients", "10001"]):
-        yield f"a server with the words {words}", lambda w=words: wrong_words([program, "serve", "--port", "8080", *w])

@@ -138,11 +138,3 @@ def read_line(source, until):
             break
         line += byte
     return line
-
-
-def wrong_words(words):
-    ended = run_on(words)
-    expect("standard output", ended.out, b"")
-    expect("the status", ended.status, 2)
-    if not ended.err:
-        raise Wrong("standard error is empty")

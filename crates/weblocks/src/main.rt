@@ -95,7 +95,7 @@ fn end<R: Eprint, W: Write + Drop>(
     }
 }
 
-/// Help goes to standard output; a mistake in the words to standard error.
+/// Help and the version go to standard output; a mistake in the words to standard error.
 fn answer_usage<R: Print + Eprint>(rt: &R, error: &clap::Error) -> ExitCode {
     match error.print(rt) {
         Ok(()) => {}

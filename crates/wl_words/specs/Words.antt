@@ -19,10 +19,11 @@ run_app = new_app (codes "run")
 abbrev pub audit_app : App
 audit_app = new_app (codes "audit")
 
--- a required option with a number from 1
+-- a required option with a number from 1, for which help has a name
 abbrev pub number_rule : Text → ℕ → Rule
 number_rule name most = record (new_rule name) {
   long = Some name;
+  value_names = 1;
   required = true;
   action = Some Set;
   parser = Some (values.Signed (pos 1) (pos most));
@@ -36,9 +37,9 @@ serve_app = with_rule (with_rule (new_app (codes "serve")) (number_rule (codes "
 abbrev pub client_app : App
 client_app = with_rule (new_app (codes "client")) (number_rule (codes "port") 65535)
 
--- the program, with a subcommand always, and the jobs that do scripts
+-- the program, with a version, a subcommand always, and the jobs that do scripts
 abbrev pub scripts_app : App
-scripts_app = with_subcommand (with_subcommand (on_top (λ s. record s { subcommand_required = true }) (new_app (codes "weblocks"))) run_app.top) audit_app.top
+scripts_app = with_subcommand (with_subcommand (on_top (λ s. record s { has_version = true; subcommand_required = true }) (new_app (codes "weblocks"))) run_app.top) audit_app.top
 
 abbrev pub weblocks_app : App
 weblocks_app = with_subcommand (with_subcommand scripts_app serve_app.top) client_app.top

@@ -1,46 +1,13 @@
-//! The words of the command line.
+//! The job that the words of the command line ask for.
 
-ghost use Rattle.std.specs.Prelude.{◌≡◌, [], map, pos, IfOk, IfErr, IfSome, IsSome, OnOk, Some, codes, false};
-ghost use Rattle.clap.specs.Words.{app_of, fault_of, found_of, rows_of, rule_of, subcommand_name_of, subcommand_of, subcommand_rows_of};
-ghost use Rattle.clap.specs.declared.builder.command.Command.TheViews.{out-Command as fields_of};
-ghost use Rattle.clap.specs.declared.builder.value_parser.ValueParser.TheVariants as values;
-ghost use Rattle.wl_words.specs.Words.{weblocks_app, audit_app, client_app, run_app, scripts_app, serve_app, number_rule, HasNumber, IsJob, IsUsageFault};
+ghost use Rattle.std.specs.Prelude.{◌≡◌, [], map, IfOk, IfErr, IfSome, IsSome, OnOk, Some, codes};
+ghost use Rattle.clap.specs.Words.{fault_of, found_of, rows_of, subcommand_name_of, subcommand_of, subcommand_rows_of};
+ghost use Rattle.wl_words.specs.Words.{weblocks_app, HasNumber, IsJob, IsUsageFault};
 
-use clap::builder::ValueParser;
+use crate::command::weblocks_command;
 use clap::error::ErrorKind;
-use clap::{Arg, ArgAction, ArgMatches, Command, Error};
-use std::alloc::{AllocError, Global};
-
-const ABOUT: &str = "A lock service with the behaviour of the Web Locks API";
-
-const RUN_ABOUT: &str = "Answer each line of standard input by one line on standard output";
-
-const AUDIT_ABOUT: &str =
-    "Do each line of standard input, and say for each origin whether its journal is legal";
-
-const EXAMPLE: &str = "Example:
-  weblocks run < script.jsonl
-
-  A line of a script, and its reply:
-  {\"agent\":\"a\",\"id\":1,\"op\":\"open\",\"url\":\"https://a.test/\"}
-  {\"id\":1,\"notices\":[],\"ok\":{\"client\":\"client-1\"}}";
-
-const AUDIT_EXAMPLE: &str = "Example:
-  weblocks audit < script.jsonl
-
-  A line for each origin:
-  {\"entries\":4,\"legal\":true,\"origin\":\"https://a.test\"}";
-
-const SERVE_ABOUT: &str = "Serve locks over WebSocket on 127.0.0.1";
-
-const SERVE_EXAMPLE: &str = "Example:
-  weblocks serve --port 8080 --clients 10000";
-
-const CLIENT_ABOUT: &str =
-    "Send each line of standard input to a server, and print its reply as a line";
-
-const CLIENT_EXAMPLE: &str = "Example:
-  weblocks client --port 8080 < messages.jsonl";
+use clap::{ArgMatches, Error};
+use std::alloc::Global;
 
 /// What the program is asked to do.
 #[derive(Clone, Copy, Debug, PartialEq, Eq, Drop)]
@@ -58,7 +25,7 @@ pub enum Job {
 /// Why the words ask for no job.
 #[derive(Debug, Drop)]
 pub enum UsageFault {
-    /// They ask for help, or they are wrong. The error is to be shown.
+    /// They ask for help or the version, or they are wrong. The error is to be shown.
     Usage(Error),
     /// A growth was refused.
     Memory,
@@ -80,94 +47,6 @@ pub fn job_of<'a>(alloc: Global, words: &'a [&'a str]) -> Result<Job, UsageFault
         Err(error) if error.kind() == ErrorKind::OutOfMemory => Err(UsageFault::Memory),
         Err(error) => Err(UsageFault::Usage(error)),
     }
-}
-
-/// The program's command, with each job as a subcommand.
-fn weblocks_command<'a>(alloc: Global) -> Result<Command<'a>, AllocError>
-    ensures app { IfOk result (λ c. app_of c ≡ weblocks_app) }
-    ensures local { IfOk result (λ c. (fields_of c).has_globals ≡ false) }
-{
-    script_commands(alloc)?
-        .subcommand(serve_command(alloc)?)?
-        .subcommand(client_command(alloc)?)
-}
-
-/// The program's command, with the jobs that do scripts.
-fn script_commands<'a>(alloc: Global) -> Result<Command<'a>, AllocError>
-    ensures app { IfOk result (λ c. app_of c ≡ scripts_app) }
-    ensures local { IfOk result (λ c. (fields_of c).has_globals ≡ false) }
-{
-    Command::new(alloc, "weblocks")
-        .about(ABOUT)
-        .after_help(EXAMPLE)
-        .subcommand_required(true)
-        .subcommand(run_command(alloc))?
-        .subcommand(audit_command(alloc))
-}
-
-fn run_command<'a>(alloc: Global) -> Command<'a>
-    ensures app { app_of result ≡ run_app }
-    ensures local { (fields_of result).has_globals ≡ false }
-{
-    Command::new(alloc, "run")
-        .about(RUN_ABOUT)
-        .after_help(EXAMPLE)
-}
-
-fn audit_command<'a>(alloc: Global) -> Command<'a>
-    ensures app { app_of result ≡ audit_app }
-    ensures local { (fields_of result).has_globals ≡ false }
-{
-    Command::new(alloc, "audit")
-        .about(AUDIT_ABOUT)
-        .after_help(AUDIT_EXAMPLE)
-}
-
-/// A required option that has a number from 1.
-fn number<'a>(alloc: Global, name: &'a str, parser: ValueParser<'a>) -> Arg<'a>
-    ensures rule { (most : _) → parser.entry ≡ values.Signed (pos 1) (pos most) → rule_of result ≡ number_rule name.entry.now most }
-    ensures local { result.global ≡ false }
-{
-    Arg::new(alloc, name)
-        .long(name)
-        .required(true)
-        .action(ArgAction::Set)
-        .value_parser(parser)
-}
-
-fn port_option<'a>(alloc: Global) -> Arg<'a>
-    ensures rule { rule_of result ≡ number_rule (codes "port") 65535 }
-    ensures local { result.global ≡ false }
-{
-    number(alloc, "port", clap::value_parser!(u16).range(1..))
-}
-
-fn clients_option<'a>(alloc: Global) -> Arg<'a>
-    ensures rule { rule_of result ≡ number_rule (codes "clients") 10000 }
-    ensures local { result.global ≡ false }
-{
-    number(alloc, "clients", clap::value_parser!(u32).range(1..10_001))
-}
-
-fn serve_command<'a>(alloc: Global) -> Result<Command<'a>, AllocError>
-    ensures app { IfOk result (λ c. app_of c ≡ serve_app) }
-    ensures local { IfOk result (λ c. (fields_of c).has_globals ≡ false) }
-{
-    Command::new(alloc, "serve")
-        .about(SERVE_ABOUT)
-        .after_help(SERVE_EXAMPLE)
-        .arg(port_option(alloc))?
-        .arg(clients_option(alloc))
-}
-
-fn client_command<'a>(alloc: Global) -> Result<Command<'a>, AllocError>
-    ensures app { IfOk result (λ c. app_of c ≡ client_app) }
-    ensures local { IfOk result (λ c. (fields_of c).has_globals ≡ false) }
-{
-    Command::new(alloc, "client")
-        .about(CLIENT_ABOUT)
-        .after_help(CLIENT_EXAMPLE)
-        .arg(port_option(alloc))
 }
 
 /// The job of the subcommand that the matches have.

@@ -4,6 +4,8 @@
 //! the program does.
 #![tactic(auto)]
 
+mod command;
 mod job;
+mod texts;
 
 pub use job::{Job, UsageFault, job_of};
