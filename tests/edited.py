@@ -31,18 +31,27 @@ class Edit:
         return f"{self.crate}/{self.path.stem}"
 
     def fault(self) -> str | None:
-        """Why the edit can't be applied, if it can't: each old text must be in its file just once."""
-        file, count = None, 0
+        """Why the edit can't be applied, if it can't: each old text must be in its file just once, as the pairs before
+        it left that file."""
+        texts: dict[Path, str] = {}
+        file, old, count = None, "", 0
         for line in self.path.read_text().splitlines():
-            word, _, rest = line.partition(": ")
+            word, _, rest = line.partition(":")
+            rest = rest.removeprefix(" ")
             if word == "file":
                 file = TOP / "crates" / self.crate / rest.strip()
+                if file not in texts and not file.is_file():
+                    return f"there is no file {rest.strip()}"
+                texts.setdefault(file, file.read_text())
             elif word == "old":
-                count += 1
-                if not file or not file.is_file():
-                    return "it names no file of the crate"
-                if file.read_text().count(rest) != 1:
-                    return f"not just once in {file.name}: {rest.strip()}"
+                old = rest
+            elif word == "new":
+                if not file or not old:
+                    return "a new text stands before its file and its old text"
+                if texts[file].count(old) != 1:
+                    return f"not just once in {file.name}: {old.strip()}"
+                texts[file] = texts[file].replace(old, rest)
+                old, count = "", count + 1
         return None if count else "it replaces nothing"
 
 
