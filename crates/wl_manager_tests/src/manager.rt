@@ -11,17 +11,18 @@ use std::sync::{Arc, Wait};
 use std::test::Fail;
 use wl_core::{Command, PlainCore};
 use wl_journal::{Entry, audit};
-use wl_manager::{Agent, Loose, Manager, Visitor};
+use wl_manager::{Agent, Loose, Manager, Ticket, Visitor};
 use wl_samples::opening;
 use wl_types::Kind;
 
 type Plain = Manager<PlainCore, Loose>;
 
+type PlainAgent = Agent<PlainCore, Loose>;
+
+type PlainTicket = Ticket<PlainCore, Loose>;
+
 /// A manager that counts no shares, and its first agent, a window.
-fn one_agent<R: Wait>(
-    rt: &R,
-    alloc: Global,
-) -> Result<(Arc<Plain, Global>, Agent<PlainCore, Loose>), Fail> {
+fn one_agent<R: Wait>(rt: &R, alloc: Global) -> Result<(Arc<Plain, Global>, PlainAgent), Fail> {
     let manager: Arc<Plain, Global> = Manager::new(rt, alloc, (), (), ())?;
     let agent = Manager::open(&manager, rt, Kind::Window)?;
     Ok((manager, agent))

@@ -2,7 +2,7 @@
 
 ghost use Rattle.std.specs.Prelude.{◌≡◌, ◌≤◌, ◌^◌};
 
-use super::{Sum, no_audit, one_agent};
+use super::{PlainAgent, PlainTicket, Sum, no_audit, one_agent};
 use std::alloc::Global;
 use std::marker::Brand;
 use std::process::Abort;
@@ -13,7 +13,7 @@ use std::thread;
 use std::thread::Threads;
 use wl_cell::{Taking, Watch};
 use wl_core::{PlainCore, ReleaseAnswer};
-use wl_manager::{Agent, Count, Leaving, Ledgered, Loose, Manager, TallyFault, Ticket};
+use wl_manager::{Agent, Count, Leaving, Ledgered, Manager, TallyFault};
 use wl_samples::{ask, signalled};
 use wl_types::{AbortAnswer, Ask, Kind, Mode, Phase, Reason};
 
@@ -82,10 +82,6 @@ fn two_agents<L: Ledger + Send + Sync, R: Threads + Wait + Abort + Sync>(
 fn two_agents_take_turns_and_are_counted(rt: HostRuntime) -> Result<(), Fail> {
     two_agents::<Brand, _>(&rt, rt.alloc(), Blank::new(1 << 53))
 }
-
-type PlainAgent = Agent<PlainCore, Loose>;
-
-type PlainTicket = Ticket<PlainCore, Loose>;
 
 /// A take and an abort on two threads. Exactly one of them wins, and a lock that was taken is given up.
 fn race<R: Threads + Wait + Abort + Sync>(
