@@ -92,7 +92,7 @@ class Checkouts:
         self.count += 1
         place = self.room / str(self.count) / name
         place.parent.mkdir()
-        shutil.copytree(self.first, place)
+        subprocess.run(["cp", "-R", "--", self.first, place], check=True)
         return place
 
 
