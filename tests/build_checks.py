@@ -217,8 +217,8 @@ def process_checks(made: Checkouts, kit: Kit) -> Checks:
                 pass
         os.close(ours)
         expect("the status", child.returncode, 0)
-        lines = [line.split("\r\x1b[K")[-1] for line in shown.decode().replace("\r\n", "\n").splitlines()]
-        expect("what is left on the terminal", lines, [FIRST.format(cost()).strip(), END.strip()])
+        lines = [line.split("\r\x1b[K")[-1] for line in shown.decode().split("\r\n")]
+        expect("what is left on the terminal", lines, [FIRST.format(cost()).strip(), END.strip(), ""])
         if "\r\x1b[Kbuild: wl_core proved, 4 of 17 crates, 0 min" not in shown.decode():
             raise Wrong(f"the progress isn't shown in {shown!r}")
 

@@ -82,7 +82,7 @@ class Checkouts:
     """Copies of one checkout in a temporary folder, in which a program is shipped."""
 
     def __init__(self, room: Path, program: Path | None):
-        self.room, self.count = room, 0
+        self.copies, self.count = room / "copies", 0
         self.first = copy_checkout(room / "first")
         shutil.rmtree(self.first / "dist", ignore_errors=True)
         if program:
@@ -90,10 +90,16 @@ class Checkouts:
 
     def fresh(self, name: str = "checkout") -> Path:
         self.count += 1
-        place = self.room / str(self.count) / name
-        place.parent.mkdir()
+        place = self.copies / str(self.count) / name
+        place.parent.mkdir(parents=True)
         subprocess.run(["cp", "-R", "--", self.first, place], check=True)
         return place
+
+    def each_removed(self, checks: Iterator) -> Iterator:
+        """These checks, where the copies that one has made are removed behind it, before they reach the disk."""
+        for it in checks:
+            yield it
+            shutil.rmtree(self.copies, ignore_errors=True)
 
 
 def commands_without_kit(folder: Path) -> Path:
