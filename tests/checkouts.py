@@ -78,15 +78,23 @@ def ship(top: Path, program: Path, kit: str = KIT) -> None:
     write_built(top, digest(program.read_bytes()), digest_of_sources(top), kit)
 
 
-class Checkouts:
-    """Copies of one checkout in a temporary folder, in which a program is shipped."""
+def keep_few(top: Path) -> None:
+    """Leaves two crates of the program and one of the tests, without their edits."""
+    (top / "crates.txt").write_text("wl_types:\nwl_samples: wl_types\nweblocks: wl_types clap\n")
+    gone = [it for it in (top / "crates").iterdir() if it.name not in ("wl_types", "wl_samples", "weblocks")]
+    for it in (*gone, *top.glob("crates/*/must-fail"), top / "tests/edits", top / "tests/scripts", top / "bench"):
+        shutil.rmtree(it)
 
-    def __init__(self, room: Path, program: Path | None):
+
+class Checkouts:
+    """Copies of one checkout in a temporary folder, in which a program is shipped; or of one that has a few crates alone."""
+
+    def __init__(self, room: Path, program: Path, is_small: bool = False):
         self.copies, self.count = room / "copies", 0
         self.first = copy_checkout(room / "first")
-        shutil.rmtree(self.first / "dist", ignore_errors=True)
-        if program:
-            ship(self.first, program)
+        if is_small:
+            keep_few(self.first)
+        ship(self.first, program)
 
     def fresh(self, name: str = "checkout") -> Path:
         self.count += 1

@@ -100,7 +100,7 @@ def refusal_checks(made: Checkouts, kit: Kit) -> Checks:
         refuses(top, f"tools/ship: {name} isn't the program that ./test built\n")
 
     yield "no record", no_record
-    for name in ("crates/wl_core/src/lib.rt", "crates/wl_samples/src/lib.rt", "README.md", "tests/running.py"):
+    for name in ("crates/wl_types/src/lib.rt", "crates/wl_samples/src/lib.rt", "README.md", "tests/running.py"):
         yield f"{name} has changed since", lambda it=name: changed(it)
     yield "files were removed and added since", several
     for name in (BUILT, ".build/passed/weblocks"):

@@ -6,19 +6,20 @@ shipped=dist/weblocks-x86_64-linux-gnu
 
 # Sets crates to the program's crate and those below it, as crates.txt has them: a line is NAME OPTION ..: DEP ..
 find_crates() {
-    local line name at
-    local -A below=()
+    local line name at IFS=$' \t,'
+    local -A below=() found=()
     while read -r line || [[ -n $line ]]; do
         line=${line%%#*}
         if [[ $line == [!:]*:* ]]; then
-            below[${line%%[[:space:]:]*}]=${line#*:}
+            below[${line%%[$IFS:]*}]=${line#*:}
         fi
     done <crates.txt || return 1
     crates=(weblocks)
     for ((at = 0; at < ${#crates[@]}; at++)); do
         for name in ${below[${crates[at]}]-}; do
             # (the others are libraries of the kit)
-            if [[ -n ${below[$name]+found} && " ${crates[*]} " != *" $name "* ]]; then
+            if [[ -n ${below[$name]+is} && -z ${found[$name]-} ]]; then
+                found[$name]=1
                 crates+=("$name")
             fi
         done
