@@ -24,13 +24,16 @@ build: wl_machine proved, 3 of 17 crates, 0 min
 """
 CORE = "build: wl_core proved, 4 of 17 crates, 0 min\n"
 END = "build: the program is built, in 0 min\n"
-NOT_BUILT = "build: the program is not built: rt ci ended with {}, and its words are in {}/.build/log, of which the last are\n"
-CHANGED = "weblocks: the sources aren't those that the shipped program was built from: ./build builds it anew\n"
+NOT_BUILT = "build: the program is not built: rt ci ended with {}. Its words are in {}/.build/log, the last of them:\n"
+CHANGED = (
+    "weblocks: the sources aren't those that the shipped program was built from: ./build builds it anew\n"
+)
 
 
 def cost() -> str:
     """The time that docs/GATE.md says it takes, on four cores and on two."""
-    found = re.search(r"(?m)^`\./build` takes (about \S+ minutes on four cores, \S+ on two)\.", (TOP / "docs/GATE.md").read_text())
+    sentence = r"(?m)^`\./build` takes (about \S+ minutes on four cores, \S+ on two)\."
+    found = re.search(sentence, (TOP / "docs/GATE.md").read_text())
     if not found:
         raise Wrong("docs/GATE.md doesn't say how long ./build takes")
     return found[1]
@@ -48,8 +51,9 @@ class Kit:
 
     def around(self, **more: str) -> dict[str, str]:
         """The environment in which it does that."""
-        own = {"RT_NOTES": self.notes, "RT_PROGRAM": self.program, "TMPDIR": self.temporary, "PATH": ":".join(map(str, self.path))}
-        return {**os.environ, **{name: str(it) for name, it in own.items()}, **more}
+        places = {"RT_NOTES": self.notes, "RT_PROGRAM": self.program, "TMPDIR": self.temporary}
+        own = {name: str(it) for name, it in places.items()}
+        return {**os.environ, **own, "PATH": ":".join(map(str, self.path)), **more}
 
     def run(self, top: Path, *words: str, **more: str) -> Ended:
         """Runs the command, which leaves no temporary files."""
@@ -78,10 +82,13 @@ def result_checks(made: Checkouts, kit: Kit) -> Checks:
         kit.run(top, "./build")
         crates = program_crates(top)
         given = (kit.notes / "files").read_text().split()
-        wanted = {f"./{it.relative_to(top)}" for crate in crates for it in (top / "crates" / crate).rglob("*") if it.is_file()}
-        wanted = {it for it in wanted if "/must-fail/" not in it} | {"./HANDLES", "./crates.txt"}
+        wanted = {"./HANDLES", "./crates.txt"}
+        for crate in crates:
+            files = [it for it in (top / "crates" / crate).rglob("*") if it.is_file()]
+            wanted |= {f"./{it.relative_to(top)}" for it in files if it.parent.name != "must-fail"}
         expect("the files that were given", sorted(given), sorted(wanted))
-        lines = [it for it in (top / "crates.txt").read_text().splitlines() if re.split("[ :]", it)[0] in crates]
+        lines = (top / "crates.txt").read_text().splitlines()
+        lines = [it for it in lines if re.split("[ :]", it)[0] in crates]
         expect("crates.txt", (kit.notes / "crates.txt").read_text().splitlines(), lines)
 
     def is_preferred() -> None:
@@ -130,7 +137,8 @@ def fault_checks(made: Checkouts, kit: Kit) -> Checks:
 
     def not_proved() -> None:
         top = made.fresh()
-        told = FIRST.format(cost()) + PROGRESS + "build: wl_core NOT PROVED, 4 of 17 crates, 0 min\n" + NOT_BUILT.format(1, top)
+        told = FIRST.format(cost()) + PROGRESS + "build: wl_core NOT PROVED, 4 of 17 crates, 0 min\n"
+        told += NOT_BUILT.format(1, top)
         told += """\
     ./proofs/one/Answers.antt:8:13: error: `returns`: expected another type
     fn wl_core::one: not proved
@@ -143,7 +151,8 @@ def fault_checks(made: Checkouts, kit: Kit) -> Checks:
 
     def not_begun() -> None:
         top = made.fresh()
-        told = FIRST.format(cost()) + NOT_BUILT.format(2, top) + "    rt: no check reads odd.rt\n    0 passed, 1 failed\n"
+        told = FIRST.format(cost()) + NOT_BUILT.format(2, top)
+        told += "    rt: no check reads odd.rt\n    0 passed, 1 failed\n"
         expect_end(kit.run(top, "./build", RT_DOES="stop"), b"", 1, told.encode())
 
     def not_run() -> None:
@@ -206,7 +215,8 @@ def process_checks(made: Checkouts, kit: Kit) -> Checks:
         """The progress is one line, that is written over."""
         top = made.fresh()
         ours, its = pty.openpty()
-        with subprocess.Popen(["./build"], cwd=top, env=kit.around(), stdin=subprocess.DEVNULL, stderr=its) as child:
+        how = {"stdin": subprocess.DEVNULL, "stderr": its}
+        with subprocess.Popen(["./build"], cwd=top, env=kit.around(), **how) as child:
             os.close(its)
             shown = b""
             # (at its end a terminal gives an error)

@@ -1,4 +1,4 @@
-"""Fresh copies of the checkout, with a program shipped in them, and folders of commands to have as the PATH."""
+"""Fresh copies of the checkout, with a program shipped in them, and a PATH without the kit."""
 
 import hashlib
 import os
@@ -54,7 +54,8 @@ def program_crates(top: Path) -> list[str]:
 
 def sources(top: Path) -> list[str]:
     """The files that the program is built from, in the order of their names' bytes."""
-    places = [top / "crates" / crate / part for crate in program_crates(top) for part in ("src", "specs", "proofs")]
+    folders = [top / "crates" / crate for crate in program_crates(top)]
+    places = [folder / part for folder in folders for part in ("src", "specs", "proofs")]
     found = [str(file.relative_to(top)) for place in places for file in place.rglob("*") if file.is_file()]
     return sorted([*found, "HANDLES", "crates.txt"], key=os.fsencode)
 
@@ -82,12 +83,13 @@ def keep_few(top: Path) -> None:
     """Leaves two crates of the program and one of the tests, without their edits."""
     (top / "crates.txt").write_text("wl_types:\nwl_samples: wl_types\nweblocks: wl_types clap\n")
     gone = [it for it in (top / "crates").iterdir() if it.name not in ("wl_types", "wl_samples", "weblocks")]
-    for it in (*gone, top / "crates/wl_types/must-fail", top / "tests/edits", top / "tests/scripts", top / "bench"):
+    gone += [top / it for it in ("crates/wl_types/must-fail", "tests/edits", "tests/scripts", "bench")]
+    for it in gone:
         shutil.rmtree(it)
 
 
 class Checkouts:
-    """Copies of one checkout in a temporary folder, in which a program is shipped; or of one that has a few crates alone."""
+    """Copies of the checkout, whole or with a few crates alone, in which a program is shipped."""
 
     def __init__(self, room: Path, program: Path, is_small: bool = False):
         self.copies, self.count = room / "copies", 0
@@ -104,7 +106,7 @@ class Checkouts:
         return place
 
     def each_removed(self, checks: Iterator) -> Iterator:
-        """These checks, where the copies that one has made are removed behind it, before they reach the disk."""
+        """These checks, where the copies that each made are removed behind it, before they reach the disk."""
         for it in checks:
             yield it
             shutil.rmtree(self.copies, ignore_errors=True)

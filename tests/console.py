@@ -64,7 +64,7 @@ def blocks_of(document: str) -> Iterator[Block]:
 
 
 def commands_of(block: Block) -> Iterator[Command]:
-    """The commands of a console block. A heredoc's lines follow its command, and so do those behind a \\ at a line's end."""
+    """The commands of a console block. A heredoc's lines belong to its command, and those behind a \\ too."""
     command, end, goes_on = None, "", False
     for number, line in enumerate(block.lines, block.line + 1):
         if command and (end or goes_on):
@@ -91,8 +91,8 @@ def commands_of(block: Block) -> Iterator[Command]:
 def refuse_gate(command: Command) -> None:
     found = GATE.search(command.words)
     if found:
-        raise Wrong(f"line {command.line}: {found[1]} can't be run here, which would run within itself or prove for minutes:"
-                    " show it within a sentence")
+        why = "which would run within itself or prove for minutes: show it within a sentence"
+        raise Wrong(f"line {command.line}: {found[1]} can't be run here, {why}")
 
 
 # It takes the names of files with commands, runs each in turn, and tells the status of each.

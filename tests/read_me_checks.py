@@ -52,17 +52,25 @@ def read_me_checks(made: Checkouts, kit: Kit) -> Checks:
             if it not in ended.out.decode():
                 raise Wrong(f"it doesn't say '{it}' but\n{ended.out.decode()}")
 
-    refused = " can't be run here, which would run within itself or prove for minutes: show it within a sentence"
-    yield "a document that tells the truth", lambda: tells(GOOD, 0, "not run: line 13, python\n", "\n14 passed, 0 failed\n")
+    def refuses(document: str, why: str) -> None:
+        tells(document, 1, why, runs=False)
+
+    yield "the truth", lambda: tells(GOOD, 0, "not run: line 13, python\n", "\n14 passed, 0 failed\n")
     yield "its form alone", lambda: tells(GOOD, 0, "\n2 passed, 0 failed\n", runs=False)
-    yield "another output", lambda: tells(block("$ echo one", "two"), 1, "line 2, without the kit: echo one: it prints\none\nand not\ntwo\n")
-    yield "an output that isn't shown", lambda: tells(block("$ echo one"), 1, "line 2, with the kit: echo one: it prints\none\n")
-    yield "a command that fails", lambda: tells(block("$ false"), 1, "line 2, without the kit: false: it ends with status 1")
-    yield "a command that ends bash", lambda: tells(block("$ exit 3"), 1, "line 2, without the kit: exit 3: bash ended with it")
-    for words in ("./test", "./build", "cd .. && ./test", "rt ci"):
-        gate = words.removeprefix("cd .. && ")
-        yield f"the command {words}", lambda it=words, gate=gate: tells(block(f"$ {it}"), 1, f"line 2: {gate}{refused}", runs=False)
-    yield "no block to run", lambda: tells("```js\n1\n```\n", 1, "document.md has no block ```console", runs=False)
-    yield "a block without an end", lambda: tells("```console\n$ true\n", 1, "line 1, console: the block doesn't end", runs=False)
-    yield "a block without a command", lambda: tells(block("one"), 1, "line 2: the block doesn't begin with a command", runs=False)
-    yield "an input without an end", lambda: tells(block("$ cat <<END"), 1, "line 2: the lines of its input don't end with END", runs=False)
+    for shown, words, why in (
+        ("another output", ["$ echo one", "two"], "without the kit: echo one: it prints\none\nand not\ntwo\n"),
+        ("an output that isn't shown", ["$ echo one"], "with the kit: echo one: it prints\none\n"),
+        ("a command that fails", ["$ false"], "without the kit: false: it ends with status 1"),
+        ("a command that ends bash", ["$ exit 3"], "without the kit: exit 3: bash ended with it"),
+    ):
+        yield shown, lambda it=words, why=why: tells(block(*it), 1, f"FAILED line 2, {why}")
+    for before, gate in (("", "./test"), ("", "./build"), ("cd .. && ", "./test"), ("", "rt ci")):
+        why = f"line 2: {gate} can't be run here, which would run within itself or prove for minutes"
+        yield f"the command {before}{gate}", lambda it=f"$ {before}{gate}", why=why: refuses(block(it), why)
+    for fault, document, why in (
+        ("no block to run", "```js\n1\n```\n", "document.md has no block ```console"),
+        ("a block without an end", "```console\n$ true\n", "line 1, console: the block doesn't end"),
+        ("a block without a command", block("one"), "line 2: the block doesn't begin with a command"),
+        ("an input without an end", block("$ cat <<END"), "line 2: the lines of its input don't end with END"),
+    ):
+        yield fault, lambda it=document, why=why: refuses(it, why)

@@ -1,4 +1,4 @@
-"""tools/ship, the last step of ./test, and the steps before it, by commands that stand for rt and for the tests."""
+"""tools/ship, the last step of ./test, and ./test itself, by commands that stand for rt and for tests."""
 
 import os
 import shutil
@@ -20,13 +20,19 @@ NO_RECORD = "tools/ship: ./test has left no record that its steps passed: run ./
 CHANGED = "tools/ship: these files have changed since ./test passed on them: {}\n"
 
 
+def record(top: Path) -> None:
+    """Leaves a program there, and what ./test records of it."""
+    stand_in(top / BUILT)
+    sourced = "source tools/sources.bash; source tools/passed.bash"
+    words = f'{sourced}; record_passed {BUILT} "$(sum_checkout)" "{KIT}"'
+    subprocess.run(["bash", "-c", words], cwd=top, check=True)
+
+
 def recorded(made: Checkouts) -> Path:
-    """A copy in which ./test has left its program and the record of it, and nothing is shipped."""
+    """A copy in which ./test has passed, and nothing is shipped."""
     top = made.fresh()
     shutil.rmtree(top / "dist")
-    stand_in(top / BUILT)
-    record = f'source tools/sources.bash; source tools/passed.bash; record_passed {BUILT} "$(sum_checkout)" "{KIT}"'
-    subprocess.run(["bash", "-c", record], cwd=top, check=True)
+    record(top)
     return top
 
 
@@ -37,9 +43,10 @@ def shipping_checks(made: Checkouts, kit: Kit) -> Checks:
         program = (top / BUILT).read_bytes()
         expect("the shipped program", (top / SHIPPED).read_bytes(), program)
         expect("its mode", stat.S_IMODE((top / SHIPPED).stat().st_mode), 0o755)
-        lines = [f"program SHA256 {digest(program)}", f"sources SHA256 {digest_of_sources(top)}", f"kit {KIT}"]
-        expect("dist/BUILT", (top / "dist/BUILT").read_text().splitlines(), lines)
-        expect("what is in dist/", sorted(it.name for it in (top / "dist").iterdir()), ["BUILT", Path(SHIPPED).name])
+        digests = f"program SHA256 {digest(program)}\nsources SHA256 {digest_of_sources(top)}\n"
+        expect("dist/BUILT", (top / "dist/BUILT").read_text(), f"{digests}kit {KIT}\n")
+        names = sorted(it.name for it in (top / "dist").iterdir())
+        expect("what is in dist/", names, ["BUILT", Path(SHIPPED).name])
 
     def replaces() -> None:
         top = recorded(made)
@@ -58,10 +65,8 @@ def shipping_checks(made: Checkouts, kit: Kit) -> Checks:
         top = made.fresh()
         for words in (["init", "-q"], ["add", "-A"]):
             subprocess.run(["git", *words], cwd=top, check=True)
-        stand_in(top / BUILT)
         (top / "notes.log").write_text("which git ignores\n")
-        record = f'source tools/sources.bash; source tools/passed.bash; record_passed {BUILT} "$(sum_checkout)" "{KIT}"'
-        subprocess.run(["bash", "-c", record], cwd=top, check=True)
+        record(top)
         (top / "notes.log").unlink()
         expect_end(kit.run(top, "tools/ship"), SHIPS.encode())
         (top / "added").touch()
@@ -100,7 +105,8 @@ def refusal_checks(made: Checkouts, kit: Kit) -> Checks:
         refuses(top, f"tools/ship: {name} isn't the program that ./test built\n")
 
     yield "no record", no_record
-    for name in ("crates/wl_types/src/lib.rt", "crates/wl_samples/src/lib.rt", "README.md", "tests/running.py"):
+    sources = ("crates/wl_types/src/lib.rt", "crates/wl_samples/src/lib.rt")
+    for name in (*sources, "README.md", "tests/running.py"):
         yield f"{name} has changed since", lambda it=name: changed(it)
     yield "files were removed and added since", several
     for name in (BUILT, ".build/passed/weblocks"):
@@ -134,7 +140,8 @@ def comparison_checks(made: Checkouts, kit: Kit) -> Checks:
     def other_bytes() -> None:
         top = made.fresh()
         other = put(top / ".build/other", (top / SHIPPED).read_text() + "\n")
-        fails(top, other, "FAILED the shipped program is the one that was built: " + f"{SHIPPED} isn't the program that was built")
+        why = f"{SHIPPED} isn't the program that was built"
+        fails(top, other, f"FAILED the shipped program is the one that was built: {why}")
 
     def other_sources() -> None:
         top = made.fresh()
@@ -145,7 +152,7 @@ def comparison_checks(made: Checkouts, kit: Kit) -> Checks:
         top = made.fresh()
         other = put(top / ".build/other", (top / SHIPPED).read_text() + "\n")
         write_built(top, digest((top / SHIPPED).read_bytes()), digest_of_sources(top), "another kit")
-        said = f"the kit is '{KIT}', and dist/BUILT names 'another kit': the bytes of the program aren't compared\n"
+        said = f"the kit is '{KIT}', and dist/BUILT names 'another kit': no bytes are compared\n"
         if said not in passes(top, other):
             raise Wrong("it doesn't say that the kit is another")
 
@@ -185,7 +192,8 @@ def gate_checks(made: Checkouts, kit: Kit) -> Checks:
     def test(top: Path, **more: str) -> Ended:
         """./test, where what rt builds answers as it must, and nothing but rt stands before the PATH."""
         program = stand_in(kit.notes / "program")
-        return run_in(top, ["./test"], env=kit.around(RT_PROGRAM=str(program), PATH=f"{kit.path[0]}:{os.environ['PATH']}", **more))
+        path = f"{kit.path[0]}:{os.environ['PATH']}"
+        return run_in(top, ["./test"], env=kit.around(RT_PROGRAM=str(program), PATH=path, **more))
 
     def passes_once_shipped() -> None:
         top = stubbed()
@@ -201,7 +209,8 @@ def gate_checks(made: Checkouts, kit: Kit) -> Checks:
         test(top)
         put(top / "tests" / step.partition(" ")[0], f"#!/bin/sh\nexit {status}\n")
         ended = test(top)
-        expect("standard error", ended.err, f"test: stopped at 'tests/{step}', which ended with status {status}\n".encode())
+        told = f"test: stopped at 'tests/{step}', which ended with status {status}\n"
+        expect("standard error", ended.err, told.encode())
         expect("the status", ended.status, status)
         expect_end(kit.run(top, "tools/ship"), b"", 1, NO_RECORD.encode())
 

@@ -1,4 +1,4 @@
-"""What stands for the kit and for the program where nothing is to be proved: a command rt, and a program, in bash."""
+"""What stands for the kit and for the program where nothing is to be proved: a command rt, and a program."""
 
 from pathlib import Path
 

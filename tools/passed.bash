@@ -14,7 +14,8 @@ sum_checkout() (
 
 # Prints the names of the files of which two such sums differ.
 name_changed() {
-    LC_ALL=C comm -3 <(LC_ALL=C sort <<<"$1") <(LC_ALL=C sort <<<"$2") | sed -E 's/^\t?[0-9a-f]{64}  //' | LC_ALL=C sort -u
+    LC_ALL=C comm -3 <(LC_ALL=C sort <<<"$1") <(LC_ALL=C sort <<<"$2") |
+        sed -E 's/^\t?[0-9a-f]{64}  //' | LC_ALL=C sort -u
 }
 
 # Records that this program was built of the checkout's files, whose sums are given, and that the tests passed on them.
@@ -26,6 +27,10 @@ record_passed() {
     room=$(mktemp -d .build/passed.XXXXXX)
     cp -- "$program" "$room/weblocks"
     printf '%s\n' "$files" >"$room/files"
-    printf '%s\n' "program SHA256 $(digest_file "$program")" "sources SHA256 $(digest_sources)" "kit $kit" >"$room/BUILT"
+    {
+        echo "program SHA256 $(digest_file "$program")"
+        echo "sources SHA256 $(digest_sources)"
+        echo "kit $kit"
+    } >"$room/BUILT"
     mv -- "$room" "$passed"
 }

@@ -1,7 +1,6 @@
 # What the program is built from, and what is shipped of it. Sourced by weblocks, build, test and tools/ship, whose
 # current folder is the top of a checkout when they call these functions.
 
-# shellcheck disable=SC2034
 shipped=dist/weblocks-x86_64-linux-gnu
 
 # Sets crates to the program's crate and those below it, as crates.txt has them: a line is NAME OPTION ..: DEP ..
@@ -68,7 +67,7 @@ read_built() {
 # but what is made here.
 list_checkout() (
     set -o pipefail
-    if [[ -e .git ]]; then
+    if [[ -e .git ]] && git rev-parse --git-dir >/dev/null 2>&1; then
         git ls-files -z --cached --others --exclude-standard
     else
         find . \( -name .git -o -name .build -o -path './crates/*/out' \) -prune -o -type f -printf '%P\0'
