@@ -138,3 +138,18 @@ def read_line(source, until):
             break
         line += byte
     return line
+
+
+def run_checks(*groups):
+    """Runs the checks, each by its name, and answers the status to end with. The last line is 'N passed, M failed'."""
+    passed = failed = 0
+    for checks in groups:
+        for name, check in checks:
+            try:
+                check()
+                passed += 1
+            except (Wrong, OSError) as why:
+                failed += 1
+                print(f"FAILED {name}: {why}\n", flush=True)
+    print(f"{passed} passed, {failed} failed")
+    return 1 if failed or not passed else 0

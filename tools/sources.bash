@@ -1,0 +1,80 @@
+# What the program is built from, and what is shipped of it. Sourced by weblocks, build, test and tools/ship, whose
+# current folder is the top of a checkout when they call these functions.
+
+shipped=dist/weblocks-x86_64-linux-gnu
+
+# Sets crates to the program's crate and those below it, as crates.txt has them: a line is NAME OPTION ..: DEP ..
+find_crates() {
+    local line name at IFS=$' \t,'
+    local -A below=() found=()
+    while read -r line || [[ -n $line ]]; do
+        line=${line%%#*}
+        if [[ $line == [!:]*:* ]]; then
+            below[${line%%[$IFS:]*}]=${line#*:}
+        fi
+    done <crates.txt || return 1
+    crates=(weblocks)
+    for ((at = 0; at < ${#crates[@]}; at++)); do
+        for name in ${below[${crates[at]}]-}; do
+            # (the others are libraries of the kit)
+            if [[ -n ${below[$name]+is} && -z ${found[$name]-} ]]; then
+                found[$name]=1
+                crates+=("$name")
+            fi
+        done
+    done
+}
+
+# Sets places to the files and folders that the program is built from.
+find_places() {
+    local crate part
+    find_crates || return 1
+    places=(HANDLES crates.txt)
+    for crate in "${crates[@]}"; do
+        for part in src specs proofs; do
+            if [[ -d crates/$crate/$part ]]; then
+                places+=("crates/$crate/$part")
+            fi
+        done
+    done
+}
+
+# Prints the SHA-256 of each file whose name, ended by NUL, it is given, and the names, in the order of their bytes.
+sum_files() {
+    LC_ALL=C sort -z -u | xargs -0 -r sha256sum -z --
+}
+
+# Prints the digest of all that the program is built from: of each file's SHA-256 and name.
+digest_sources() (
+    set -o pipefail
+    find_places && find "${places[@]}" -type f -print0 | sum_files | sha256sum | cut -c 1-64
+)
+
+digest_file() (
+    set -o pipefail
+    sha256sum <"$1" | cut -c 1-64
+)
+
+# Sets program_built, sources_built and kit_built to what dist/BUILT says; fails where that isn't its three lines.
+read_built() {
+    local text digest='([0-9a-f]{64})' end=$'\n'
+    { text=$(<dist/BUILT); } 2>/dev/null || return 1
+    [[ $text =~ ^"program SHA256 "$digest$end"sources SHA256 "$digest$end"kit "([^$end]+)$ ]] || return 1
+    program_built=${BASH_REMATCH[1]} sources_built=${BASH_REMATCH[2]} kit_built=${BASH_REMATCH[3]}
+}
+
+# Prints the names of the checkout's files, each ended by NUL: those that git knows or would add, or without git all
+# but what is made here.
+list_checkout() (
+    set -o pipefail
+    if [[ -e .git ]] && git rev-parse --git-dir >/dev/null 2>&1; then
+        git ls-files -z --cached --others --exclude-standard
+    else
+        find . \( -name .git -o -name .build -o -path './crates/*/out' \) -prune -o -type f -printf '%P\0'
+    fi | while IFS= read -r -d '' name; do
+        # (one that was removed is still known to git)
+        if [[ -f $name ]]; then
+            printf '%s\0' "$name"
+        fi
+    done
+)
