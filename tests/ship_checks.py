@@ -176,7 +176,7 @@ def comparison_checks(made: Checkouts, kit: Kit) -> Checks:
 
 
 # The steps of ./test that have a stand-in here, beside rt.
-STEPS = ("try_edits", "read_me", "building", "refuse_growths", "run_scripts", "launching")
+STEPS = ("try_edits", "read_proofs", "read_me", "building", "refuse_growths", "run_scripts", "launching")
 
 
 def gate_checks(made: Checkouts, kit: Kit) -> Checks:
