@@ -7,162 +7,170 @@ use std::alloc::Global;
 use std::test::Fail;
 use wl_core::{Command, LockCore, PlainCore, ReleaseAnswer, Reply, TakeAnswer};
 use wl_journal::{AuditFault, Book, Entry, audit};
-use wl_samples::{done, opening};
-use wl_types::{Kind, Memory, Refusal};
-
-/// A lock is asked for, taken and released. Its agent asks twice what is held.
-const ONE_LOCK: &str = "\
-open window -> Agent(1)
-request 1 db -> Request(1), 1 Granted
-take 1 -> Took(Taken)
-query 1 -> held db/exclusive/1, waiting
-release 1 1 -> Released(Released), 1 Released
-query 1 -> held, waiting
-";
-
-/// A book of the calls of a list.
-fn book_of(alloc: Global, list: &str) -> Result<Book<PlainCore>, Memory> {
-    let mut book = opening(alloc);
-    done(alloc, &mut book, list)?;
-    Ok(book)
-}
+use wl_samples::{done, opening, told};
+use wl_types::{Kind, Memory};
 
 #[test]
 fn a_book_does_the_lists(rt: HostRuntime) -> Result<(), Fail> {
     assert_lists::<Book<PlainCore>, _>(&rt, rt.alloc())
 }
 
-fn is_enter(entry: &Entry) -> bool {
-    matches!(entry.command, Command::Enter(Kind::Window)) && matches!(entry.reply, Reply::Agent(1))
+/// A word for each entry, and then how many there are.
+fn shown(alloc: Global, entries: &[Entry]) -> Result<String, Memory> {
+    let mut text = String::new(alloc);
+    for entry in entries {
+        write!(text, "{} ", word(entry))?;
+    }
+    write!(text, "{}", entries.len())?;
+    Ok(text)
 }
 
-fn is_request(entry: &Entry) -> bool {
-    matches!(entry.command, Command::Request(1, _)) && matches!(entry.reply, Reply::Request(1))
+/// The word of an entry of the first agent, which is a window, and of its request.
+fn word(entry: &Entry) -> &'static str {
+    match (&entry.command, &entry.reply) {
+        (Command::Enter(Kind::Window), Reply::Agent(1)) => "open",
+        (Command::Request(1, _), Reply::Request(1)) => "request",
+        (Command::Take(1), Reply::Took(TakeAnswer::Taken)) => "take",
+        (Command::Release(1, 1), Reply::Released(ReleaseAnswer::Released)) => "release",
+        _ => "another",
+    }
 }
 
-fn is_take(entry: &Entry) -> bool {
-    matches!(entry.command, Command::Take(1))
-        && matches!(entry.reply, Reply::Took(TakeAnswer::Taken))
+/// Does the calls of a list on a new book, and gives the list as it came out. Beside those of every core (`done`) there
+/// are `count` (how many entries it has, and how many it has had), `entries`, `cut` (the entries that it hands out),
+/// `audit` (of the entries, from the base), `base` (whether that is the state) and `sight` (of the first agent).
+fn done_by_book(alloc: Global, list: &str) -> Result<String, Memory> {
+    let mut book: Book<PlainCore> = opening(alloc);
+    let mut came = String::new(alloc);
+    for line in list.lines() {
+        let (call, _) = line.split_once(" -> ").unwrap_or((line, ""));
+        add_call(alloc, &mut book, &mut came, call)?;
+    }
+    Ok(came)
 }
 
-fn is_release(entry: &Entry) -> bool {
-    matches!(entry.command, Command::Release(1, 1))
-        && matches!(entry.reply, Reply::Released(ReleaseAnswer::Released))
-}
-
-fn are_of_one_lock(entries: &[Entry]) -> bool {
-    let [enter, request, take, release] = entries else {
-        return false;
-    };
-    is_enter(enter) && is_request(request) && is_take(take) && is_release(release)
-}
-
-fn is_legal(book: &Book<PlainCore>) -> bool {
-    audit(book.base(), book.entries()) == Ok(())
-}
-
-/// How many entries it has, and how many it has had.
-fn counts(book: &Book<PlainCore>) -> (usize, u64) {
-    (book.len(), book.total())
-}
-
-#[test]
-fn a_book_records_what_was_accepted(rt: HostRuntime) -> Result<(), Fail> {
-    let book = book_of(rt.alloc(), ONE_LOCK)?;
-    assert_eq!(rt; counts(&book), (4, 4));
-    assert!(rt; are_of_one_lock(book.entries()));
-    assert!(rt; is_legal(&book));
+fn add_call(
+    alloc: Global,
+    book: &mut Book<PlainCore>,
+    came: &mut String,
+    call: &str,
+) -> Result<(), Memory> {
+    match call {
+        "count" => write!(came, "count -> {} of {}\n", book.len(), book.total())?,
+        "audit" => write!(came, "audit -> {:?}\n", audit(book.base(), book.entries()))?,
+        "entries" => write!(came, "entries -> {}\n", shown(alloc, book.entries())?)?,
+        "cut" => write!(came, "cut -> {}\n", shown(alloc, &book.cut()?)?)?,
+        "base" => write!(came, "base -> {}\n", book.copy_plain()? == *book.base())?,
+        "sight" => write!(came, "sight -> {}\n", sight(alloc, book)?)?,
+        _ => came.push_str(done(alloc, book, call)?.as_str())?,
+    }
     Ok(())
 }
 
-/// The entries that a cut hands out.
-fn cut(book: &mut Book<PlainCore>) -> Result<Vec<Entry>, Memory> {
-    book.cut()
+fn sight(alloc: Global, book: &Book<PlainCore>) -> Result<String, Memory> {
+    match book.sight(1) {
+        Ok(sight) => {
+            let seen = told(alloc, &Reply::Seen(sight.snapshot))?;
+            Ok(format!(in alloc; "{} entries, {seen}", sight.seen)?)
+        }
+        Err(refusal) => told(alloc, &Reply::Refused(refusal)),
+    }
 }
 
-#[test]
-fn a_cut_hands_out_the_entries(rt: HostRuntime) -> Result<(), Fail> {
-    let mut book = book_of(rt.alloc(), ONE_LOCK)?;
-    assert!(rt; are_of_one_lock(&cut(&mut book)?));
-    assert!(rt; book.is_empty());
-    assert_eq!(rt; counts(&book), (0, 4));
-    assert!(rt; is_legal(&book));
-    assert!(rt; book.copy_plain()? == *book.base());
-    Ok(())
-}
+/// A lock is asked for, taken and released. Its agent asks twice what is held.
+const ONE_LOCK: &str = "\
+open window -> Agent(1)
+sight -> 1 entries, held, waiting
+request 1 db -> Request(1), 1 Granted
+take 1 -> Took(Taken)
+query 1 -> held db/exclusive/1, waiting
+release 1 1 -> Released(Released), 1 Released
+query 1 -> held, waiting
+count -> 4 of 4
+entries -> open request take release 4
+audit -> Ok(())
+base -> false
+cut -> open request take release 4
+count -> 0 of 4
+entries -> 0
+audit -> Ok(())
+base -> true
+";
 
-#[test]
-fn a_wrong_reply_is_found_in_its_place(rt: HostRuntime) -> Result<(), Fail> {
-    let base: PlainCore = opening(rt.alloc());
-    let mut entries = cut(&mut book_of(rt.alloc(), ONE_LOCK)?)?;
-    assert_eq!(rt; entries.len(), 4);
-    entries[3].reply = Reply::Released(ReleaseAnswer::NotHeld);
-    assert_eq!(rt; audit(&base, &entries), Err(AuditFault::Illegal(3)));
-    entries[0].reply = Reply::Agent(2);
-    assert_eq!(rt; audit(&base, &entries), Err(AuditFault::Illegal(0)));
-    Ok(())
-}
-
-const ONE_ABORT: &str = "\
+/// A call that changes nothing isn't recorded, but a window that is made what it was is.
+const NOTHING_HAPPENS: &str = "\
 open window -> Agent(1)
 signal 1 -> Signal(1)
 abort 1 1 AbortError -> Aborted(Done)
-";
-
-const NOTHING_HAPPENS: &str = "\
+count -> 3 of 3
 abort 1 1 AbortError -> Aborted(AlreadyAborted)
 abort 1 2 AbortError -> NoSuch/signal
 take 9 -> Took(NotGranted)
 release 1 9 -> Released(NotHeld)
 signal 2 -> NoSuch/agent
 set 2 active -> NoSuch/agent
-";
-
-#[test]
-fn what_changes_nothing_is_not_recorded(rt: HostRuntime) -> Result<(), Fail> {
-    let mut book = book_of(rt.alloc(), ONE_ABORT)?;
-    assert_eq!(rt; book.len(), 3);
-    let came = done(rt.alloc(), &mut book, NOTHING_HAPPENS)?;
-    assert_eq!(rt; came.as_str(), NOTHING_HAPPENS);
-    assert_eq!(rt; book.len(), 3);
-    Ok(())
-}
-
-const A_SET_AND_AN_END: &str = "\
-open window -> Agent(1)
+count -> 3 of 3
 set 1 active -> Done
+count -> 4 of 4
 terminate 1 -> Done
+count -> 5 of 5
 ";
 
 #[test]
-fn a_set_that_changes_nothing_is_recorded(rt: HostRuntime) -> Result<(), Fail> {
-    let book = book_of(rt.alloc(), A_SET_AND_AN_END)?;
-    assert_eq!(rt; book.len(), 3);
+fn a_book_records_what_was_accepted(rt: HostRuntime) -> Result<(), Fail> {
+    for list in [ONE_LOCK, NOTHING_HAPPENS] {
+        assert_eq!(rt; done_by_book(rt.alloc(), list)?.as_str(), list);
+    }
     Ok(())
 }
 
-/// How many entries the first agent's sight tells, and whether it shows no lock and no request.
-fn sight(book: &Book<PlainCore>) -> Result<(u64, bool), Refusal> {
-    let sight = book.sight(1)?;
-    let held = sight.snapshot.held.as_slice();
-    Ok((
-        sight.seen,
-        held.is_empty() && sight.snapshot.pending.as_slice().is_empty(),
-    ))
+fn one_lock(alloc: Global) -> Result<Vec<Entry>, Memory> {
+    let mut book: Book<PlainCore> = opening(alloc);
+    done(
+        alloc,
+        &mut book,
+        "open window\nrequest 1 db\ntake 1\nrelease 1 1",
+    )?;
+    book.cut()
 }
 
+/// Makes the replies of these entries wrong.
+fn spoil(entries: &mut [Entry], places: &[usize]) {
+    for place in places {
+        if let Some(entry) = entries.get_mut(*place) {
+            entry.reply = Reply::Released(ReleaseAnswer::NotHeld);
+        }
+    }
+}
+
+fn audit_spoilt(alloc: Global, places: &[usize]) -> Result<Result<(), AuditFault>, Memory> {
+    let mut entries = one_lock(alloc)?;
+    spoil(&mut entries, places);
+    Ok(audit(&opening::<PlainCore>(alloc), &entries))
+}
+
+/// Places of entries whose replies are wrong, and what an audit says: it tells the first.
+const AUDITS: [(&[usize], Result<(), AuditFault>); 3] = [
+    (&[], Ok(())),
+    (&[3], Err(AuditFault::Illegal(3))),
+    (&[3, 0], Err(AuditFault::Illegal(0))),
+];
+
 #[test]
-fn a_sight_tells_how_much_was_recorded(rt: HostRuntime) -> Result<(), Fail> {
-    let book = book_of(rt.alloc(), "open window")?;
-    assert!(rt; sight(&book) == Ok((1, true)));
+fn a_wrong_reply_is_found_in_its_place(rt: HostRuntime) -> Result<(), Fail> {
+    for (places, wanted) in AUDITS {
+        assert!(rt; audit_spoilt(rt.alloc(), places)? == wanted);
+    }
     Ok(())
 }
 
 #[test]
 fn faults_have_texts(rt: HostRuntime) -> Result<(), Fail> {
-    let line = format!(in rt.alloc(); "{}", AuditFault::Illegal(3))?;
-    assert_eq!(rt; line.as_str(), "entry 3 is illegal");
-    let line = format!(in rt.alloc(); "{}", AuditFault::Memory)?;
-    assert_eq!(rt; line.as_str(), "out of memory");
+    for (fault, wanted) in [
+        (AuditFault::Illegal(3), "entry 3 is illegal"),
+        (AuditFault::Memory, "out of memory"),
+    ] {
+        assert_eq!(rt; format!(in rt.alloc(); "{fault}")?.as_str(), wanted);
+    }
     Ok(())
 }

@@ -4,84 +4,154 @@ use std::alloc::Global;
 use std::test::Fail;
 use wl_numbered::NumberMap;
 use wl_samples::refused;
+use wl_types::Memory;
 
-/// Each number under its square.
-fn squares(alloc: Global, numbers: &[u64]) -> Result<NumberMap<u64>, Fail> {
+/// Does the calls of a list on a new map, a call a line, and gives the list as it came out. A line is a call, an arrow
+/// and its answer. The calls are `insert NUMBER VALUE`, `set NUMBER VALUE` (where there is one), `get NUMBER`,
+/// `remove NUMBER`, `has NUMBER`, `len`, `rows` and `clear`.
+fn done(alloc: Global, list: &str) -> Result<String, Memory> {
     let mut map = NumberMap::new(alloc);
-    for number in numbers {
-        map.insert(*number, number.wrapping_mul(*number))?;
+    let mut came = String::new(alloc);
+    for line in list.lines() {
+        let (call, _) = line.split_once(" -> ").unwrap_or((line, ""));
+        let answer = do_call(alloc, &mut map, call)?;
+        write!(came, "{call} -> {answer}\n")?;
     }
-    Ok(map)
+    Ok(came)
+}
+
+fn do_call(alloc: Global, map: &mut NumberMap<u64>, call: &str) -> Result<String, Memory> {
+    let (word, rest) = call.split_once(' ').unwrap_or((call, ""));
+    let (number, value) = rest.split_once(' ').unwrap_or((rest, ""));
+    let number = number.parse::<u64>().unwrap_or(0);
+    let value = value.parse::<u64>().unwrap_or(0);
+    match word {
+        "rows" => rows(alloc, map),
+        "has" => Ok(format!(in alloc; "{}", map.contains(number))?),
+        "insert" => found(alloc, map.insert(number, value)?),
+        "set" => found(alloc, set(map, number, value)),
+        "remove" => found(alloc, map.remove(number)),
+        "get" => found(alloc, map.get(number).copied()),
+        _ => length(alloc, map, word == "clear"),
+    }
+}
+
+fn found(alloc: Global, value: Option<u64>) -> Result<String, Memory> {
+    match value {
+        Some(value) => Ok(format!(in alloc; "{value}")?),
+        None => Ok("none".to_string(alloc)?),
+    }
+}
+
+/// Puts the value at a number that has one, and gives it.
+fn set(map: &mut NumberMap<u64>, number: u64, value: u64) -> Option<u64> {
+    let place = map.get_mut(number)?;
+    *place = value;
+    Some(value)
+}
+
+fn length(alloc: Global, map: &mut NumberMap<u64>, is_cleared: bool) -> Result<String, Memory> {
+    if is_cleared {
+        map.clear();
+    }
+    Ok(format!(in alloc; "{}", map.len())?)
+}
+
+fn rows(alloc: Global, map: &NumberMap<u64>) -> Result<String, Memory> {
+    let mut text = String::new(alloc);
+    for (number, value) in map.rows(alloc)? {
+        write!(text, "{number}:{},", *value)?;
+    }
+    Ok(text)
 }
 
 /// More than the few that stand together.
-const NUMBERS: &[u64] = &[7, 2, 9, 4, 30, 21, 5];
+const MANY: &str = "\
+insert 7 49 -> none
+insert 2 4 -> none
+insert 9 81 -> none
+insert 4 16 -> none
+insert 30 900 -> none
+insert 21 441 -> none
+insert 5 25 -> none
+len -> 7
+has 2 -> true
+has 21 -> true
+has 3 -> false
+get 7 -> 49
+get 2 -> 4
+get 9 -> 81
+get 4 -> 16
+get 30 -> 900
+get 21 -> 441
+get 5 -> 25
+get 3 -> none
+set 9 8 -> 8
+set 21 20 -> 20
+set 3 1 -> none
+get 9 -> 8
+get 21 -> 20
+get 3 -> none
+";
+
+/// Among the few there is room again when 5 comes anew, and it stands elsewhere already.
+const COME_AND_GO: &str = "\
+insert 7 49 -> none
+insert 2 4 -> none
+insert 9 81 -> none
+insert 4 16 -> none
+insert 30 900 -> none
+insert 21 441 -> none
+insert 5 25 -> none
+insert 7 1 -> 49
+insert 21 2 -> 441
+insert 3 5 -> none
+remove 7 -> 1
+remove 7 -> none
+remove 21 -> 2
+insert 5 6 -> 25
+len -> 6
+remove 2 -> 4
+rows -> 3:5,4:16,5:6,9:81,30:900,
+clear -> 0
+get 2 -> none
+";
+
+/// All that are there go, and others come.
+const OTHERS: &str = "\
+insert 7 49 -> none
+insert 2 4 -> none
+insert 9 81 -> none
+insert 4 16 -> none
+insert 30 900 -> none
+insert 21 441 -> none
+insert 5 25 -> none
+remove 7 -> 49
+remove 2 -> 4
+remove 9 -> 81
+remove 4 -> 16
+remove 30 -> 900
+remove 21 -> 441
+remove 5 -> 25
+len -> 0
+insert 0 0 -> none
+insert 1 1 -> none
+insert 2 2 -> none
+insert 3 3 -> none
+insert 4 4 -> none
+insert 5 5 -> none
+insert 6 6 -> none
+insert 7 7 -> none
+insert 8 8 -> none
+len -> 9
+get 8 -> 8
+";
 
 #[test]
-fn a_number_finds_its_value(rt: HostRuntime) -> Result<(), Fail> {
-    let mut map = squares(rt.alloc(), NUMBERS)?;
-    assert_eq!(rt; map.len(), 7);
-    for number in NUMBERS {
-        assert!(rt; map.contains(*number));
-        assert!(rt; map.get(*number).copied() == Some(number.wrapping_mul(*number)));
+fn values_are_found_by_number(rt: HostRuntime) -> Result<(), Fail> {
+    for list in [MANY, COME_AND_GO, OTHERS] {
+        assert_eq!(rt; done(rt.alloc(), list)?.as_str(), list);
     }
-    assert!(rt; map.get(3).copied() == None);
-    assert!(rt; !map.contains(3));
-    for number in NUMBERS {
-        if let Some(value) = map.get_mut(*number) {
-            *value = *number;
-        }
-    }
-    assert!(rt; map.get(9).copied() == Some(9));
-    assert!(rt; map.get(21).copied() == Some(21));
-    assert!(rt; map.get_mut(3).is_none());
-    Ok(())
-}
-
-#[test]
-fn a_value_takes_the_place_of_another_and_goes(rt: HostRuntime) -> Result<(), Fail> {
-    let mut map = squares(rt.alloc(), NUMBERS)?;
-    assert!(rt; map.insert(7, 1)? == Some(49));
-    assert!(rt; map.insert(21, 2)? == Some(441));
-    assert!(rt; map.insert(3, 5)? == None);
-    assert!(rt; map.remove(7) == Some(1));
-    assert!(rt; map.remove(7) == None);
-    assert!(rt; map.remove(21) == Some(2));
-    // Among the few there is room again; the number stands elsewhere already.
-    assert!(rt; map.insert(5, 6)? == Some(25));
-    assert_eq!(rt; map.len(), 6);
-    map.clear();
-    assert_eq!(rt; map.len(), 0);
-    assert!(rt; map.get(2).copied() == None);
-    Ok(())
-}
-
-#[test]
-fn a_map_that_lost_its_values_takes_others(rt: HostRuntime) -> Result<(), Fail> {
-    let mut map = squares(rt.alloc(), NUMBERS)?;
-    for number in NUMBERS {
-        assert!(rt; map.remove(*number).is_some());
-    }
-    assert_eq!(rt; map.len(), 0);
-    for number in 0..9 {
-        assert!(rt; map.insert(number, number)? == None);
-    }
-    assert_eq!(rt; map.len(), 9);
-    assert!(rt; map.get(8).copied() == Some(8));
-    Ok(())
-}
-
-#[test]
-fn rows_come_in_the_order_of_their_numbers(rt: HostRuntime) -> Result<(), Fail> {
-    let alloc = rt.alloc();
-    let mut map = squares(alloc, NUMBERS)?;
-    map.remove(2);
-    let mut numbers: Vec<u64> = Vec::new(alloc);
-    for (number, value) in map.rows(alloc)? {
-        assert_eq!(rt; *value, number.wrapping_mul(number));
-        numbers.push(number)?;
-    }
-    assert!(rt; numbers.as_slice() == [4, 5, 7, 9, 21, 30].as_slice());
     Ok(())
 }
 
@@ -95,11 +165,15 @@ fn try_insert(map: &mut NumberMap<u64>, number: u64) -> Result<(), Fail> {
     refused(is_as_before && map.insert(number, number)? == None)
 }
 
-#[test]
-fn a_refused_growth_leaves_the_map_as_it_was(rt: HostRuntime) -> Result<(), Fail> {
-    let mut map = squares(rt.alloc(), &[2])?;
+fn try_inserts(map: &mut NumberMap<u64>) -> Result<(), Fail> {
+    map.insert(2, 4)?;
     for number in 3..40 {
-        try_insert(&mut map, number)?;
+        try_insert(map, number)?;
     }
     Ok(())
+}
+
+#[test]
+fn a_refused_growth_leaves_the_map_as_it_was(rt: HostRuntime) -> Result<(), Fail> {
+    try_inserts(&mut NumberMap::new(rt.alloc()))
 }

@@ -1,116 +1,160 @@
 //! The words of a lock manager: limits, orders, names of faults.
 
+use std::alloc::Global;
 use std::cmp::Ordering;
 use std::test::Fail;
-use wl_samples::{ask, letters};
-use wl_types::{
-    Infos, Kind, LockInfo, Memory, Mode, Name, Phase, Reason, Refusal, Text, client_text,
-};
+use wl_samples::ask;
+use wl_types::{Infos, Kind, LockInfo, Memory, Mode, Name, Phase, Reason, Refusal, client_text};
+
+/// How many bytes the name has that repeats a text so often, or what it is refused.
+fn name_length(alloc: Global, text: &str, times: usize) -> Result<Result<usize, Refusal>, Memory> {
+    let mut long = String::new(alloc);
+    for _ in 0..times {
+        long.push_str(text)?;
+    }
+    Ok(Name::of(alloc, long.as_str()).map(|name| name.as_str().len()))
+}
+
+/// The limit counts bytes: 205 times three characters of five bytes are 1025.
+const LENGTHS: [(&str, usize, Result<usize, Refusal>); 6] = [
+    ("", 1, Ok(0)),
+    ("x", 1024, Ok(1024)),
+    ("x", 1025, Err(Refusal::NameTooLong)),
+    ("\u{20ac}xx", 204, Ok(1020)),
+    ("\u{20ac}xx", 205, Err(Refusal::NameTooLong)),
+    ("-x", 1, Err(Refusal::ReservedName)),
+];
 
 #[test]
 fn a_name_has_at_most_1024_bytes_and_is_not_reserved(rt: HostRuntime) -> Result<(), Fail> {
-    let alloc = rt.alloc();
-    let longest = letters(alloc, 1024)?;
-    let name = Name::of(alloc, longest.as_str())?;
-    assert_eq!(rt; name.as_str().len(), 1024);
-    let too_long = letters(alloc, 1025)?;
-    assert!(rt; Name::of(alloc, too_long.as_str()) == Err(Refusal::NameTooLong));
-    assert!(rt; Name::of(alloc, "-x") == Err(Refusal::ReservedName));
-    assert_eq!(rt; Name::of(alloc, "")?.as_str(), "");
-    let copy = name.copy(alloc)?;
-    assert!(rt; copy.same(&name));
-    assert!(rt; !Name::of(alloc, "y")?.same(&name));
-    // 341 characters of three bytes, and two of one: the limit counts bytes.
-    let mut euros = String::new(alloc);
-    for _ in 0..341 {
-        euros.push_str("\u{20ac}")?;
+    for (text, times, wanted) in LENGTHS {
+        assert_eq!(rt;
+            name_length(rt.alloc(), text, times)?,
+            wanted,
+            "{text} {times}"
+        );
     }
-    euros.push_str("xx")?;
-    assert!(rt; Name::of(alloc, euros.as_str()) == Err(Refusal::NameTooLong));
     Ok(())
 }
+
+/// Whether a name and its copy compare so with another, by each way to compare.
+fn compare_so(alloc: Global, one: &str, other: &str, wanted: Ordering) -> Result<bool, Fail> {
+    let name = Name::of(alloc, one)?;
+    let copy = name.copy(alloc)?;
+    let other = Name::of(alloc, other)?;
+    Ok(
+        name.cmp(&other) == wanted
+            && copy.partial_cmp(&other) == Some(wanted)
+            && (name < other) == (wanted == Ordering::Less)
+            && copy.same(&other) == (wanted == Ordering::Equal),
+    )
+}
+
+/// 122 is less than 65 * 31 + 97, and so z comes before Aa. BB has the number of Aa, 66 * 31 + 66.
+const ORDERS: [(&str, &str, Ordering); 5] = [
+    ("Aa", "BB", Ordering::Less),
+    ("BB", "Aa", Ordering::Greater),
+    ("BB", "BB", Ordering::Equal),
+    ("z", "Aa", Ordering::Less),
+    ("", "", Ordering::Equal),
+];
 
 #[test]
 fn names_of_one_number_are_ordered_by_their_bytes(rt: HostRuntime) -> Result<(), Fail> {
-    let alloc = rt.alloc();
-    let below = Name::of(alloc, "Aa")?;
-    let above = Name::of(alloc, "BB")?;
-    // Each gives 65 * 31 + 97 = 66 * 31 + 66 = 2112.
-    assert!(rt; below < above);
-    assert!(rt; below.cmp(&above) == Ordering::Less);
-    assert!(rt; above.cmp(&below) == Ordering::Greater);
-    assert!(rt; above.cmp(&above.copy(alloc)?) == Ordering::Equal);
-    // 122 is less than 2112, and so z comes before Aa.
-    let short = Name::of(alloc, "z")?;
-    assert!(rt; short.partial_cmp(&below) == Some(Ordering::Less));
+    for (one, other, wanted) in ORDERS {
+        assert!(rt;
+            compare_so(rt.alloc(), one, other, wanted)?,
+            "{one} {other}"
+        );
+    }
     Ok(())
 }
+
+/// What the check says of a request of this name.
+fn checked(alloc: Global, name: &str, options: Options) -> Result<Result<(), Refusal>, Memory> {
+    let mut asked = ask(alloc, name, options.mode)?;
+    asked.if_available = options.if_available;
+    asked.steal = options.steal;
+    asked.signal = options.signal;
+    Ok(asked.check())
+}
+
+#[derive(Clone, Copy)]
+struct Options {
+    mode: Mode,
+    if_available: bool,
+    steal: bool,
+    signal: Option<u64>,
+}
+
+/// All that can be wrong at once.
+const WORST: Options = Options {
+    mode: Mode::Shared,
+    if_available: true,
+    steal: true,
+    signal: Some(1),
+};
 
 #[test]
 fn the_first_check_that_fails_is_answered(rt: HostRuntime) -> Result<(), Fail> {
-    let alloc = rt.alloc();
-    let plain = ask(alloc, "x", Mode::Shared)?;
-    assert!(rt; plain.check() == Ok(()));
-    let mut worst = ask(alloc, "-x", Mode::Shared)?;
-    worst.if_available = true;
-    worst.steal = true;
-    worst.signal = Some(1);
-    assert!(rt; worst.check() == Err(Refusal::ReservedName));
-    worst.name = Text::of(alloc, "x")?;
-    assert!(rt; worst.check() == Err(Refusal::StealIfAvailable));
-    worst.if_available = false;
-    assert!(rt; worst.check() == Err(Refusal::StealShared));
-    worst.mode = Mode::Exclusive;
-    assert!(rt; worst.check() == Err(Refusal::SignalCombined));
-    worst.signal = None;
-    assert!(rt; worst.check() == Ok(()));
+    let mut options = WORST;
+    assert!(rt; checked(rt.alloc(), "-x", options)? == Err(Refusal::ReservedName));
+    assert!(rt; checked(rt.alloc(), "x", options)? == Err(Refusal::StealIfAvailable));
+    options.if_available = false;
+    assert!(rt; checked(rt.alloc(), "x", options)? == Err(Refusal::StealShared));
+    options.mode = Mode::Exclusive;
+    assert!(rt; checked(rt.alloc(), "x", options)? == Err(Refusal::SignalCombined));
+    options.signal = None;
+    assert!(rt; checked(rt.alloc(), "x", options)? == Ok(()));
     Ok(())
 }
+
+const REFUSALS: [(Refusal, &str); 16] = [
+    (Refusal::InvalidState, "1 InvalidStateError/inactive"),
+    (Refusal::Security, "2 SecurityError/opaque-origin"),
+    (Refusal::ReservedName, "3 NotSupportedError/reserved-name"),
+    (
+        Refusal::StealIfAvailable,
+        "4 NotSupportedError/steal-if-available",
+    ),
+    (Refusal::StealShared, "5 NotSupportedError/steal-shared"),
+    (
+        Refusal::SignalCombined,
+        "6 NotSupportedError/signal-combined",
+    ),
+    (
+        Refusal::SignalAborted(Reason::TimeoutError),
+        "7 TimeoutError/signal-aborted",
+    ),
+    (Refusal::NameTooLong, "8 Limit/name-length"),
+    (Refusal::NoSuchSignal, "9 NoSuch/signal"),
+    (Refusal::TooManyRequests, "10 Limit/requests"),
+    (Refusal::TooManySignals, "11 Limit/signals"),
+    (Refusal::TooManyAgents, "12 Limit/agents"),
+    (Refusal::NumbersSpent, "13 Limit/numbers"),
+    (Refusal::NoSuchAgent, "14 NoSuch/agent"),
+    (Refusal::NotAWindow, "15 NotAWindow/active"),
+    (Refusal::Memory, "16 Memory/memory"),
+];
 
 #[test]
 fn a_refusal_has_a_name_a_rule_and_a_number(rt: HostRuntime) -> Result<(), Fail> {
-    let rows = [
-        (1, Refusal::InvalidState, "InvalidStateError/inactive"),
-        (2, Refusal::Security, "SecurityError/opaque-origin"),
-        (3, Refusal::ReservedName, "NotSupportedError/reserved-name"),
-        (
-            4,
-            Refusal::StealIfAvailable,
-            "NotSupportedError/steal-if-available",
-        ),
-        (5, Refusal::StealShared, "NotSupportedError/steal-shared"),
-        (
-            6,
-            Refusal::SignalCombined,
-            "NotSupportedError/signal-combined",
-        ),
-        (
-            7,
-            Refusal::SignalAborted(Reason::TimeoutError),
-            "TimeoutError/signal-aborted",
-        ),
-        (8, Refusal::NameTooLong, "Limit/name-length"),
-        (9, Refusal::NoSuchSignal, "NoSuch/signal"),
-        (10, Refusal::TooManyRequests, "Limit/requests"),
-        (11, Refusal::TooManySignals, "Limit/signals"),
-        (12, Refusal::TooManyAgents, "Limit/agents"),
-        (13, Refusal::NumbersSpent, "Limit/numbers"),
-        (14, Refusal::NoSuchAgent, "NoSuch/agent"),
-        (15, Refusal::NotAWindow, "NotAWindow/active"),
-        (16, Refusal::Memory, "Memory/memory"),
-    ];
-    for (number, refusal, text) in rows {
-        assert_eq!(rt; refusal.number(), number);
-        assert_eq!(rt; format!(in rt.alloc(); "{refusal}")?.as_str(), text);
+    for (refusal, wanted) in REFUSALS {
+        let text = format!(in rt.alloc(); "{} {refusal}", refusal.number())?;
+        assert_eq!(rt; text.as_str(), wanted);
     }
-    let want = format!(in rt.alloc(); "{}", Memory)?;
-    assert_eq!(rt; want.as_str(), "out of memory");
     Ok(())
 }
 
 #[test]
-fn a_list_keeps_its_order(rt: HostRuntime) -> Result<(), Fail> {
-    let alloc = rt.alloc();
+fn a_want_of_memory_has_its_text(rt: HostRuntime) -> Result<(), Fail> {
+    let text = format!(in rt.alloc(); "{}", Memory)?;
+    assert_eq!(rt; text.as_str(), "out of memory");
+    Ok(())
+}
+
+/// The locks of two clients, in the order in which they were put in.
+fn listed(alloc: Global) -> Result<String, Fail> {
     let mut infos = Infos::new(alloc);
     for client in [2, 1] {
         infos.push(LockInfo {
@@ -119,26 +163,42 @@ fn a_list_keeps_its_order(rt: HostRuntime) -> Result<(), Fail> {
             client,
         })?;
     }
-    let shown = infos.as_slice();
-    assert_eq!(rt; shown.len(), 2);
-    assert_eq!(rt; shown[0].client, 2);
-    assert_eq!(rt; shown[1].client, 1);
-    assert_eq!(rt; shown[1].name.as_str(), "db");
-    assert_eq!(rt; client_text(alloc, 12)?.as_str(), "client-12");
-    Ok(())
+    let mut text = String::new(alloc);
+    for info in infos.as_slice() {
+        write!(
+            text,
+            "{} {} {},",
+            info.name.as_str(),
+            info.mode.word(),
+            info.client
+        )?;
+    }
+    Ok(text)
 }
 
 #[test]
+fn a_list_keeps_its_order(rt: HostRuntime) -> Result<(), Fail> {
+    assert_eq!(rt; listed(rt.alloc())?.as_str(), "db shared 2,db shared 1,");
+    assert_eq!(rt; client_text(rt.alloc(), 12)?.as_str(), "client-12");
+    Ok(())
+}
+
+const ENDS: [(Phase, bool); 7] = [
+    (Phase::Unavailable, true),
+    (Phase::Aborted(Reason::AbortError), true),
+    (Phase::Released, true),
+    (Phase::Stolen, true),
+    (Phase::Pending, false),
+    (Phase::Granted, false),
+    (Phase::Taken, false),
+];
+
+#[test]
 fn ends_are_ends(rt: HostRuntime) {
-    let aborted = Phase::Aborted(Reason::AbortError);
-    for end in [Phase::Unavailable, aborted, Phase::Released, Phase::Stolen] {
-        assert!(rt; end.is_end());
+    for (phase, is_end) in ENDS {
+        assert_eq!(rt; phase.is_end(), is_end, "{phase:?}");
     }
-    for phase in [Phase::Pending, Phase::Granted, Phase::Taken] {
-        assert!(rt; !phase.is_end());
-    }
-    assert!(rt; Phase::Pending.is_pending());
-    assert!(rt; !Phase::Granted.is_pending());
+    assert!(rt; Phase::Pending.is_pending() && !Phase::Granted.is_pending());
     assert_eq!(rt; Mode::Exclusive.word(), "exclusive");
     assert_eq!(rt; Reason::AbortError.word(), "AbortError");
     assert!(rt; Kind::Window != Kind::Worker);

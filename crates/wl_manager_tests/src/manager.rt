@@ -3,17 +3,21 @@
 
 mod aborts;
 mod agents;
+mod desk;
 mod growth;
 mod threads;
 
+use crate::rows::assert_rows;
+use desk::{Call, Desk};
 use std::alloc::Global;
+use std::process::Abort;
 use std::sync::{Arc, Wait};
 use std::test::Fail;
-use wl_core::{Command, PlainCore};
+use wl_core::{Command, LockCore, PlainCore};
 use wl_journal::{Entry, audit};
-use wl_manager::{Agent, Loose, Manager, Ticket, Visitor};
+use wl_manager::{Agent, Count, Loose, Manager, Ticket, Visitor};
 use wl_samples::opening;
-use wl_types::Kind;
+use wl_types::{Kind, Memory};
 
 type Plain = Manager<PlainCore, Loose>;
 
@@ -21,11 +25,19 @@ type PlainAgent = Agent<PlainCore, Loose>;
 
 type PlainTicket = Ticket<PlainCore, Loose>;
 
-/// A manager that counts no shares, and its first agent, a window.
-fn one_agent<R: Wait>(rt: &R, alloc: Global) -> Result<(Arc<Plain, Global>, PlainAgent), Fail> {
-    let manager: Arc<Plain, Global> = Manager::new(rt, alloc, (), (), ())?;
-    let agent = Manager::open(&manager, rt, Kind::Window)?;
-    Ok((manager, agent))
+/// A manager that counts no shares.
+fn plain<R>(rt: &R, alloc: Global) -> Result<Arc<Plain, Global>, Memory> {
+    Manager::new(rt, alloc, (), (), ())
+}
+
+/// Makes the calls of a new manager.
+fn assert_calls<R: Wait + Abort>(
+    rt: &R,
+    alloc: Global,
+    rows: &[(Call, &str)],
+) -> Result<(), Memory> {
+    let mut desk = Desk::new(alloc, plain(rt, alloc)?);
+    assert_rows(rt, &mut desk, rows)
 }
 
 /// How many entries a journal has, and how many of them are takes.
@@ -38,11 +50,27 @@ struct Sum {
 impl Visitor for Sum {
     fn visit(&mut self, entries: &[Entry]) {
         self.entries = entries.len();
-        self.takes = entries
-            .iter()
-            .filter(|entry| matches!(entry.command, Command::Take(_)))
-            .count();
+        self.takes = takes(entries);
     }
+}
+
+fn takes(entries: &[Entry]) -> usize {
+    let mut takes: usize = 0;
+    for entry in entries {
+        if matches!(entry.command, Command::Take(_)) {
+            takes = takes.saturating_add(1);
+        }
+    }
+    takes
+}
+
+fn summed<C: LockCore, T: Count, R: Wait>(rt: &R, manager: &Manager<C, T>) -> Sum {
+    let mut sum = Sum {
+        entries: 0,
+        takes: 0,
+    };
+    manager.visit(rt, &mut sum);
+    sum
 }
 
 /// How many entries a journal shows, and whether they are legal from the opening state, or from where it was cut.
@@ -51,15 +79,6 @@ struct Audit {
     opening: PlainCore,
     entries: usize,
     is_legal: bool,
-}
-
-/// An audit that was shown nothing yet.
-fn no_audit(alloc: Global) -> Audit {
-    Audit {
-        opening: opening(alloc),
-        entries: 0,
-        is_legal: false,
-    }
 }
 
 impl Visitor for Audit {
@@ -72,4 +91,18 @@ impl Visitor for Audit {
         self.entries = entries.len();
         self.is_legal = audit(base, entries).is_ok();
     }
+}
+
+fn audited<C: LockCore, T: Count, R: Wait>(
+    rt: &R,
+    alloc: Global,
+    manager: &Manager<C, T>,
+) -> (bool, usize) {
+    let mut audit = Audit {
+        opening: opening(alloc),
+        entries: 0,
+        is_legal: false,
+    };
+    manager.visit(rt, &mut audit);
+    (audit.is_legal, audit.entries)
 }

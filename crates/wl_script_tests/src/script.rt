@@ -6,3 +6,4 @@ mod faults;
 mod growth;
 mod limits;
 mod pieces;
+mod runs;

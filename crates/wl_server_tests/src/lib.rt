@@ -5,6 +5,10 @@
 #![tactic(auto)]
 
 #[cfg(test)]
+mod lists;
+#[cfg(test)]
+mod scene;
+#[cfg(test)]
 mod server;
 #[cfg(test)]
 mod service;

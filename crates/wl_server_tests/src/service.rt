@@ -4,23 +4,18 @@
 mod clients;
 mod growth;
 mod opening;
-mod threads;
+pub mod threads;
 
-use std::alloc::Global;
-use std::sync::Wait;
+use crate::lists::assert_lists;
 use std::test::Fail;
-use wl_service::{Client, Service};
-use wl_types::Kind;
 
 const HERE: &str = "https://a.test/";
 
 const ELSEWHERE: &str = "http://a.test/";
 
-const NOWHERE: &str = "data:text/plain,x";
-
-/// A service and its first client, a window.
-fn first_client<R: Wait>(rt: &R, alloc: Global) -> Result<(Service, Client), Fail> {
-    let service = Service::new(rt, alloc)?;
-    let client = service.open(rt, HERE, Kind::Window)?;
-    Ok((service, client))
+#[test]
+fn services_do_the_lists(rt: HostRuntime) -> Result<(), Fail> {
+    assert_lists(&rt, rt.alloc(), &opening::LISTS)?;
+    assert_lists(&rt, rt.alloc(), &clients::LISTS)?;
+    assert_lists(&rt, rt.alloc(), &threads::LISTS)
 }

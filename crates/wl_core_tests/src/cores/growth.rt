@@ -5,7 +5,7 @@ use std::test::Fail;
 use wl_core::{Command, LockCore, PlainCore, apply};
 use wl_index::IndexCore;
 use wl_samples::{lacks_memory, opening, refused, signalled};
-use wl_types::Kind;
+use wl_types::{Kind, Memory};
 
 /// A command that is refused memory leaves the core as it was, and is done when it is asked again.
 fn try_command<C: LockCore>(core: &mut C, command: &Command) -> Result<(), Fail> {
@@ -18,13 +18,20 @@ fn try_command<C: LockCore>(core: &mut C, command: &Command) -> Result<(), Fail>
 }
 
 /// An agent, its signal, a lock, and a request that waits for it.
+fn command(alloc: Global, place: usize) -> Result<Command, Memory> {
+    match place {
+        0 => Ok(Command::Enter(Kind::Window)),
+        1 => Ok(Command::NewSignal(1)),
+        _ => Ok(Command::Request(1, signalled(alloc, "db", 1)?)),
+    }
+}
+
 fn try_commands<C: LockCore<Seed = ()>>(alloc: Global) -> Result<(), Fail> {
     let mut core: C = opening(alloc);
-    let wanted = Command::Request(1, signalled(alloc, "db", 1)?);
-    try_command(&mut core, &Command::Enter(Kind::Window))?;
-    try_command(&mut core, &Command::NewSignal(1))?;
-    try_command(&mut core, &wanted)?;
-    try_command(&mut core, &wanted)
+    for place in 0..4 {
+        try_command(&mut core, &command(alloc, place)?)?;
+    }
+    Ok(())
 }
 
 #[test]

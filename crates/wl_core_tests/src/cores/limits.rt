@@ -1,26 +1,23 @@
 //! The limits of a manager, reached.
 
 use std::alloc::Global;
-use std::process::Abort;
 use std::test::Fail;
 use wl_core::{LockCore, PlainCore};
 use wl_samples::{done, done_often, letters, opening};
-use wl_types::Numbers;
+use wl_types::{Memory, Numbers};
 
-/// Wants the list to come out as it is written, on a plain core that has done this call so often.
-fn assert_after<R: Abort>(
-    rt: &R,
+/// The list as it comes out of a plain core that has done this call so often.
+fn done_after(
     alloc: Global,
     first: &str,
     often: (u64, &str),
     list: &str,
-) -> Result<(), Fail> {
+) -> Result<String, Memory> {
     let mut core: PlainCore = opening(alloc);
     done(alloc, &mut core, first)?;
     let (times, call) = often;
     done_often(alloc, &mut core, times, call)?;
-    assert_eq!(rt; done(alloc, &mut core, list)?.as_str(), list);
-    Ok(())
+    done(alloc, &mut core, list)
 }
 
 const ONE_AGENT_TOO_MANY: &str = "\
@@ -32,13 +29,9 @@ open worker -> Agent(4097)
 
 #[test]
 fn at_most_4096_agents_are_live(rt: HostRuntime) -> Result<(), Fail> {
-    assert_after(
-        &rt,
-        rt.alloc(),
-        "",
-        (4095, "open window"),
-        ONE_AGENT_TOO_MANY,
-    )
+    let came = done_after(rt.alloc(), "", (4095, "open window"), ONE_AGENT_TOO_MANY)?;
+    assert_eq!(rt; came.as_str(), ONE_AGENT_TOO_MANY);
+    Ok(())
 }
 
 const TWO_AGENTS: &str = "\
@@ -54,22 +47,26 @@ signal 2 -> Signal(1025)
 
 #[test]
 fn an_agent_makes_at_most_1024_signals(rt: HostRuntime) -> Result<(), Fail> {
-    assert_after(
-        &rt,
-        rt.alloc(),
-        TWO_AGENTS,
-        (1023, "signal 1"),
-        ONE_SIGNAL_TOO_MANY,
-    )
+    let often = (1023, "signal 1");
+    let came = done_after(rt.alloc(), TWO_AGENTS, often, ONE_SIGNAL_TOO_MANY)?;
+    assert_eq!(rt; came.as_str(), ONE_SIGNAL_TOO_MANY);
+    Ok(())
+}
+
+/// A name that is as long as it may be, and one that is longer.
+fn long_names(alloc: Global) -> Result<String, Memory> {
+    let longest = letters(alloc, 1024)?;
+    Ok(format!(in alloc;
+        "request 1 {longest} -> Request(1), 1 Granted\nrequest 1 {longest}x -> Limit/name-length\n"
+    )?)
 }
 
 #[test]
 fn a_name_has_at_most_1024_letters(rt: HostRuntime) -> Result<(), Fail> {
-    let longest = letters(rt.alloc(), 1024)?;
-    let list = format!(in rt.alloc();
-        "request 1 {longest} -> Request(1), 1 Granted\nrequest 1 {longest}x -> Limit/name-length\n"
-    )?;
-    assert_after(&rt, rt.alloc(), "open window", (0, ""), list.as_str())
+    let list = long_names(rt.alloc())?;
+    let came = done_after(rt.alloc(), "open window", (0, ""), list.as_str())?;
+    assert_eq!(rt; came.as_str(), list.as_str());
+    Ok(())
 }
 
 const THE_LAST_REQUEST: &str = "\

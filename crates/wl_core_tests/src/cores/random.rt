@@ -150,46 +150,43 @@ impl Calls {
 struct Both {
     index: IndexCore,
     plain: PlainCore,
+    calls: Calls,
 }
 
 impl Both {
-    /// Does the call, and gives it as the plain core answers it, and whether the other answers the same.
-    fn call(&mut self, alloc: Global, call: &str) -> Result<(String, bool), Memory> {
-        let line = done(alloc, &mut self.plain, call)?;
-        let other = done(alloc, &mut self.index, call)?;
-        let same = line.as_str() == other.as_str();
-        Ok((line, same))
+    /// Whether both answer the next call alike, and then have the same state and tell the same changes.
+    fn answer_alike(&mut self, alloc: Global) -> Result<bool, Memory> {
+        self.calls.write_next()?;
+        let line = done(alloc, &mut self.plain, self.calls.text.as_str())?;
+        let other = done(alloc, &mut self.index, self.calls.text.as_str())?;
+        self.calls.note(line.as_str());
+        Ok(line.as_str() == other.as_str() && self.are_alike()?)
     }
 
-    /// Whether they have the same state and tell the same changes.
     fn are_alike(&self) -> Result<bool, Memory> {
         Ok(self.plain.changes() == self.index.changes() && self.index.copy_plain()? == self.plain)
     }
 }
 
-/// The first call after which the cores differ, if they do, as the plain one answers it.
-fn first_difference(alloc: Global, seed: u64) -> Result<Option<String>, Memory> {
-    let mut cores = Both {
+/// How many calls are answered alike before the first after which the cores differ.
+fn count_alike(alloc: Global, seed: u64) -> Result<u64, Memory> {
+    let mut both = Both {
         index: opening(alloc),
         plain: opening(alloc),
+        calls: Calls::new(alloc, seed),
     };
-    let mut calls = Calls::new(alloc, seed);
-    for _ in 0..CALLS {
-        calls.write_next()?;
-        let (line, same) = cores.call(alloc, calls.text.as_str())?;
-        if !same || !cores.are_alike()? {
-            return Ok(Some(line));
+    for count in 0..CALLS {
+        if !both.answer_alike(alloc)? {
+            return Ok(count);
         }
-        calls.note(line.as_str());
     }
-    Ok(None)
+    Ok(CALLS)
 }
 
 #[test]
 fn both_cores_do_the_same(rt: HostRuntime) -> Result<(), Fail> {
     for seed in 1..=SEEDS {
-        let difference = first_difference(rt.alloc(), seed)?;
-        assert!(rt; difference.is_none(), "seed {seed}: {difference:?}");
+        assert_eq!(rt; count_alike(rt.alloc(), seed)?, CALLS, "seed {seed}");
     }
     Ok(())
 }

@@ -5,7 +5,7 @@ use std::test::Fail;
 use wl_core::{Command, LockCore, PlainCore, apply};
 use wl_journal::Book;
 use wl_samples::{ask, lacks_memory, opening, refused};
-use wl_types::{Kind, Mode};
+use wl_types::{Kind, Memory, Mode};
 
 /// A command that is refused memory leaves the book as it was, and is done and recorded when it is asked again.
 fn try_command(book: &mut Book<PlainCore>, command: &Command) -> Result<(), Fail> {
@@ -20,13 +20,17 @@ fn try_command(book: &mut Book<PlainCore>, command: &Command) -> Result<(), Fail
     refused(is_as_before && is_same_state && is_done_now)
 }
 
-fn try_commands(alloc: Global) -> Result<(), Fail> {
-    let mut book: Book<PlainCore> = opening(alloc);
-    let wanted = Command::Request(1, ask(alloc, "db", Mode::Exclusive)?);
-    try_command(&mut book, &Command::Enter(Kind::Window))?;
-    try_command(&mut book, &Command::SetActive(1, true))?;
-    try_command(&mut book, &Command::NewSignal(1))?;
-    try_command(&mut book, &wanted)?;
+fn command(alloc: Global, place: usize) -> Result<Command, Memory> {
+    match place {
+        0 => Ok(Command::Enter(Kind::Window)),
+        1 => Ok(Command::SetActive(1, true)),
+        2 => Ok(Command::NewSignal(1)),
+        _ => Ok(Command::Request(1, ask(alloc, "db", Mode::Exclusive)?)),
+    }
+}
+
+/// A cut that is refused memory leaves all entries there, and hands them out when it is asked again.
+fn try_cut(book: &mut Book<PlainCore>) -> Result<(), Fail> {
     if book.cut().is_ok() {
         return Ok(());
     }
@@ -34,7 +38,14 @@ fn try_commands(alloc: Global) -> Result<(), Fail> {
     refused(is_as_before && book.cut()?.len() == 4)
 }
 
+fn try_calls(alloc: Global, book: &mut Book<PlainCore>) -> Result<(), Fail> {
+    for place in 0..4 {
+        try_command(book, &command(alloc, place)?)?;
+    }
+    try_cut(book)
+}
+
 #[test]
 fn a_refused_growth_is_not_recorded(rt: HostRuntime) -> Result<(), Fail> {
-    try_commands(rt.alloc())
+    try_calls(rt.alloc(), &mut opening(rt.alloc()))
 }

@@ -1,167 +1,163 @@
 //! Each call of an agent and of a ticket.
 
-use super::{Plain, Sum, no_audit, one_agent};
+use super::desk::Act::{Query, Release, Request, SetActive};
+use super::desk::Call;
+use super::desk::Call::{Agent, DropTicket, Entries, Entry, LookOn, Open, Ticket};
+use super::desk::Manner::{Exclusive, SharedIfAvailable, Stealing};
+use super::desk::Use::{Look, Take, Watch};
+use super::{assert_calls, audited};
 use std::alloc::Global;
+use std::process::Abort;
 use std::sync::{Arc, Wait};
 use std::test::Fail;
-use wl_cell::Taking;
-use wl_core::{Command, PlainCore, ReleaseAnswer, Reply};
-use wl_journal::{Entry, Sight};
-use wl_manager::{Manager, Recent, Visitor};
+use wl_core::{PlainCore, ReleaseAnswer};
+use wl_manager::{Manager, Recent};
 use wl_samples::ask;
-use wl_types::{Ask, Kind, Memory, Mode, Phase, Refusal};
+use wl_types::Kind::{Window, Worker};
+use wl_types::{Ask, Mode, Refusal};
 
-/// Whether a journal is that of one window that asked for `db`, and whether it gave the lock up.
-#[derive(Drop)]
-struct Course {
-    asked: bool,
-    released: bool,
-}
+const ENTERED: &str = "Enter(Window), Agent(1)";
 
-impl Visitor for Course {
-    fn visit(&mut self, entries: &[Entry]) {
-        self.asked = is_asked(entries);
-        self.released = entries.len() == 3 && is_released(&entries[2]);
-    }
-}
+const ASKED: &str = "Request(1, Ask { name: Text { inner: \"db\" }, mode: Exclusive, \
+    if_available: false, steal: false, signal: None }), Request(1)";
 
-fn is_asked(entries: &[Entry]) -> bool {
-    let [enter, request, ..] = entries else {
-        return false;
-    };
-    let Command::Request(1, ask) = &request.command else {
-        return false;
-    };
-    matches!(enter.command, Command::Enter(Kind::Window))
-        && matches!(enter.reply, Reply::Agent(1))
-        && matches!(request.reply, Reply::Request(1))
-        && ask.name.as_str() == "db"
-        && ask.mode == Mode::Exclusive
-        && !ask.if_available
-        && !ask.steal
-        && ask.signal.is_none()
-}
-
-fn is_released(entry: &Entry) -> bool {
-    matches!(entry.command, Command::Release(1, 1))
-        && matches!(entry.reply, Reply::Released(ReleaseAnswer::Released))
-}
-
-/// Whether the first agent alone holds `db`, after this many entries.
-fn is_sole_holder(sight: &Sight, seen: u64) -> bool {
-    let [lock] = sight.snapshot.held.as_slice() else {
-        return false;
-    };
-    sight.seen == seen
-        && sight.snapshot.pending.as_slice().is_empty()
-        && lock.name.as_str() == "db"
-        && lock.mode == Mode::Exclusive
-        && lock.client == 1
-}
-
-fn course_of<R: Wait>(rt: &R, manager: &Plain) -> Course {
-    let mut course = Course {
-        asked: false,
-        released: false,
-    };
-    manager.visit(rt, &mut course);
-    course
-}
+const ASKED_AND_RELEASED: [(Call, &str); 11] = [
+    (Open(Window), "Ok(1)"),
+    (Agent(1, Request("db", Exclusive)), "Ok(1)"),
+    (Agent(1, Query), "2 entries, held db/exclusive/1, waiting"),
+    (Entries, "2"),
+    (Entry(1), ENTERED),
+    (Entry(2), ASKED),
+    (Agent(1, Release(1)), "Some(Released)"),
+    (Entries, "3"),
+    (Entry(1), ENTERED),
+    (Entry(2), ASKED),
+    (Entry(3), "Release(1, 1), Released(Released)"),
+];
 
 #[test]
 fn an_agent_asks_for_just_what_it_was_given(rt: HostRuntime) -> Result<(), Fail> {
-    let alloc = rt.alloc();
-    let (manager, mut agent) = one_agent(&rt, alloc)?;
-    assert_eq!(rt; agent.client(), 1);
-    let mut ticket = agent.request(&rt, &ask(alloc, "db", Mode::Exclusive)?)?;
-    assert_eq!(rt; ticket.number(), 1);
-    assert!(rt; is_sole_holder(&agent.query(&rt)?, 2));
-    let course = course_of(&rt, &manager);
-    assert!(rt; course.asked && !course.released);
-    assert_eq!(rt; agent.release(&rt, &mut ticket), ReleaseAnswer::Released);
-    let course = course_of(&rt, &manager);
-    assert!(rt; course.asked && course.released);
-    Ok(())
+    Ok(assert_calls(&rt, rt.alloc(), ASKED_AND_RELEASED.as_slice())?)
 }
 
-/// A request of `db` that steals.
-fn stealing(alloc: Global) -> Result<Ask, Memory> {
-    let mut asked = ask(alloc, "db", Mode::Exclusive)?;
-    asked.steal = true;
-    Ok(asked)
-}
+const STOLEN: [(Call, &str); 7] = [
+    (Open(Window), "Ok(1)"),
+    (Agent(1, Request("db", Exclusive)), "Ok(1)"),
+    (Agent(1, Request("db", Stealing)), "Ok(2)"),
+    (Ticket(2, Look), "Granted"),
+    (Ticket(1, Take), "Before(Stolen)"),
+    (Ticket(1, Look), "Stolen"),
+    (Agent(1, Release(1)), "Some(NotHeld)"),
+];
 
 #[test]
 fn a_lock_that_was_stolen_is_never_taken(rt: HostRuntime) -> Result<(), Fail> {
-    let (_manager, mut agent) = one_agent(&rt, rt.alloc())?;
-    let mut ticket = agent.request(&rt, &ask(rt.alloc(), "db", Mode::Exclusive)?)?;
-    let mut stolen = agent.request(&rt, &stealing(rt.alloc())?)?;
-    assert_eq!(rt; stolen.look(), Phase::Granted);
-    assert_eq!(rt; ticket.take(), Taking::Before(Phase::Stolen));
-    assert_eq!(rt; ticket.look(), Phase::Stolen);
-    assert_eq!(rt; agent.release(&rt, &mut ticket), ReleaseAnswer::NotHeld);
-    Ok(())
+    Ok(assert_calls(&rt, rt.alloc(), STOLEN.as_slice())?)
 }
+
+/// Whose ticket is gone by then, though the lock is held.
+const STOLEN_BY_ANOTHER: [(Call, &str); 8] = [
+    (Open(Window), "Ok(1)"),
+    (Open(Window), "Ok(2)"),
+    (Agent(1, Request("db", Exclusive)), "Ok(1)"),
+    (Ticket(1, Watch), "Ok(())"),
+    (LookOn(1), "Some(Granted)"),
+    (Agent(2, Request("db", Stealing)), "Ok(2)"),
+    (DropTicket, "Some(2)"),
+    (LookOn(1), "Some(Stolen)"),
+];
 
 #[test]
 fn a_watch_sees_that_another_agent_steals(rt: HostRuntime) -> Result<(), Fail> {
-    let (manager, mut one) = one_agent(&rt, rt.alloc())?;
-    let mut two = Manager::open(&manager, &rt, Kind::Window)?;
-    let mut ticket = one.request(&rt, &ask(rt.alloc(), "db", Mode::Exclusive)?)?;
-    let mut watch = ticket.watch()?;
-    assert_eq!(rt; watch.look(), Phase::Granted);
-    two.request(&rt, &stealing(rt.alloc())?)?;
-    assert_eq!(rt; watch.look(), Phase::Stolen);
-    Ok(())
+    Ok(assert_calls(&rt, rt.alloc(), STOLEN_BY_ANOTHER.as_slice())?)
 }
+
+/// The ticket of the lock is gone by then, and the other one has its place.
+const NOT_AVAILABLE: [(Call, &str); 6] = [
+    (Open(Window), "Ok(1)"),
+    (Agent(1, Request("db", Exclusive)), "Ok(1)"),
+    (DropTicket, "Some(1)"),
+    (Agent(1, Request("db", SharedIfAvailable)), "Ok(2)"),
+    (Ticket(1, Look), "Unavailable"),
+    (Ticket(1, Take), "Before(Unavailable)"),
+];
 
 #[test]
 fn a_lock_that_is_not_available_is_not_waited_for(rt: HostRuntime) -> Result<(), Fail> {
-    let (_manager, mut agent) = one_agent(&rt, rt.alloc())?;
-    agent.request(&rt, &ask(rt.alloc(), "db", Mode::Exclusive)?)?;
-    let mut available = ask(rt.alloc(), "db", Mode::Shared)?;
-    available.if_available = true;
-    let mut refused = agent.request(&rt, &available)?;
-    assert_eq!(rt; refused.look(), Phase::Unavailable);
-    assert_eq!(rt; refused.take(), Taking::Before(Phase::Unavailable));
-    Ok(())
+    Ok(assert_calls(&rt, rt.alloc(), NOT_AVAILABLE.as_slice())?)
 }
+
+const INACTIVE: [(Call, &str); 7] = [
+    (Open(Window), "Ok(1)"),
+    (Agent(1, Query), "1 entries, held, waiting"),
+    (Open(Worker), "Ok(2)"),
+    (Agent(1, SetActive(false)), "Ok(())"),
+    (Agent(1, Request("db", Exclusive)), "Err(InvalidState)"),
+    (Agent(2, SetActive(false)), "Err(NotAWindow)"),
+    (Entries, "3"),
+];
 
 #[test]
 fn an_inactive_window_asks_for_nothing(rt: HostRuntime) -> Result<(), Fail> {
-    let alloc = rt.alloc();
-    let (manager, mut window) = one_agent(&rt, alloc)?;
-    let sight = window.query(&rt)?;
-    assert_eq!(rt; sight.seen, 1);
-    assert_eq!(rt; sight.snapshot.held.as_slice().len(), 0);
-    assert_eq!(rt; sight.snapshot.pending.as_slice().len(), 0);
-    let mut worker = Manager::open(&manager, &rt, Kind::Worker)?;
-    assert!(rt; window.set_active(&rt, false) == Ok(()));
-    let refused = window.request(&rt, &ask(alloc, "db", Mode::Exclusive)?);
-    assert!(rt; refused.is_err_and(|refusal| refusal == Refusal::InvalidState));
-    assert!(rt; worker.set_active(&rt, false) == Err(Refusal::NotAWindow));
-    let mut sum = Sum {
-        entries: 0,
-        takes: 0,
-    };
-    manager.visit(&rt, &mut sum);
-    assert_eq!(rt; sum.entries, 3);
-    Ok(())
+    Ok(assert_calls(&rt, rt.alloc(), INACTIVE.as_slice())?)
+}
+
+type Brief = Manager<PlainCore, Recent>;
+
+type BriefAgent = wl_manager::Agent<PlainCore, Recent>;
+
+fn ask_and_release<R: Wait>(
+    rt: &R,
+    agent: &mut BriefAgent,
+    asked: &Ask,
+) -> Result<ReleaseAnswer, Refusal> {
+    let mut ticket = agent.request(rt, asked)?;
+    Ok(agent.release(rt, &mut ticket))
+}
+
+fn assert_released<R: Wait + Abort>(rt: &R, agent: &mut BriefAgent, asked: &Ask) {
+    for _ in 0..1000 {
+        assert_eq!(rt;
+            ask_and_release(rt, agent, asked),
+            Ok(ReleaseAnswer::Released)
+        );
+    }
+}
+
+/// Whether the journal is legal, how many entries it has, and how many the agent sees.
+type Left = (bool, usize, u64);
+
+fn left<R: Wait>(
+    rt: &R,
+    alloc: Global,
+    manager: &Brief,
+    agent: &mut BriefAgent,
+) -> Result<Left, Refusal> {
+    let seen = seen(rt, agent)?;
+    let (is_legal, entries) = audited(rt, alloc, manager);
+    Ok((is_legal, entries, seen))
+}
+
+fn seen<R: Wait>(rt: &R, agent: &mut BriefAgent) -> Result<u64, Refusal> {
+    Ok(agent.query(rt)?.seen)
+}
+
+fn left_of_a_thousand<R: Wait + Abort>(
+    rt: &R,
+    alloc: Global,
+    manager: &Arc<Brief, Global>,
+    asked: &Ask,
+) -> Result<Left, Refusal> {
+    let mut agent = Manager::open(manager, rt, Window)?;
+    assert_released(rt, &mut agent, asked);
+    left(rt, alloc, manager, &mut agent)
 }
 
 #[test]
 fn a_journal_that_is_cut_stays_short(rt: HostRuntime) -> Result<(), Fail> {
-    let alloc = rt.alloc();
-    let manager: Arc<Manager<PlainCore, Recent>, Global> = Manager::new(&rt, alloc, (), (), ())?;
-    let mut agent = Manager::open(&manager, &rt, Kind::Window)?;
-    let asked = ask(alloc, "db", Mode::Exclusive)?;
-    let mut audited = no_audit(alloc);
-    for _ in 0..1000 {
-        let mut ticket = agent.request(&rt, &asked)?;
-        assert_eq!(rt; agent.release(&rt, &mut ticket), ReleaseAnswer::Released);
-    }
-    manager.visit(&rt, &mut audited);
-    assert!(rt; audited.is_legal && audited.entries == 975);
-    assert_eq!(rt; agent.query(&rt)?.seen, 2001);
+    let asked = ask(rt.alloc(), "db", Mode::Exclusive)?;
+    let manager: Arc<Brief, Global> = Manager::new(&rt, rt.alloc(), (), (), ())?;
+    let left = left_of_a_thousand(&rt, rt.alloc(), &manager, &asked);
+    assert_eq!(rt; left, Ok((true, 975, 2001)));
     Ok(())
 }

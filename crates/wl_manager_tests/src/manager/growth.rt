@@ -1,51 +1,52 @@
 //! Each growth refused in turn.
 
-use super::{Plain, Sum};
+use super::{Plain, PlainAgent, plain, summed};
 use std::alloc::Global;
 use std::sync::{Arc, Wait};
 use std::test::Fail;
-use wl_core::PlainCore;
-use wl_manager::{Agent, Loose, Manager};
+use wl_manager::Manager;
 use wl_samples::{ask, refused};
-use wl_types::{Kind, Mode};
+use wl_types::{Ask, Kind, Mode};
 
-fn entries<R: Wait>(rt: &R, manager: &Plain) -> usize {
-    let mut sum = Sum {
-        entries: 0,
-        takes: 0,
-    };
-    manager.visit(rt, &mut sum);
-    sum.entries
-}
-
-fn try_open<R: Wait>(
-    rt: &R,
-    manager: &Arc<Plain, Global>,
-) -> Result<Agent<PlainCore, Loose>, Fail> {
+fn try_open<R: Wait>(rt: &R, manager: &Arc<Plain, Global>) -> Result<PlainAgent, Fail> {
     if let Ok(agent) = Manager::open(manager, rt, Kind::Window) {
         return Ok(agent);
     }
-    let is_empty = entries(rt, manager) == 0;
+    let is_empty = summed(rt, manager).entries == 0;
     let agent = Manager::open(manager, rt, Kind::Window)?;
-    refused(is_empty && agent.client() == 1 && entries(rt, manager) == 1)?;
+    refused(is_empty && agent.client() == 1 && summed(rt, manager).entries == 1)?;
     Ok(agent)
 }
 
-fn try_calls<R: Wait>(rt: &R, alloc: Global) -> Result<(), Fail> {
-    let manager: Arc<Plain, Global> = Manager::new(rt, alloc, (), (), ())?;
-    let mut agent = try_open(rt, &manager)?;
-    if agent.new_signal(rt).is_err() {
-        let is_opened_alone = entries(rt, &manager) == 1;
-        let signal = agent.new_signal(rt)?;
-        return refused(is_opened_alone && signal == 1 && entries(rt, &manager) == 2);
-    }
-    let wanted = ask(alloc, "db", Mode::Exclusive)?;
-    if agent.request(rt, &wanted).is_ok() {
+fn try_signal<R: Wait>(rt: &R, manager: &Plain, agent: &mut PlainAgent) -> Result<(), Fail> {
+    if agent.new_signal(rt).is_ok() {
         return Ok(());
     }
-    let has_no_request = entries(rt, &manager) == 2;
-    let ticket = agent.request(rt, &wanted)?;
-    refused(has_no_request && ticket.number() == 1 && entries(rt, &manager) == 3)
+    let is_opened_alone = summed(rt, manager).entries == 1;
+    let signal = agent.new_signal(rt)?;
+    refused(is_opened_alone && signal == 1 && summed(rt, manager).entries == 2)
+}
+
+fn try_request<R: Wait>(
+    rt: &R,
+    manager: &Plain,
+    agent: &mut PlainAgent,
+    wanted: &Ask,
+) -> Result<(), Fail> {
+    if agent.request(rt, wanted).is_ok() {
+        return Ok(());
+    }
+    let has_no_request = summed(rt, manager).entries == 2;
+    let number = agent.request(rt, wanted)?.number();
+    refused(has_no_request && number == 1 && summed(rt, manager).entries == 3)
+}
+
+fn try_calls<R: Wait>(rt: &R, alloc: Global) -> Result<(), Fail> {
+    let manager = plain(rt, alloc)?;
+    let mut agent = try_open(rt, &manager)?;
+    try_signal(rt, &manager, &mut agent)?;
+    let wanted = ask(alloc, "db", Mode::Exclusive)?;
+    try_request(rt, &manager, &mut agent, &wanted)
 }
 
 #[test]

@@ -1,9 +1,9 @@
 //! What is wrong with a message, of several faults the first.
 
-use super::{read_lines, read_messages};
+use super::{line_told, read_lines, read_messages, told};
 use std::alloc::{AllocError, Global};
 use std::test::Fail;
-use wl_codec::{CodecFault, Line, Member, Reading, read_line, read_message};
+use wl_codec::{CodecFault, Member, read_line, read_message};
 use wl_types::Memory;
 
 const NO_JSON: [&[u8]; 11] = [
@@ -20,41 +20,76 @@ const NO_JSON: [&[u8]; 11] = [
     b"\xef\xbb\xbf{\"id\":1,\"op\":\"poll\"}",
 ];
 
-/// Whether the bytes are refused as no JSON text, as a message and as a line.
-fn is_no_json(alloc: Global, text: &[u8]) -> Result<bool, Memory> {
-    let message = read_message(alloc, text)?;
-    let line = read_line(alloc, text)?;
-    Ok(
-        matches!(message, Reading::Bad(None, CodecFault::BadJson))
-            && matches!(line, Line::Bad(None, CodecFault::BadJson)),
-    )
+const NO_JSON_TOLD: &str = "\
+BadJson/json, BadJson/json
+BadJson/json, BadJson/json
+BadJson/json, BadJson/json
+BadJson/json, BadJson/json
+BadJson/json, BadJson/json
+BadJson/json, BadJson/json
+BadJson/json, BadJson/json
+BadJson/json, BadJson/json
+BadJson/json, BadJson/json
+BadJson/json, BadJson/json
+BadJson/json, BadJson/json
+";
+
+/// Adds a line that says what the bytes are as a message, and what they are as a line.
+fn add_both(alloc: Global, came: &mut String, text: &[u8]) -> Result<(), Memory> {
+    let message = told(alloc, &read_message(alloc, text)?)?;
+    let line = line_told(alloc, &read_line(alloc, text)?)?;
+    write!(came, "{message}, {line}\n")?;
+    Ok(())
+}
+
+fn read_both(alloc: Global, texts: &[&[u8]]) -> Result<String, Memory> {
+    let mut came = String::new(alloc);
+    for text in texts {
+        add_both(alloc, &mut came, text)?;
+    }
+    Ok(came)
 }
 
 #[test]
 fn what_is_no_json_text_is_refused(rt: HostRuntime) -> Result<(), Fail> {
-    for text in NO_JSON {
-        assert!(rt; is_no_json(rt.alloc(), text)?, "{text:?}");
-    }
+    assert_eq!(rt; read_both(rt.alloc(), &NO_JSON)?.as_str(), NO_JSON_TOLD);
     Ok(())
 }
 
 /// A message to poll with arrays in it that nest so deep.
 fn nested(alloc: Global, levels: usize) -> Result<Vec<u8>, AllocError> {
     let mut text = Vec::from_slice(alloc, b"{\"id\":1,\"op\":\"poll\",\"x\":")?;
-    text.extend_from_slice(&vec![in alloc; b'['; levels]?)?;
-    text.extend_from_slice(&vec![in alloc; b']'; levels]?)?;
+    for _ in 0..levels {
+        text.push(b'[')?;
+    }
+    for _ in 0..levels {
+        text.push(b']')?;
+    }
     text.push(b'}')?;
     Ok(text)
 }
 
+const LEVELS: [usize; 4] = [100, 126, 127, 200];
+
+/// As a line it names no agent.
+const LEVELS_TOLD: &str = "\
+1 Poll, 1 TypeError/agent
+1 Poll, 1 TypeError/agent
+BadJson/json, BadJson/json
+BadJson/json, BadJson/json
+";
+
+fn read_nested(alloc: Global) -> Result<String, Memory> {
+    let mut came = String::new(alloc);
+    for levels in LEVELS {
+        add_both(alloc, &mut came, &nested(alloc, levels)?)?;
+    }
+    Ok(came)
+}
+
 #[test]
 fn a_message_nests_at_most_127_deep(rt: HostRuntime) -> Result<(), Fail> {
-    for (levels, is_read) in [(100, true), (126, true), (127, false), (200, false)] {
-        let text = nested(rt.alloc(), levels)?;
-        let read = read_message(rt.alloc(), &text)?;
-        assert!(rt; matches!(read, Reading::Good(_)) == is_read, "{levels}");
-        assert!(rt; is_read || is_no_json(rt.alloc(), &text)?, "{levels}");
-    }
+    assert_eq!(rt; read_nested(rt.alloc())?.as_str(), LEVELS_TOLD);
     Ok(())
 }
 
@@ -133,34 +168,49 @@ fn a_line_names_its_agent(rt: HostRuntime) -> Result<(), Fail> {
     Ok(())
 }
 
+const RULES: [(CodecFault, &str); 16] = [
+    (CodecFault::BadJson, "BadJson/json"),
+    (CodecFault::NotAnObject, "NotAnObject/json"),
+    (CodecFault::BadId, "BadId/id"),
+    (CodecFault::BadOp, "BadOp/op"),
+    (CodecFault::TypeError(Member::Agent), "TypeError/agent"),
+    (CodecFault::TypeError(Member::Url), "TypeError/url"),
+    (CodecFault::TypeError(Member::Kind), "TypeError/kind"),
+    (CodecFault::TypeError(Member::Name), "TypeError/name"),
+    (CodecFault::TypeError(Member::Options), "TypeError/options"),
+    (
+        CodecFault::TypeError(Member::IfAvailable),
+        "TypeError/ifAvailable",
+    ),
+    (CodecFault::TypeError(Member::Mode), "TypeError/mode"),
+    (CodecFault::TypeError(Member::Signal), "TypeError/signal"),
+    (CodecFault::TypeError(Member::Steal), "TypeError/steal"),
+    (CodecFault::TypeError(Member::Request), "TypeError/request"),
+    (CodecFault::TypeError(Member::Reason), "TypeError/reason"),
+    (CodecFault::TypeError(Member::Active), "TypeError/active"),
+];
+
+/// Whether the fault has this name and this rule, which is a member's word.
+fn is_named(fault: &CodecFault, name: &str, rule: &str) -> bool {
+    let word = match fault {
+        CodecFault::TypeError(member) => member.word(),
+        _ => rule,
+    };
+    fault.name() == name && fault.rule() == rule && word == rule
+}
+
+/// The first text that isn't that of its fault.
+fn misnamed() -> Option<&'static str> {
+    for (fault, text) in RULES {
+        let (name, rule) = text.split_once('/').unwrap_or((text, ""));
+        if !is_named(&fault, name, rule) {
+            return Some(text);
+        }
+    }
+    None
+}
+
 #[test]
 fn each_fault_has_a_name_and_a_rule(rt: HostRuntime) {
-    for (fault, rule) in [
-        (CodecFault::BadJson, "BadJson/json"),
-        (CodecFault::NotAnObject, "NotAnObject/json"),
-        (CodecFault::BadId, "BadId/id"),
-        (CodecFault::BadOp, "BadOp/op"),
-    ] {
-        assert!(rt;
-            rule.split_once('/') == Some((fault.name(), fault.rule())),
-            "{fault:?}"
-        );
-    }
-    let members = [
-        (Member::Agent, "agent"),
-        (Member::Url, "url"),
-        (Member::Kind, "kind"),
-        (Member::Name, "name"),
-        (Member::Options, "options"),
-        (Member::IfAvailable, "ifAvailable"),
-        (Member::Mode, "mode"),
-        (Member::Signal, "signal"),
-        (Member::Steal, "steal"),
-        (Member::Request, "request"),
-        (Member::Reason, "reason"),
-        (Member::Active, "active"),
-    ];
-    for (member, word) in members {
-        assert_eq!(rt; member.word(), word);
-    }
+    assert_eq!(rt; misnamed(), None);
 }

@@ -1,5 +1,8 @@
 //! Each growth refused in turn.
 
+ghost use Rattle.std.specs.Prelude.{All, IfOk};
+ghost use Rattle.wl_codec.specs.Replies.{IsTold};
+
 use std::alloc::Global;
 use std::test::Fail;
 use wl_codec::{Body, Line, Notice, Notices, Outcome, WireReply, read_line, write_reply};
@@ -22,31 +25,44 @@ fn is_read(line: &Line) -> bool {
     agent.as_str() == "a" && ask.name.as_str() == "db" && ask.mode == Mode::Shared
 }
 
-/// A line or a reply that is refused memory is no fault and no shorter text.
-fn try_both(alloc: Global) -> Result<(), Fail> {
+/// A line that is refused memory is no fault.
+fn try_line(alloc: Global) -> Result<(), Fail> {
     match read_line(alloc, LINE) {
-        Ok(line) if is_read(&line) => {}
-        Ok(_) => return refused(false),
-        Err(Memory) => return refused(is_read(&read_line(alloc, LINE)?)),
+        Ok(line) if is_read(&line) => Ok(()),
+        Ok(_) => refused(false),
+        Err(Memory) => refused(is_read(&read_line(alloc, LINE)?)),
     }
+}
+
+/// A request that was granted.
+fn granted(alloc: Global) -> Result<WireReply, Memory>
+    ensures { IfOk result (λ reply. All (λ n. IsTold n.phase) reply.notices) }
+{
     let mut notices = Notices::new(alloc);
     notices.push(Notice {
         request: 1,
         phase: Phase::Taken,
     })?;
-    let reply = WireReply {
+    Ok(WireReply {
         id: Some(1),
         notices,
         outcome: Outcome::Request(1),
-    };
-    match write_reply(alloc, &reply) {
+    })
+}
+
+/// A reply that is refused memory is no shorter text.
+fn try_reply(alloc: Global, reply: &WireReply) -> Result<(), Fail>
+    requires { All (λ n. IsTold n.phase) reply.now.notices }
+{
+    match write_reply(alloc, reply) {
         Ok(text) if text.as_str() == TEXT => Ok(()),
         Ok(_) => refused(false),
-        Err(Memory) => refused(write_reply(alloc, &reply)?.as_str() == TEXT),
+        Err(Memory) => refused(write_reply(alloc, reply)?.as_str() == TEXT),
     }
 }
 
 #[test]
 fn a_refused_growth_is_no_fault(rt: HostRuntime) -> Result<(), Fail> {
-    try_both(rt.alloc())
+    try_line(rt.alloc())?;
+    try_reply(rt.alloc(), &granted(rt.alloc())?)
 }

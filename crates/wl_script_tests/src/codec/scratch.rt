@@ -2,7 +2,6 @@
 
 use super::{line_told, told};
 use std::alloc::{AllocError, Global};
-use std::process::Abort;
 use std::test::Fail;
 use wl_codec::{Body, Reading, Scratch, read_line_with, read_message_with};
 use wl_types::Memory;
@@ -28,70 +27,57 @@ fn is_request_of(reading: &Reading, letters: usize) -> bool {
     message.id == 1 && name.len() == letters && name.iter().all(|byte| *byte == b'a')
 }
 
-/// Reads such a message, and then a half of it, with the scratch.
+fn is_read(alloc: Global, scratch: &mut Scratch, long: &[u8]) -> Result<bool, Memory> {
+    Ok(is_request_of(&read_message_with(alloc, long, scratch)?, 5000))
+}
+
+fn is_no_json(alloc: Global, scratch: &mut Scratch, half: &[u8]) -> Result<bool, Memory> {
+    let read = read_message_with(alloc, half, scratch)?;
+    Ok(told(alloc, &read)?.as_str() == "BadJson/json")
+}
+
+/// Reads a long message, and then a half of it, with the scratch.
 fn read_long(alloc: Global, scratch: &mut Scratch) -> Result<bool, Memory> {
     let long = escaped_request(alloc, 5000)?;
-    let whole = read_message_with(alloc, &long, scratch)?;
-    let half = read_message_with(alloc, &long[..long.len() / 2], scratch)?;
-    Ok(is_request_of(&whole, 5000) && told(alloc, &half)?.as_str() == "BadJson/json")
+    Ok(is_read(alloc, scratch, &long)? && is_no_json(alloc, scratch, &long[..long.len() / 2])?)
 }
 
-/// Wants the message to be read so with the scratch.
-fn assert_read<R: Abort>(
-    rt: &R,
-    alloc: Global,
-    scratch: &mut Scratch,
-    text: &[u8],
-    wanted: &str,
-) -> Result<(), Memory> {
-    let read = read_message_with(alloc, text, scratch)?;
-    assert_eq!(rt; told(alloc, &read)?.as_str(), wanted);
-    Ok(())
+/// Reads the messages and lines of a list with the scratch, and gives the list as it came out. A row is a text, an
+/// arrow and what it is; a text that begins with its agent is read as a line.
+fn read_all(alloc: Global, scratch: &mut Scratch, list: &str) -> Result<String, Memory> {
+    let mut came = String::new(alloc);
+    for row in list.lines() {
+        let (text, _) = row.split_once(" -> ").unwrap_or((row, ""));
+        let read = read(alloc, scratch, text)?;
+        write!(came, "{text} -> {read}\n")?;
+    }
+    Ok(came)
 }
 
-/// The same of a line.
-fn assert_line<R: Abort>(
-    rt: &R,
-    alloc: Global,
-    scratch: &mut Scratch,
-    text: &[u8],
-    wanted: &str,
-) -> Result<(), Memory> {
-    let read = read_line_with(alloc, text, scratch)?;
-    assert_eq!(rt; line_told(alloc, &read)?.as_str(), wanted);
-    Ok(())
+fn read(alloc: Global, scratch: &mut Scratch, text: &str) -> Result<String, Memory> {
+    if text.starts_with("{\"agent\"") {
+        line_told(alloc, &read_line_with(alloc, text.as_bytes(), scratch)?)
+    } else {
+        told(alloc, &read_message_with(alloc, text.as_bytes(), scratch)?)
+    }
 }
+
+/// Behind a long message. Of two members of one name the last counts; a number is at most the largest double.
+const LIST: &str = r#"{"id":2,"op":"p\u006fll"} -> 2 Poll
+{"agent":"\u0062","id":3,"op":"close"} -> b: 3 Close
+{"agent" -> BadJson/json
+ -> BadJson/json
+{"id":1,"op":"poll","x":1e309} -> BadJson/json
+{"id":1,"op":"poll","x":[0,[-1e309]]} -> BadJson/json
+{"id":1,"op":"poll","x":{"y":[],"z":1e309}} -> BadJson/json
+{"id":1,"x":1e309,"op":"poll","x":0} -> BadJson/json
+{"id":1,"op":"poll","x":[1e308,-1e308,1e-400,18446744073709551616,-9223372036854775809,-0]} -> 1 Poll
+"#;
 
 #[test]
 fn one_scratch_serves_messages_and_lines(rt: HostRuntime) -> Result<(), Fail> {
-    let alloc = rt.alloc();
-    let mut scratch = Scratch::new(alloc);
-    assert!(rt; read_long(alloc, &mut scratch)?);
-    let poll = b"{\"id\":2,\"op\":\"p\\u006fll\"}";
-    assert_read(&rt, alloc, &mut scratch, poll, "2 Poll")?;
-    let close = b"{\"agent\":\"\\u0062\",\"id\":3,\"op\":\"close\"}";
-    assert_line(&rt, alloc, &mut scratch, close, "b: 3 Close")?;
-    assert_line(&rt, alloc, &mut scratch, b"", "BadJson/json")?;
-    Ok(())
-}
-
-const BEYOND_THE_LARGEST: [&[u8]; 4] = [
-    b"{\"id\":1,\"op\":\"poll\",\"x\":1e309}",
-    b"{\"id\":1,\"op\":\"poll\",\"x\":[0,[-1e309]]}",
-    b"{\"id\":1,\"op\":\"poll\",\"x\":{\"y\":[],\"z\":1e309}}",
-    b"{\"id\":1,\"x\":1e309,\"op\":\"poll\",\"x\":0}",
-];
-
-const WITHIN: &[u8] =
-    b"{\"id\":1,\"op\":\"poll\",\"x\":[1e308,-1e308,1e-400,18446744073709551616,-9223372036854775809,-0]}";
-
-#[test]
-fn a_number_is_at_most_the_largest_double(rt: HostRuntime) -> Result<(), Fail> {
-    let alloc = rt.alloc();
-    let mut scratch = Scratch::new(alloc);
-    for text in BEYOND_THE_LARGEST {
-        assert_read(&rt, alloc, &mut scratch, text, "BadJson/json")?;
-    }
-    assert_read(&rt, alloc, &mut scratch, WITHIN, "1 Poll")?;
+    let mut scratch = Scratch::new(rt.alloc());
+    assert!(rt; read_long(rt.alloc(), &mut scratch)?);
+    assert_eq!(rt; read_all(rt.alloc(), &mut scratch, LIST)?.as_str(), LIST);
     Ok(())
 }

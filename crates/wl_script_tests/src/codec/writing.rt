@@ -1,5 +1,8 @@
 //! The texts of replies.
 
+ghost use Rattle.std.specs.Prelude.{All, IfOk};
+ghost use Rattle.wl_codec.specs.Replies.{IsTold};
+
 use std::alloc::Global;
 use std::test::Fail;
 use wl_codec::{CodecFault, Member, Notice, Notices, Outcome, WireReply, write_reply};
@@ -7,6 +10,59 @@ use wl_types::{
     AbortAnswer, Infos, LockInfo, Memory, Mode, Name, Phase, Reason, Refusal, ReleaseAnswer,
     Snapshot,
 };
+
+/// The text of a reply without notices.
+fn written(alloc: Global, id: Option<u64>, outcome: Outcome) -> Result<String, Memory> {
+    let reply = WireReply {
+        id,
+        notices: Notices::new(alloc),
+        outcome,
+    };
+    write_reply(alloc, &reply)
+}
+
+/// What stands between the two in a text that has them at its ends; else the whole text.
+fn between<'a>(text: &'a str, before: &str, behind: &str) -> &'a str {
+    match text.strip_prefix(before) {
+        Some(rest) => rest.strip_suffix(behind).unwrap_or(text),
+        None => text,
+    }
+}
+
+const ANSWERS: [&str; 13] = [
+    r#"{"client":"client-12"}"#,
+    r#"{"client":null}"#,
+    r#"{"signal":9007199254740991}"#,
+    r#"{"request":0}"#,
+    r#"{"release":"released"}"#,
+    r#"{"release":"not-held"}"#,
+    r#"{"abort":"done"}"#,
+    r#"{"abort":"already-aborted"}"#,
+    r#"{"active":true}"#,
+    r#"{"active":false}"#,
+    r#"{"held":[],"pending":[]}"#,
+    "{}",
+    "{}",
+];
+
+/// The outcomes of these answers, by their place.
+fn answer(alloc: Global, place: usize) -> Outcome {
+    match place {
+        0 => Outcome::Client(Some(12)),
+        1 => Outcome::Client(None),
+        2 => Outcome::Signal(9007199254740991),
+        3 => Outcome::Request(0),
+        4 => Outcome::Release(ReleaseAnswer::Released),
+        5 => Outcome::Release(ReleaseAnswer::NotHeld),
+        6 => Outcome::Abort(AbortAnswer::Done),
+        7 => Outcome::Abort(AbortAnswer::AlreadyAborted),
+        8 => Outcome::Active(true),
+        9 => Outcome::Active(false),
+        10 => Outcome::Seen(no_locks(alloc)),
+        11 => Outcome::Polled,
+        _ => Outcome::Closed,
+    }
+}
 
 fn no_locks(alloc: Global) -> Snapshot {
     Snapshot {
@@ -17,95 +73,55 @@ fn no_locks(alloc: Global) -> Snapshot {
 
 #[test]
 fn each_outcome_has_its_text(rt: HostRuntime) -> Result<(), Fail> {
-    let alloc = rt.alloc();
-    let answers = [
-        (Outcome::Client(Some(12)), "{\"client\":\"client-12\"}"),
-        (Outcome::Client(None), "{\"client\":null}"),
-        (
-            Outcome::Signal(9007199254740991),
-            "{\"signal\":9007199254740991}",
-        ),
-        (Outcome::Request(0), "{\"request\":0}"),
-        (
-            Outcome::Release(ReleaseAnswer::Released),
-            "{\"release\":\"released\"}",
-        ),
-        (
-            Outcome::Release(ReleaseAnswer::NotHeld),
-            "{\"release\":\"not-held\"}",
-        ),
-        (Outcome::Abort(AbortAnswer::Done), "{\"abort\":\"done\"}"),
-        (
-            Outcome::Abort(AbortAnswer::AlreadyAborted),
-            "{\"abort\":\"already-aborted\"}",
-        ),
-        (Outcome::Active(true), "{\"active\":true}"),
-        (Outcome::Active(false), "{\"active\":false}"),
-        (
-            Outcome::Seen(no_locks(alloc)),
-            "{\"held\":[],\"pending\":[]}",
-        ),
-        (Outcome::Polled, "{}"),
-        (Outcome::Closed, "{}"),
-    ];
-    for (outcome, answer) in answers {
-        let reply = WireReply {
-            id: Some(6),
-            notices: Notices::new(alloc),
-            outcome,
-        };
-        let wanted = format!(in alloc; "{{\"id\":6,\"notices\":[],\"ok\":{answer}}}")?;
-        assert_eq!(rt; write_reply(alloc, &reply)?.as_str(), wanted.as_str());
+    for (place, wanted) in ANSWERS.iter().enumerate() {
+        let text = written(rt.alloc(), Some(6), answer(rt.alloc(), place))?;
+        let shown = between(text.as_str(), r#"{"id":6,"notices":[],"ok":"#, "}");
+        assert_eq!(rt; shown, *wanted);
     }
     Ok(())
+}
+
+const ERRORS: [&str; 8] = [
+    r#"{"name":"InvalidStateError","rule":"inactive"}"#,
+    r#"{"name":"TimeoutError","rule":"signal-aborted"}"#,
+    r#"{"name":"Limit","rule":"name-length"}"#,
+    r#"{"name":"BadJson","rule":"json"}"#,
+    r#"{"name":"TypeError","rule":"ifAvailable"}"#,
+    r#"{"name":"NotOpen","rule":"session"}"#,
+    r#"{"name":"AlreadyOpen","rule":"session"}"#,
+    r#"{"name":"BadUrl","rule":"url"}"#,
+];
+
+/// The outcomes of these errors, by their place.
+fn error(place: usize) -> Outcome {
+    match place {
+        0 => Outcome::Refused(Refusal::InvalidState),
+        1 => Outcome::Refused(Refusal::SignalAborted(Reason::TimeoutError)),
+        2 => Outcome::Refused(Refusal::NameTooLong),
+        3 => Outcome::Fault(CodecFault::BadJson),
+        4 => Outcome::Fault(CodecFault::TypeError(Member::IfAvailable)),
+        5 => Outcome::NotOpen,
+        6 => Outcome::AlreadyOpen,
+        _ => Outcome::BadUrl,
+    }
 }
 
 #[test]
 fn each_error_has_its_name_and_rule(rt: HostRuntime) -> Result<(), Fail> {
-    let alloc = rt.alloc();
-    let errors = [
-        (
-            Outcome::Refused(Refusal::InvalidState),
-            "InvalidStateError",
-            "inactive",
-        ),
-        (
-            Outcome::Refused(Refusal::SignalAborted(Reason::TimeoutError)),
-            "TimeoutError",
-            "signal-aborted",
-        ),
-        (
-            Outcome::Refused(Refusal::NameTooLong),
-            "Limit",
-            "name-length",
-        ),
-        (Outcome::Fault(CodecFault::BadJson), "BadJson", "json"),
-        (
-            Outcome::Fault(CodecFault::TypeError(Member::IfAvailable)),
-            "TypeError",
-            "ifAvailable",
-        ),
-        (Outcome::NotOpen, "NotOpen", "session"),
-        (Outcome::AlreadyOpen, "AlreadyOpen", "session"),
-        (Outcome::BadUrl, "BadUrl", "url"),
-    ];
-    for (outcome, name, rule) in errors {
-        let reply = WireReply {
-            id: None,
-            notices: Notices::new(alloc),
-            outcome,
-        };
-        let wanted = format!(in alloc;
-            "{{\"error\":{{\"name\":\"{name}\",\"rule\":\"{rule}\"}},\"id\":null,\"notices\":[]}}"
-        )?;
-        assert_eq!(rt; write_reply(alloc, &reply)?.as_str(), wanted.as_str());
+    for (place, wanted) in ERRORS.iter().enumerate() {
+        let text = written(rt.alloc(), None, error(place))?;
+        let shown = between(text.as_str(), r#"{"error":"#, r#","id":null,"notices":[]}"#);
+        assert_eq!(rt; shown, *wanted);
     }
     Ok(())
 }
 
-#[test]
-fn notices_keep_their_order(rt: HostRuntime) -> Result<(), Fail> {
-    let alloc = rt.alloc();
+const NEWS_TOLD: &str =
+    r#"{"id":2,"notices":[{"phase":"granted","request":3},{"phase":"unavailable","request":1},{"phase":"aborted","reason":"AbortError","request":4},{"phase":"stolen","request":5}],"ok":{}}"#;
+
+fn news(alloc: Global) -> Result<Notices, Memory>
+    ensures { IfOk result (λ notices. All (λ n. IsTold n.phase) notices) }
+{
     let mut notices = Notices::new(alloc);
     notices.push(Notice {
         request: 3,
@@ -123,51 +139,45 @@ fn notices_keep_their_order(rt: HostRuntime) -> Result<(), Fail> {
         request: 5,
         phase: Phase::Stolen,
     })?;
-    assert_eq!(rt; notices.as_slice().len(), 4);
-    let reply = WireReply {
-        id: Some(2),
-        notices,
-        outcome: Outcome::Polled,
-    };
-    assert_eq!(rt;
-        write_reply(alloc, &reply)?.as_str(),
-        "{\"id\":2,\"notices\":[{\"phase\":\"granted\",\"request\":3},{\"phase\":\"unavailable\",\"request\":1},{\"phase\":\"aborted\",\"reason\":\"AbortError\",\"request\":4},{\"phase\":\"stolen\",\"request\":5}],\"ok\":{}}"
-    );
-    Ok(())
-}
-
-fn info(alloc: Global, name: &str, mode: Mode, client: u64) -> Result<LockInfo, Refusal> {
-    let name = Name::of(alloc, name)?;
-    Ok(LockInfo { name, mode, client })
-}
-
-/// A snapshot in which agent 1 holds a lock of this name, and nobody waits.
-fn one_lock(alloc: Global, name: &str) -> Result<Snapshot, Fail> {
-    let mut seen = no_locks(alloc);
-    seen.held.push(info(alloc, name, Mode::Exclusive, 1)?)?;
-    Ok(seen)
-}
-
-/// The text of a reply that shows it.
-fn shown(alloc: Global, seen: Snapshot) -> Result<String, Memory> {
-    let reply = WireReply {
-        id: Some(1),
-        notices: Notices::new(alloc),
-        outcome: Outcome::Seen(seen),
-    };
-    write_reply(alloc, &reply)
+    Ok(notices)
 }
 
 #[test]
+fn notices_keep_their_order(rt: HostRuntime) -> Result<(), Fail> {
+    let reply = WireReply {
+        id: Some(2),
+        notices: news(rt.alloc())?,
+        outcome: Outcome::Polled,
+    };
+    assert_eq!(rt; reply.notices.as_slice().len(), 4);
+    assert_eq!(rt; write_reply(rt.alloc(), &reply)?.as_str(), NEWS_TOLD);
+    Ok(())
+}
+
+/// Adds a lock or a request of this name.
+fn add(alloc: Global, infos: &mut Infos, name: &str, mode: Mode, client: u64) -> Result<(), Fail> {
+    let name = Name::of(alloc, name)?;
+    infos.push(LockInfo { name, mode, client })?;
+    Ok(())
+}
+
+/// The text of a reply that shows that the first agent holds a lock of this name, and that agents up to the last wait
+/// for one of the name `db`.
+fn shown(alloc: Global, name: &str, last: u64) -> Result<String, Fail> {
+    let mut seen = no_locks(alloc);
+    add(alloc, &mut seen.held, name, Mode::Exclusive, 1)?;
+    for client in 2..=last {
+        add(alloc, &mut seen.pending, "db", Mode::Shared, client)?;
+    }
+    Ok(written(alloc, Some(1), Outcome::Seen(seen))?)
+}
+
+const SEEN: &str =
+    r#"{"id":1,"notices":[],"ok":{"held":[{"clientId":"client-1","mode":"exclusive","name":"db"}],"pending":[{"clientId":"client-2","mode":"shared","name":"db"},{"clientId":"client-3","mode":"shared","name":"db"}]}}"#;
+
+#[test]
 fn a_snapshot_shows_what_is_held_and_what_waits(rt: HostRuntime) -> Result<(), Fail> {
-    let alloc = rt.alloc();
-    let mut seen = one_lock(alloc, "db")?;
-    seen.pending.push(info(alloc, "db", Mode::Shared, 2)?)?;
-    seen.pending.push(info(alloc, "db", Mode::Shared, 3)?)?;
-    assert_eq!(rt;
-        shown(alloc, seen)?.as_str(),
-        "{\"id\":1,\"notices\":[],\"ok\":{\"held\":[{\"clientId\":\"client-1\",\"mode\":\"exclusive\",\"name\":\"db\"}],\"pending\":[{\"clientId\":\"client-2\",\"mode\":\"shared\",\"name\":\"db\"},{\"clientId\":\"client-3\",\"mode\":\"shared\",\"name\":\"db\"}]}}"
-    );
+    assert_eq!(rt; shown(rt.alloc(), "db", 3)?.as_str(), SEEN);
     Ok(())
 }
 
@@ -185,14 +195,18 @@ const ESCAPED: [(&str, &str); 8] = [
     ),
 ];
 
+const BEFORE_THE_NAME: &str =
+    r#"{"id":1,"notices":[],"ok":{"held":[{"clientId":"client-1","mode":"exclusive","name":""#;
+
+fn is_written(alloc: Global, name: &str, wanted: &str) -> Result<bool, Fail> {
+    let text = shown(alloc, name, 1)?;
+    Ok(between(text.as_str(), BEFORE_THE_NAME, r#""}],"pending":[]}}"#) == wanted)
+}
+
 #[test]
 fn names_are_escaped_only_where_json_asks_for_it(rt: HostRuntime) -> Result<(), Fail> {
-    for (name, written) in ESCAPED {
-        let text = shown(rt.alloc(), one_lock(rt.alloc(), name)?)?;
-        let wanted = format!(in rt.alloc();
-            "{{\"id\":1,\"notices\":[],\"ok\":{{\"held\":[{{\"clientId\":\"client-1\",\"mode\":\"exclusive\",\"name\":\"{written}\"}}],\"pending\":[]}}}}"
-        )?;
-        assert_eq!(rt; text.as_str(), wanted.as_str());
+    for (name, wanted) in ESCAPED {
+        assert!(rt; is_written(rt.alloc(), name, wanted)?);
     }
     Ok(())
 }

@@ -1,8 +1,8 @@
 //! What an audit writes.
 
-use super::fakes::{AMPLE, Full, in_pieces, then_failing, writer_with_room};
+use super::runs::plain;
 use std::test::Fail;
-use wl_script::{ScriptFault, audit};
+use wl_script::ScriptFault;
 
 /// At one origin an agent opens, and is granted a lock. At another an agent opens.
 const SCRIPT: &[u8] = b"{\"agent\":\"z\",\"id\":1,\"op\":\"open\",\"url\":\"https://z.test/\"}
@@ -10,34 +10,27 @@ const SCRIPT: &[u8] = b"{\"agent\":\"z\",\"id\":1,\"op\":\"open\",\"url\":\"http
 {\"agent\":\"a\",\"id\":3,\"name\":\"db\",\"op\":\"request\"}
 ";
 
-/// The lock was asked for and taken.
+/// The lock was asked for and taken. Each line has 53 bytes.
 const LINES: &str = "{\"entries\":3,\"legal\":true,\"origin\":\"https://a.test\"}
 {\"entries\":1,\"legal\":true,\"origin\":\"https://z.test\"}
 ";
 
+/// Whether the reader fails at its end, the room of the writer, how the audit ends, and how many bytes it writes. None
+/// are written before the script's end was read; a failed write says how many origins were.
+const AUDITS: [(bool, usize, Result<u64, ScriptFault>, usize); 3] = [
+    (false, 1000, Ok(2), 106),
+    (true, 1000, Err(ScriptFault::Read(3)), 0),
+    (false, 60, Err(ScriptFault::Write(1)), 60),
+];
+
 #[test]
 fn each_origin_has_a_line(rt: HostRuntime) -> Result<(), Fail> {
-    let mut writer = writer_with_room(rt.alloc(), AMPLE, Full::Fails)?;
-    let ended = audit(rt.alloc(), &mut in_pieces(SCRIPT, 7), &mut writer);
-    assert_eq!(rt; ended, Ok(2));
-    assert_eq!(rt; writer.bytes.as_slice(), LINES.as_bytes());
-    Ok(())
-}
-
-#[test]
-fn nothing_is_written_before_the_end_of_the_script(rt: HostRuntime) -> Result<(), Fail> {
-    let mut writer = writer_with_room(rt.alloc(), AMPLE, Full::Fails)?;
-    let ended = audit(rt.alloc(), &mut then_failing(SCRIPT, 1000), &mut writer);
-    assert_eq!(rt; ended, Err(ScriptFault::Read(3)));
-    assert!(rt; writer.bytes.is_empty());
-    Ok(())
-}
-
-#[test]
-fn a_failed_write_says_how_many_origins_were_written(rt: HostRuntime) -> Result<(), Fail> {
-    let mut writer = writer_with_room(rt.alloc(), 60, Full::Fails)?;
-    let ended = audit(rt.alloc(), &mut in_pieces(SCRIPT, 1000), &mut writer);
-    assert_eq!(rt; ended, Err(ScriptFault::Write(1)));
-    assert_eq!(rt; writer.bytes.as_slice(), &LINES.as_bytes()[..60]);
+    for (fails, room, result, bytes) in AUDITS {
+        let mut run = plain(SCRIPT, 7);
+        run.fails = fails;
+        run.room = room;
+        let ended = run.audit_ends(rt.alloc(), LINES)?;
+        assert_eq!(rt; (ended.result, ended.written), (result, Some(bytes)));
+    }
     Ok(())
 }

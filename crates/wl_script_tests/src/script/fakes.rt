@@ -22,21 +22,12 @@ pub const REPLIES: &str =
 /// Where the replies end.
 pub const ENDS: [usize; 4] = [0, 66, 132, 198];
 
-/// Room for any replies that a test wants.
-pub const AMPLE: usize = 1000;
-
-/// The reply to a line that is no JSON.
-const BAD_JSON: &str =
-    "{\"error\":{\"name\":\"BadJson\",\"rule\":\"json\"},\"id\":null,\"notices\":[]}\n";
-
-/// The replies to so many lines that are no JSON.
-pub fn bad_json(alloc: Global, lines: u64) -> Result<String, AllocError> {
-    let mut text = String::new(alloc);
-    for _ in 0..lines {
-        text.push_str(BAD_JSON)?;
-    }
-    Ok(text)
-}
+/// The replies to three lines that are no JSON, of 66 bytes each.
+pub const BAD_JSON: &str =
+    "{\"error\":{\"name\":\"BadJson\",\"rule\":\"json\"},\"id\":null,\"notices\":[]}
+{\"error\":{\"name\":\"BadJson\",\"rule\":\"json\"},\"id\":null,\"notices\":[]}
+{\"error\":{\"name\":\"BadJson\",\"rule\":\"json\"},\"id\":null,\"notices\":[]}
+";
 
 /// Gives its bytes in pieces of at most so many. At their end it fails, if it is to.
 #[derive(Drop)]
@@ -108,12 +99,7 @@ pub struct Room {
     failures: u64,
 }
 
-/// A writer that takes pieces whole, up to so many bytes in all. It never grows.
-pub fn writer_with_room(alloc: Global, room: usize, full: Full) -> Result<Room, AllocError> {
-    slow_writer(alloc, room, room, full)
-}
-
-/// The same, at most so many bytes a call.
+/// A writer that takes so many bytes in all, and at most so many a call. It never grows.
 pub fn slow_writer(
     alloc: Global,
     room: usize,

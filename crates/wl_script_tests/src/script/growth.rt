@@ -1,10 +1,10 @@
 //! Each growth refused in turn.
 
-use super::fakes::{AMPLE, Full, in_pieces, writer_with_room};
+use super::runs::plain;
 use std::alloc::Global;
 use std::test::Fail;
 use wl_samples::refused;
-use wl_script::{ScriptFault, run};
+use wl_script::ScriptFault;
 
 const SCRIPT: &[u8] = b"{\"agent\":\"a\",\"id\":1,\"op\":\"open\",\"url\":\"https://a.test/\"}
 {\"agent\":\"a\",\"id\":2,\"name\":\"db\",\"op\":\"request\"}
@@ -19,22 +19,13 @@ const ENDS: [usize; 3] = [0, 49, 121];
 
 /// A run that is refused memory says how many lines were answered, and just their replies are written.
 fn try_run(alloc: Global) -> Result<(), Fail> {
-    let mut reader = in_pieces(SCRIPT, 100);
-    let mut writer = writer_with_room(alloc, AMPLE, Full::Fails)?;
-    let result = run(alloc, &mut reader, &mut writer);
-    let written = writer.bytes.as_slice();
-    match result {
-        Ok(2) if written == REPLIES.as_bytes() => Ok(()),
-        Err(ScriptFault::Memory(answered)) => refused(is_answered(written, answered)),
+    let ended = plain(SCRIPT, 100).ends(alloc, REPLIES)?;
+    match ended.result {
+        Ok(2) if ended.written == Some(121) => Ok(()),
+        Err(ScriptFault::Memory(lines)) => refused(
+            ended.written.is_some() && ended.written == ENDS.get(lines as usize).copied(),
+        ),
         _ => refused(false),
-    }
-}
-
-/// Whether just the replies to so many lines are written.
-fn is_answered(written: &[u8], answered: u64) -> bool {
-    match ENDS.get(answered as usize) {
-        Some(end) => written.len() == *end && REPLIES.as_bytes().starts_with(written),
-        None => false,
     }
 }
 

@@ -1,33 +1,41 @@
 //! Lines at and over their limit, and reads.
 
-use super::fakes::{
-    AMPLE, ENDS, Full, REPLIES, SCRIPT, bad_json, in_pieces, then_failing, writer_with_room,
-};
+use super::fakes::{BAD_JSON, REPLIES, SCRIPT};
+use super::runs::{Ended, plain};
+use std::alloc::{AllocError, Global};
 use std::test::Fail;
-use wl_script::{Limits, ScriptFault, run, run_with};
+use wl_script::ScriptFault;
+
+/// How a run ends whose lines have at most eight bytes, and which reads at most so often.
+fn ends(alloc: Global, script: &[u8], piece: usize, turns: u32) -> Result<Ended, AllocError> {
+    let mut run = plain(script, piece);
+    run.limits = Some((8, turns));
+    let wanted = if script == SCRIPT { REPLIES } else { BAD_JSON };
+    run.ends(alloc, wanted)
+}
+
+/// Scripts, how their runs end, and how many bytes are written.
+const LONG_LINES: [(&str, Result<u64, ScriptFault>, usize); 5] = [
+    ("abcdefgh\n", Ok(1), 66),
+    ("abcdefgh", Ok(1), 66),
+    ("abcdefghi\n", Err(ScriptFault::LineTooLong(0)), 0),
+    ("abcdefghi", Err(ScriptFault::LineTooLong(0)), 0),
+    (
+        "ab\n\nabcdefghi\nab\n",
+        Err(ScriptFault::LineTooLong(2)),
+        132,
+    ),
+];
 
 #[test]
 fn a_line_may_be_as_long_as_the_limit(rt: HostRuntime) -> Result<(), Fail> {
-    let limits = Limits {
-        line: 8,
-        turns: 1000,
-    };
-    let cases = [
-        ("abcdefgh\n", Ok(1), 1),
-        ("abcdefgh", Ok(1), 1),
-        ("abcdefghi\n", Err(ScriptFault::LineTooLong(0)), 0),
-        ("abcdefghi", Err(ScriptFault::LineTooLong(0)), 0),
-        ("ab\n\nabcdefghi\nab\n", Err(ScriptFault::LineTooLong(2)), 2),
-    ];
-    for (script, answer, replies) in cases {
+    for (script, result, bytes) in LONG_LINES {
         for piece in [1, 5, 100] {
-            let mut reader = in_pieces(script.as_bytes(), piece);
-            let mut writer = writer_with_room(rt.alloc(), AMPLE, Full::Fails)?;
-            let result = run_with(rt.alloc(), &mut reader, &mut writer, limits);
-            assert_eq!(rt; result, answer, "{script:?} in pieces of {piece}");
-            assert!(rt;
-                writer.bytes.as_slice() == bad_json(rt.alloc(), replies)?.as_str().as_bytes(),
-                "{script:?} in pieces of {piece}"
+            let ended = ends(rt.alloc(), script.as_bytes(), piece, 1000)?;
+            assert_eq!(rt;
+                (ended.result, ended.written),
+                (result, Some(bytes)),
+                "{script:?} {piece}"
             );
         }
     }
@@ -37,50 +45,48 @@ fn a_line_may_be_as_long_as_the_limit(rt: HostRuntime) -> Result<(), Fail> {
 #[test]
 fn a_line_is_too_long_before_its_end_was_read(rt: HostRuntime) -> Result<(), Fail> {
     // The ninth byte is the last before the reader fails.
-    let mut reader = then_failing(b"abcdefghi".as_slice(), 3);
-    let mut writer = writer_with_room(rt.alloc(), AMPLE, Full::Fails)?;
-    let limits = Limits {
-        line: 8,
-        turns: 1000,
-    };
-    let result = run_with(rt.alloc(), &mut reader, &mut writer, limits);
-    assert_eq!(rt; result, Err(ScriptFault::LineTooLong(0)));
+    let mut run = plain(b"abcdefghi", 3);
+    run.fails = true;
+    run.limits = Some((8, 1000));
+    let ended = run.ends(rt.alloc(), "")?;
+    assert_eq!(rt; ended.result, Err(ScriptFault::LineTooLong(0)));
     Ok(())
+}
+
+/// How a run of one line of so many bytes ends.
+fn long_line_ends(alloc: Global, bytes: usize) -> Result<Ended, AllocError> {
+    let script = vec![in alloc; 120; bytes]?;
+    plain(&script, 100_000).ends(alloc, BAD_JSON)
 }
 
 #[test]
 fn a_line_without_limits_of_its_own_has_65536_bytes(rt: HostRuntime) -> Result<(), Fail> {
-    for (bytes, answer) in [(65_536, Ok(1)), (65_537, Err(ScriptFault::LineTooLong(0)))] {
-        let script = vec![in rt.alloc(); 120; bytes]?;
-        let mut reader = in_pieces(&script, 100_000);
-        let mut writer = writer_with_room(rt.alloc(), AMPLE, Full::Fails)?;
+    for (bytes, result) in [(65_536, Ok(1)), (65_537, Err(ScriptFault::LineTooLong(0)))] {
         assert_eq!(rt;
-            run(rt.alloc(), &mut reader, &mut writer),
-            answer,
+            long_line_ends(rt.alloc(), bytes)?.result,
+            result,
             "{bytes} bytes"
         );
     }
     Ok(())
 }
 
+/// Eighteen bytes are read, one a read, and then the end.
+const TURNS: [(u32, Result<u64, ScriptFault>, usize); 5] = [
+    (0, Err(ScriptFault::TooManyTurns(0)), 0),
+    (8, Err(ScriptFault::TooManyTurns(0)), 0),
+    (9, Err(ScriptFault::TooManyTurns(1)), 66),
+    (18, Err(ScriptFault::TooManyTurns(2)), 132),
+    (19, Ok(3), 198),
+];
+
 #[test]
 fn the_read_that_finds_the_end_counts(rt: HostRuntime) -> Result<(), Fail> {
-    // Eighteen bytes, one a read, and the end.
-    let cases = [
-        (0, Err(ScriptFault::TooManyTurns(0)), ENDS[0]),
-        (8, Err(ScriptFault::TooManyTurns(0)), ENDS[0]),
-        (9, Err(ScriptFault::TooManyTurns(1)), ENDS[1]),
-        (18, Err(ScriptFault::TooManyTurns(2)), ENDS[2]),
-        (19, Ok(3), ENDS[3]),
-    ];
-    for (turns, answer, end) in cases {
-        let mut reader = in_pieces(SCRIPT, 1);
-        let mut writer = writer_with_room(rt.alloc(), AMPLE, Full::Fails)?;
-        let limits = Limits { line: 8, turns };
-        let result = run_with(rt.alloc(), &mut reader, &mut writer, limits);
-        assert_eq!(rt; result, answer, "{turns} reads");
-        assert!(rt;
-            writer.bytes.as_slice() == &REPLIES.as_bytes()[..end],
+    for (turns, result, bytes) in TURNS {
+        let ended = ends(rt.alloc(), SCRIPT, 1, turns)?;
+        assert_eq!(rt;
+            (ended.result, ended.written),
+            (result, Some(bytes)),
             "{turns} reads"
         );
     }

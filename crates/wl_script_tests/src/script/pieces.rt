@@ -1,92 +1,93 @@
 //! The same script in all kinds of pieces.
 
-use super::fakes::{
-    AMPLE, Full, REPLIES, SCRIPT, bad_json, in_pieces, slow_writer, writer_with_room,
-};
+use super::fakes::{BAD_JSON, REPLIES, SCRIPT};
+use super::runs::{Ended, plain};
 use std::alloc::{AllocError, Global};
 use std::test::Fail;
-use wl_script::{Reader, Writer, run};
+use wl_script::{Reader, ScriptFault, Writer, run};
 
 #[test]
 fn the_pieces_of_the_input_play_no_part(rt: HostRuntime) -> Result<(), Fail> {
+    // One write a reply.
+    let wanted = Ended {
+        result: Ok(3),
+        written: Some(198),
+        calls: 3,
+    };
     for piece in [1, 2, 3, 7, 5000] {
-        let mut reader = in_pieces(SCRIPT, piece);
-        let mut writer = writer_with_room(rt.alloc(), AMPLE, Full::Fails)?;
         assert_eq!(rt;
-            run(rt.alloc(), &mut reader, &mut writer),
-            Ok(3),
+            plain(SCRIPT, piece).ends(rt.alloc(), REPLIES)?,
+            wanted,
             "pieces of {piece}"
         );
-        assert!(rt;
-            writer.bytes.as_slice() == REPLIES.as_bytes(),
-            "pieces of {piece}"
-        );
-        // One write a reply.
-        assert_eq!(rt; writer.calls, 3, "pieces of {piece}");
     }
     Ok(())
 }
 
 #[test]
 fn a_writer_may_take_a_byte_at_a_time(rt: HostRuntime) -> Result<(), Fail> {
-    let mut reader = in_pieces(SCRIPT, 100);
-    let mut writer = slow_writer(rt.alloc(), AMPLE, 1, Full::Fails)?;
-    assert_eq!(rt; run(rt.alloc(), &mut reader, &mut writer), Ok(3));
-    assert!(rt; writer.bytes.as_slice() == REPLIES.as_bytes());
-    assert_eq!(rt; writer.calls, 198);
+    let mut run = plain(SCRIPT, 100);
+    run.most = 1;
+    let wanted = Ended {
+        result: Ok(3),
+        written: Some(198),
+        calls: 198,
+    };
+    assert_eq!(rt; run.ends(rt.alloc(), REPLIES)?, wanted);
     Ok(())
+}
+
+/// How a run over the streams of std ends, how many bytes of the replies are written, and how many are left to read.
+fn ends(
+    alloc: Global,
+    script: &str,
+) -> Result<(Result<u64, ScriptFault>, Option<usize>, usize), Fail> {
+    let mut reader = Reader::new(script.as_bytes());
+    let mut writer = Writer::new(Vec::new(alloc));
+    let result = run(alloc, &mut reader, &mut writer);
+    let written = writer.into_inner();
+    let is_wanted = BAD_JSON.as_bytes().starts_with(&written);
+    let left = reader.into_inner().len();
+    Ok((result, is_wanted.then_some(written.len()), left))
 }
 
 #[test]
 fn std_reads_and_writes(rt: HostRuntime) -> Result<(), Fail> {
-    let scripts = [
-        ("", 0),
-        ("\n", 1),
-        ("abc\n", 1),
-        ("abc", 1),
-        ("a\r\n\nb\n", 3),
-    ];
-    for (script, lines) in scripts {
-        let mut reader = Reader::new(script.as_bytes());
-        let mut writer = Writer::new(Vec::new(rt.alloc()));
+    for (script, lines, bytes) in [
+        ("", 0, 0),
+        ("\n", 1, 66),
+        ("abc\n", 1, 66),
+        ("abc", 1, 66),
+        ("a\r\n\nb\n", 3, 198),
+    ] {
         assert_eq!(rt;
-            run(rt.alloc(), &mut reader, &mut writer),
-            Ok(lines),
+            ends(rt.alloc(), script)?,
+            (Ok(lines), Some(bytes), 0),
             "{script:?}"
         );
-        assert!(rt;
-            writer.into_inner().as_slice() == bad_json(rt.alloc(), lines)?.as_str().as_bytes(),
-            "{script:?}"
-        );
-        assert!(rt; reader.into_inner().is_empty(), "{script:?}");
     }
     Ok(())
 }
 
-/// Two lines, of so many bytes and of one.
-fn two_lines(alloc: Global, first: usize) -> Result<Vec<u8>, AllocError> {
+/// How a run of two lines ends, of so many bytes and of one.
+fn two_lines_end(alloc: Global, first: usize, piece: usize) -> Result<Ended, AllocError> {
     let mut script = vec![in alloc; 120; first]?;
     script.extend_from_slice(b"\ny\n")?;
-    Ok(script)
+    plain(&script, piece).ends(alloc, BAD_JSON)
 }
 
 #[test]
 fn lines_cross_the_edge_of_a_read(rt: HostRuntime) -> Result<(), Fail> {
     // A read takes 65,536 bytes: the LF of the first line comes before, at and behind its edge.
+    let wanted = Ended {
+        result: Ok(2),
+        written: Some(132),
+        calls: 2,
+    };
     for first in [65_533usize, 65_534, 65_535, 65_536] {
         for piece in [100_000, 30_000] {
-            let script = two_lines(rt.alloc(), first)?;
-            let mut reader = in_pieces(&script, piece);
-            let mut writer = writer_with_room(rt.alloc(), AMPLE, Full::Fails)?;
-            assert_eq!(rt;
-                run(rt.alloc(), &mut reader, &mut writer),
-                Ok(2),
-                "{first} in {piece}"
-            );
-            assert!(rt;
-                writer.bytes.as_slice() == bad_json(rt.alloc(), 2)?.as_str().as_bytes(),
-                "{first} in {piece}"
-            );
+            let ended = two_lines_end(rt.alloc(), first, piece)?;
+            assert_eq!(rt; ended, wanted, "{first} in {piece}");
         }
     }
     Ok(())

@@ -38,22 +38,28 @@ fn is_quiet(session: &mut SessionOf<InTime>, number: u64, phase: Phase) -> bool
     requires { 1 < number }
 {
     let looks = [(1, Phase::Taken), (number, phase)];
-    let Ok(text) = session.finish_changed(Some(3), Outcome::Polled, &looks) else {
-        return false;
-    };
-    text.as_str() == "{\"id\":3,\"notices\":[],\"ok\":{}}"
+    match session.finish_changed(Some(3), Outcome::Polled, &looks) {
+        Ok(text) => text.as_str() == "{\"id\":3,\"notices\":[],\"ok\":{}}",
+        Err(_) => false,
+    }
+}
+
+fn try_quiet(session: &mut SessionOf<InTime>, number: u64, phase: Phase) -> Result<(), Fail>
+    requires { 1 < number }
+{
+    if is_quiet(session, number, phase) {
+        return Ok(());
+    }
+    refused(is_quiet(session, number, phase))
 }
 
 /// The same where ends stay, over a list that is full a few times, with ends and without.
-fn try_in_time(alloc: Global) -> Result<(), Fail> {
-    let mut session = SessionOf::<InTime>::new(alloc);
+fn try_in_time(session: &mut SessionOf<InTime>) -> Result<(), Fail> {
     session.finish_changed(Some(2), Outcome::Request(1), &[(1, Phase::Taken)])?;
     for number in 2..10 {
-        if !is_quiet(&mut session, number, Phase::Pending) {
-            return refused(is_quiet(&mut session, number, Phase::Pending));
-        }
-        if number % 2 == 0 && !is_quiet(&mut session, number, Phase::Released) {
-            return refused(is_quiet(&mut session, number, Phase::Released));
+        try_quiet(session, number, Phase::Pending)?;
+        if number % 2 == 0 {
+            try_quiet(session, number, Phase::Released)?;
         }
     }
     Ok(())
@@ -61,5 +67,5 @@ fn try_in_time(alloc: Global) -> Result<(), Fail> {
 
 #[test]
 fn a_refused_growth_forgets_nothing_told(rt: HostRuntime) -> Result<(), Fail> {
-    try_in_time(rt.alloc())
+    try_in_time(&mut SessionOf::<InTime>::new(rt.alloc()))
 }

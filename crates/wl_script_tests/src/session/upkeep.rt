@@ -3,55 +3,25 @@
 ghost use Rattle.std.specs.Prelude.{◌+◌, ◌<◌, ◌≤◌};
 ghost use Rattle.wl_session.specs.Told.{IsByNumber};
 
+use super::finishing::replies;
 use std::alloc::Global;
 use std::test::Fail;
 use wl_codec::Outcome;
-use wl_session::{InTime, Session, SessionOf};
+use wl_session::{AtOnce, InTime, SessionOf, Upkeep};
 use wl_types::{Memory, Phase};
 
-/// A session of either upkeep, which hear the same.
-#[derive(Drop)]
-struct Both {
-    at_once: Session,
-    in_time: SessionOf<InTime>,
-}
-
-/// What each of the two answered.
-#[derive(Drop)]
-struct Texts {
-    at_once: String,
-    in_time: String,
-}
-
-impl Both {
-    fn new(alloc: Global) -> Both {
-        Both {
-            at_once: Session::new(alloc),
-            in_time: SessionOf::<InTime>::new(alloc),
-        }
-    }
-
-    fn poll(&mut self, looks: &[(u64, Phase)]) -> Result<Texts, Memory>
-        requires { IsByNumber looks.now }
-    {
-        let at_once = self
-            .at_once
-            .finish_changed(Some(7), Outcome::Polled, looks)?;
-        let in_time = self
-            .in_time
-            .finish_changed(Some(7), Outcome::Polled, looks)?;
-        Ok(Texts { at_once, in_time })
-    }
-
-    fn request(&mut self, number: u64, looks: &[(u64, Phase)]) -> Result<Texts, Memory>
-        requires { IsByNumber looks.now }
-    {
-        let outcome = Outcome::Request(number);
-        let at_once = self.at_once.finish_changed(Some(7), outcome, looks)?;
-        let outcome = Outcome::Request(number);
-        let in_time = self.in_time.finish_changed(Some(7), outcome, looks)?;
-        Ok(Texts { at_once, in_time })
-    }
+/// Adds the reply to a request to the text.
+fn request<U: Upkeep>(
+    session: &mut SessionOf<U>,
+    text: &mut String,
+    number: u64,
+    looks: &[(u64, Phase)],
+) -> Result<(), Memory>
+    requires { IsByNumber looks.now }
+{
+    let reply = session.finish_changed(Some(7), Outcome::Request(number), looks)?;
+    text.push_str(reply.as_str())?;
+    Ok(())
 }
 
 /// The request that ends as this one comes: of each two, the later one ends first.
@@ -67,54 +37,62 @@ fn leaving(number: u64) -> u64
 }
 
 /// Three hundred requests, of which fifteen are live at a time: what ended fills the list again and again.
-#[test]
-fn ends_that_stay_are_not_told_again(rt: HostRuntime) -> Result<(), Fail> {
-    let mut both = Both::new(rt.alloc());
+fn request_often<U: Upkeep>(session: &mut SessionOf<U>, text: &mut String) -> Result<(), Memory> {
     for number in 1..16 {
-        let texts = both.request(number, &[(number, Phase::Taken)])?;
-        assert_eq!(rt; texts.at_once.as_str(), texts.in_time.as_str());
+        request(session, text, number, &[(number, Phase::Taken)])?;
     }
     for number in 16..301 {
-        let looks = [
-            (leaving(number), Phase::Stolen),
-            (number - 1, Phase::Taken),
-            (number, Phase::Taken),
-        ];
-        let texts = both.request(number, &looks)?;
-        assert_eq!(rt; texts.at_once.as_str(), texts.in_time.as_str());
+        let left = (leaving(number), Phase::Stolen);
+        let last = (number - 1, Phase::Taken);
+        request(session, text, number, &[left, last, (number, Phase::Taken)])?;
     }
+    Ok(())
+}
+
+/// A poll that finds three of them as they were, and the last stolen.
+fn poll<U: Upkeep>(session: &mut SessionOf<U>) -> Result<String, Memory> {
     let looks = [
         (285, Phase::Taken),
         (287, Phase::Taken),
         (299, Phase::Taken),
         (300, Phase::Stolen),
     ];
-    let texts = both.poll(&looks)?;
-    assert_eq!(rt; texts.at_once.as_str(), texts.in_time.as_str());
-    assert_eq!(rt;
-        texts.in_time.as_str(),
-        "{\"id\":7,\"notices\":[{\"phase\":\"stolen\",\"request\":300}],\"ok\":{}}"
-    );
+    session.finish_changed(Some(7), Outcome::Polled, &looks)
+}
+
+/// All these replies.
+fn replies_to_many<U: Upkeep>(alloc: Global) -> Result<String, Memory> {
+    let mut session = SessionOf::<U>::new(alloc);
+    let mut text = String::new(alloc);
+    request_often(&mut session, &mut text)?;
+    text.push_str(poll(&mut session)?.as_str())?;
+    Ok(text)
+}
+
+const LAST: &str = "{\"id\":7,\"notices\":[{\"phase\":\"stolen\",\"request\":300}],\"ok\":{}}";
+
+#[test]
+fn ends_that_stay_are_not_told_again(rt: HostRuntime) -> Result<(), Fail> {
+    let at_once = replies_to_many::<AtOnce>(rt.alloc())?;
+    let in_time = replies_to_many::<InTime>(rt.alloc())?;
+    assert_eq!(rt; at_once.as_str(), in_time.as_str());
+    assert!(rt; in_time.as_str().ends_with(LAST));
     Ok(())
 }
 
+const A_NUMBER_AGAIN: &str =
+    r#"request 1 [1 granted] -> {"id":7,"notices":[{"phase":"granted","request":1}],"ok":{"request":1}}
+request 2 [1 released, 2 granted] -> {"id":7,"notices":[{"phase":"granted","request":2}],"ok":{"request":2}}
+poll [2 stolen] -> {"id":7,"notices":[{"phase":"stolen","request":2}],"ok":{}}
+request 1 [1 granted, 2 granted] -> {"id":7,"notices":[{"phase":"granted","request":1},{"phase":"granted","request":2}],"ok":{"request":1}}
+poll [1 granted, 2 granted] -> {"id":7,"notices":[],"ok":{}}
+"#;
+
 #[test]
 fn a_number_starts_anew_after_its_end(rt: HostRuntime) -> Result<(), Fail> {
-    let mut both = Both::new(rt.alloc());
-    both.request(1, &[(1, Phase::Taken)])?;
-    both.request(2, &[(1, Phase::Released), (2, Phase::Taken)])?;
-    both.poll(&[(2, Phase::Stolen)])?;
-    let texts = both.request(1, &[(1, Phase::Taken), (2, Phase::Taken)])?;
-    assert_eq!(rt; texts.at_once.as_str(), texts.in_time.as_str());
-    assert_eq!(rt;
-        texts.in_time.as_str(),
-        "{\"id\":7,\"notices\":[{\"phase\":\"granted\",\"request\":1},{\"phase\":\"granted\",\"request\":2}],\"ok\":{\"request\":1}}"
-    );
-    let texts = both.poll(&[(1, Phase::Taken), (2, Phase::Taken)])?;
-    assert_eq!(rt; texts.at_once.as_str(), texts.in_time.as_str());
-    assert_eq!(rt;
-        texts.in_time.as_str(),
-        "{\"id\":7,\"notices\":[],\"ok\":{}}"
-    );
+    let at_once = replies::<AtOnce>(rt.alloc(), A_NUMBER_AGAIN)?;
+    assert_eq!(rt; at_once.as_str(), A_NUMBER_AGAIN);
+    let in_time = replies::<InTime>(rt.alloc(), A_NUMBER_AGAIN)?;
+    assert_eq!(rt; in_time.as_str(), A_NUMBER_AGAIN);
     Ok(())
 }

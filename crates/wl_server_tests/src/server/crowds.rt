@@ -1,14 +1,18 @@
-//! More connections than may run at once.
+//! More connections than may run at once, and none: the calls `serve_crowd COUNT` and `serve_nobody COUNT` of lists.
 
 use super::NoGate;
-use super::frames::HELLO;
+use super::loopback::guest;
+use super::streams::HELLO;
+use crate::lists::{number, show};
 use std::alloc::Global;
 use std::io::{Read, Write};
 use std::net::{Net, TcpListener, TcpStream};
+use std::sync::Wait;
 use std::test::Fail;
+use std::thread::Threads;
 use std::time::Duration;
 use std::{io, thread};
-use wl_server::{ListenFault, Served, serve};
+use wl_server::serve;
 use wl_service::Service;
 
 /// Whether the server shakes hands within this time.
@@ -55,42 +59,49 @@ fn come<R: Net<Stream = TcpStream>>(
 ) -> io::Result<Vec<TcpStream>> {
     let mut guests = Vec::new(alloc);
     for _ in 0..count {
-        let mut guest = TcpStream::connect(rt, listener.local_addr()?)?;
+        let mut guest = guest(rt, listener)?;
         guest.write_all(HELLO)?;
         guests.push(guest)?;
     }
     Ok(guests)
 }
 
-#[test]
-fn one_more_than_there_is_room_for_waits(rt: HostRuntime) -> Result<(), Fail> {
-    let alloc = rt.alloc();
-    let service = Service::new(&rt, alloc)?;
-    let listener = TcpListener::bind(&rt, "127.0.0.1:0")?;
-    let guests = come(&rt, alloc, &listener, 65)?;
-    let (served, waited) = thread::join(
-        &rt,
-        || serve(&rt, alloc, &listener, 65, &NoGate, &service),
+/// Serves so many that come at once, and tells what was served, and whether the last had to wait.
+pub fn serve_crowd<R>(
+    rt: &R,
+    alloc: Global,
+    service: &Service,
+    call: &str,
+    came: &mut String,
+) -> Result<(), Fail>
+where
+    R: Net<Listener = TcpListener, Stream = TcpStream> + Threads + Wait + Sync,
+{
+    let count = number(call, 1);
+    let listener = TcpListener::bind(rt, "127.0.0.1:0")?;
+    let guests = come(rt, alloc, &listener, count)?;
+    let ended = thread::join(
+        rt,
+        || serve(rt, alloc, &listener, count as u64, &NoGate, service),
         || one_waits(guests),
     );
-    // None of them sent a close frame.
-    let all = Served {
-        connections: 65,
-        failed: 65,
-    };
-    assert!(rt; waited);
-    assert_eq!(rt; served, Ok(all));
-    Ok(())
+    show(came, Some(ended))
 }
 
-#[test]
-fn a_listener_that_accepts_nothing(rt: HostRuntime) -> Result<(), Fail> {
-    let alloc = rt.alloc();
-    let service = Service::new(&rt, alloc)?;
-    let listener = TcpListener::bind(&rt, "127.0.0.1:0")?;
-    // Nobody is there, and it doesn't wait.
+/// Serves so many where nobody comes, and the listener doesn't wait.
+pub fn serve_nobody<R>(
+    rt: &R,
+    alloc: Global,
+    service: &Service,
+    call: &str,
+    came: &mut String,
+) -> Result<(), Fail>
+where
+    R: Net<Listener = TcpListener, Stream = TcpStream> + Threads + Wait + Sync,
+{
+    let listener = TcpListener::bind(rt, "127.0.0.1:0")?;
     listener.set_nonblocking(true)?;
-    let served = serve(&rt, alloc, &listener, 3, &NoGate, &service);
-    assert_eq!(rt; served, Err(ListenFault::Accept(0)));
-    Ok(())
+    let count = number(call, 1) as u64;
+    let served = serve(rt, alloc, &listener, count, &NoGate, service);
+    show(came, Some(served))
 }

@@ -1,11 +1,18 @@
-//! What a gate is told, over loopback.
+//! What a gate is told, over loopback: the call `serve_gated` of lists.
 
 use super::OPEN;
-use std::net::{TcpListener, TcpStream};
+use super::hosts::relay_lines;
+use super::loopback::{guest, pair};
+use crate::lists::show;
+use std::alloc::Global;
+use std::net::{Net, TcpListener, TcpStream};
+use std::random::RandomSource;
+use std::sync::Wait;
 use std::sync::atomic::{AtomicU64, Ordering};
 use std::test::Fail;
 use std::thread;
-use wl_server::{Gate, Served, relay, serve};
+use std::thread::Threads;
+use wl_server::{Gate, ListenFault, RelayFault, Served, serve};
 use wl_service::Service;
 
 const TWO_LINES: &[u8] = b"{\"id\":1,\"op\":\"open\",\"url\":\"https://a.test/\"}
@@ -37,37 +44,56 @@ impl Gate for Notebook {
     }
 }
 
-#[test]
-fn a_gate_hears_of_each_connection_and_of_each_reply(rt: HostRuntime) -> Result<(), Fail> {
-    let alloc = rt.alloc();
-    let service = Service::new(&rt, alloc)?;
-    let listener = TcpListener::bind(&rt, "127.0.0.1:0")?;
-    let address = listener.local_addr()?;
+/// What was relayed over each of two connections.
+type Relayed = (Result<u64, RelayFault>, Result<u64, RelayFault>);
+
+/// What was served, what was relayed, and what the gate was told.
+type Told = (Result<Served, ListenFault>, Relayed, u64);
+
+/// Serves two connections, one behind the other.
+pub fn serve_gated<R>(
+    rt: &R,
+    alloc: Global,
+    service: &Service,
+    came: &mut String,
+) -> Result<(), Fail>
+where
+    R: Net<Listener = TcpListener, Stream = TcpStream> + Threads + Wait + RandomSource + Sync,
+{
+    let (listener, first) = pair(rt)?;
+    show(came, Some(serve_two(rt, alloc, service, &listener, first)))
+}
+
+fn serve_two<R>(
+    rt: &R,
+    alloc: Global,
+    service: &Service,
+    listener: &TcpListener,
+    first: TcpStream,
+) -> Told
+where
+    R: Net<Listener = TcpListener, Stream = TcpStream> + Threads + Wait + RandomSource + Sync,
+{
     let gate = Notebook {
         told: AtomicU64::new(0),
     };
-    let first = TcpStream::connect(&rt, address)?;
-    let mut replies = Vec::new(alloc);
-    let mut more = Vec::new(alloc);
     let (served, relayed) = thread::join(
-        &rt,
-        || serve(&rt, alloc, &listener, 2, &gate, &service),
-        || {
-            // The first has ended, with all that its thread told, before the second connects.
-            let first = relay(&rt, alloc, first, TWO_LINES, &mut replies);
-            let second = match TcpStream::connect(&rt, address) {
-                Ok(stream) => relay(&rt, alloc, stream, OPEN, &mut more),
-                Err(_) => Ok(0),
-            };
-            (first, second)
-        },
+        rt,
+        || serve(rt, alloc, listener, 2, &gate, service),
+        || relay_twice(rt, alloc, first, listener),
     );
-    assert_eq!(rt; relayed, (Ok(2), Ok(1)));
-    let both = Served {
-        connections: 2,
-        failed: 0,
+    (served, relayed, gate.told.load(Ordering::SeqCst))
+}
+
+/// The first has ended, with all that its thread told, before the second connects.
+fn relay_twice<R>(rt: &R, alloc: Global, first: TcpStream, listener: &TcpListener) -> Relayed
+where
+    R: Net<Stream = TcpStream> + Wait + RandomSource,
+{
+    let first = relay_lines(rt, alloc, first, TWO_LINES);
+    let second = match guest(rt, listener) {
+        Ok(stream) => relay_lines(rt, alloc, stream, OPEN),
+        Err(_) => Ok(0),
     };
-    assert_eq!(rt; served, Ok(both));
-    assert_eq!(rt; gate.told.load(Ordering::SeqCst), 1_11_12_2_21);
-    Ok(())
+    (first, second)
 }

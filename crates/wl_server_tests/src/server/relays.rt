@@ -1,230 +1,91 @@
 //! How relaying ends, over loopback.
 
-use super::frames::Narrow;
-use super::{NoGate, OPEN};
-use std::alloc::{AllocError, Global};
-use std::io::{ErrorKind, Read, Write};
-use std::net::{Net, TcpListener, TcpStream};
-use std::random::RandomSource;
-use std::sync::Wait;
-use std::test::Fail;
-use std::thread::Threads;
-use std::{io, thread};
-use tungstenite::Message;
-use wl_server::{ListenFault, RelayFault, Served, relay, serve};
-use wl_service::Service;
+const LINES_ARE_RELAYED_TO_A_SERVER: &str = "\
+relay whole window -> (Ok(Served { connections: 1, failed: 0 }), Ok(6))
+{\"id\":1,\"notices\":[],\"ok\":{\"client\":\"client-1\"}}
+{\"id\":2,\"notices\":[{\"phase\":\"granted\",\"request\":1}],\"ok\":{\"request\":1}}
+{\"id\":3,\"notices\":[],\"ok\":{\"held\":[{\"clientId\":\"client-1\",\"mode\":\"exclusive\",\"name\":\"db\"}],\"pending\":[]}}
+{\"id\":4,\"notices\":[],\"ok\":{}}
+{\"id\":5,\"notices\":[],\"ok\":{\"release\":\"released\"}}
+{\"id\":6,\"notices\":[],\"ok\":{\"held\":[],\"pending\":[]}}
+";
 
-const OPENED: &[u8] = b"{\"id\":1,\"notices\":[],\"ok\":{\"client\":\"client-1\"}}\n";
+const A_BROKEN_CONNECTION_ENDS_ALONE: &str = "\
+relay beside open -> (Ok(Served { connections: 2, failed: 1 }), Ok(1))
+{\"id\":1,\"notices\":[],\"ok\":{\"client\":\"client-1\"}}
+";
 
-const OPENED_THEN_BAD: &[u8] = b"{\"id\":1,\"notices\":[],\"ok\":{\"client\":\"client-1\"}}
+const AN_EMPTY_INPUT: &str = "\
+relay whole -> (Ok(Served { connections: 1, failed: 0 }), Ok(0))
+";
+
+const A_LAST_LINE_WITHOUT_ITS_END: &str = "\
+relay whole open -> (Ok(Served { connections: 1, failed: 0 }), Ok(1))
+{\"id\":1,\"notices\":[],\"ok\":{\"client\":\"client-1\"}}
+";
+
+const A_LINE_THAT_IS_NOT_UTF8: &str = "\
+relay whole open lf bytes lf -> (Ok(Served { connections: 1, failed: 0 }), Ok(2))
+{\"id\":1,\"notices\":[],\"ok\":{\"client\":\"client-1\"}}
 {\"error\":{\"name\":\"BadJson\",\"rule\":\"json\"},\"id\":null,\"notices\":[]}
 ";
 
-/// A reader that gives these bytes, and then fails.
-#[derive(Drop)]
-struct Failing<'a> {
-    bytes: &'a [u8],
-}
+const A_LINE_AS_LONG_AS_MAY_BE: &str = "\
+relay whole open lf 65536 lf -> (Ok(Served { connections: 1, failed: 0 }), Ok(2))
+{\"id\":1,\"notices\":[],\"ok\":{\"client\":\"client-1\"}}
+{\"error\":{\"name\":\"BadJson\",\"rule\":\"json\"},\"id\":null,\"notices\":[]}
+";
 
-impl Read for Failing<'_> {
-    fn read(&mut self, buf: &mut [u8]) -> io::Result<usize> {
-        if self.bytes.is_empty() {
-            return Err(io::Error::from(ErrorKind::Other));
-        }
-        self.bytes.read(buf)
-    }
-}
+const A_LINE_THAT_IS_TOO_LONG: &str = "\
+relay whole open lf 65537 lf -> (Ok(Served { connections: 1, failed: 1 }), Err(LineTooLong(1)))
+{\"id\":1,\"notices\":[],\"ok\":{\"client\":\"client-1\"}}
+";
 
-type Both = (Result<Served, ListenFault>, Result<u64, RelayFault>);
+const A_READER_THAT_FAILS: &str = "\
+relay failing open lf 3 lf -> (Ok(Served { connections: 1, failed: 1 }), Err(Read(2)))
+{\"id\":1,\"notices\":[],\"ok\":{\"client\":\"client-1\"}}
+{\"error\":{\"name\":\"BadJson\",\"rule\":\"json\"},\"id\":null,\"notices\":[]}
+";
 
-/// Relays to a server of the service.
-fn relayed<R, I, O>(rt: &R, alloc: Global, reader: I, writer: &mut O) -> Result<Both, Fail>
-where
-    R: Net<Listener = TcpListener, Stream = TcpStream> + Threads + Wait + RandomSource + Sync,
-    I: Read + Drop + Send,
-    O: Write + Send,
-{
-    let service = Service::new(rt, alloc)?;
-    let listener = TcpListener::bind(rt, "127.0.0.1:0")?;
-    let stream = TcpStream::connect(rt, listener.local_addr()?)?;
-    Ok(thread::join(
-        rt,
-        || serve(rt, alloc, &listener, 1, &NoGate, &service),
-        || relay(rt, alloc, stream, reader, writer),
-    ))
-}
+const A_WRITER_THAT_FAILS: &str = "\
+relay stuck open lf 3 lf -> (Ok(Served { connections: 1, failed: 1 }), Err(Write(1)))
+{\"id\":1,\"notices\":[],\"ok\":{\"client\":\"client-1\"}}
+";
 
-/// Whether relaying what the reader gives comes to this and has written these replies. The server has seen the
-/// connection fail just where relaying failed.
-fn relays<R, I>(
-    rt: &R,
-    alloc: Global,
-    reader: I,
-    expected: Result<u64, RelayFault>,
-    replies: &[u8],
-) -> Result<bool, Fail>
-where
-    R: Net<Listener = TcpListener, Stream = TcpStream> + Threads + Wait + RandomSource + Sync,
-    I: Read + Drop + Send,
-{
-    let mut written = Vec::new(alloc);
-    let (served, relayed) = relayed(rt, alloc, reader, &mut written)?;
-    let one = Served {
-        connections: 1,
-        failed: if expected.is_ok() { 0 } else { 1 },
-    };
-    Ok(served == Ok(one) && relayed == expected && written.as_slice() == replies)
-}
+/// What a host that is no such server did, and how relaying to it ends.
+const OTHER_HOSTS: &str = "\
+relay_to leaving -> (true, Err(Ended(2)))
+relay_to binary -> (true, Err(Ended(2)))
+relay_to page -> (true, Err(Handshake))
+relay_to_nobody -> Err(Handshake)
+";
 
-/// The line that opens, and one of so many spaces.
-fn spaces(alloc: Global, count: usize) -> Result<Vec<u8>, AllocError> {
-    let mut lines = Vec::new(alloc);
-    lines.extend_from_slice(OPEN)?;
-    lines.push(b'\n')?;
-    lines.extend_from_slice(&vec![in alloc; b' '; count]?)?;
-    lines.push(b'\n')?;
-    Ok(lines)
-}
+/// The gate hears of the first connection, of its replies 1 and 2, and then of the second and its reply.
+const A_GATE_HEARS_OF_EACH_CONNECTION_AND_OF_EACH_REPLY: &str = "\
+serve_gated -> (Ok(Served { connections: 2, failed: 0 }), (Ok(2), Ok(1)), 11112221)
+";
 
-#[test]
-fn an_empty_input(rt: HostRuntime) -> Result<(), Fail> {
-    assert!(rt; relays(&rt, rt.alloc(), b"".as_slice(), Ok(0), b"")?);
-    Ok(())
-}
+/// None of the 65 sends a close frame.
+const ONE_MORE_THAN_THERE_IS_ROOM_FOR_WAITS: &str = "\
+serve_crowd 65 -> (Ok(Served { connections: 65, failed: 65 }), true)
+";
 
-#[test]
-fn a_last_line_without_its_end(rt: HostRuntime) -> Result<(), Fail> {
-    assert!(rt; relays(&rt, rt.alloc(), OPEN, Ok(1), OPENED)?);
-    Ok(())
-}
+const A_LISTENER_THAT_ACCEPTS_NOTHING: &str = "\
+serve_nobody 3 -> Err(Accept(0))
+";
 
-#[test]
-fn a_line_that_is_not_utf8(rt: HostRuntime) -> Result<(), Fail> {
-    let mut lines = Vec::new(rt.alloc());
-    lines.extend_from_slice(OPEN)?;
-    lines.extend_from_slice(b"\n\xff\n")?;
-    assert!(rt; relays(&rt, rt.alloc(), lines.as_slice(), Ok(2), OPENED_THEN_BAD)?);
-    Ok(())
-}
-
-#[test]
-fn a_line_as_long_as_may_be(rt: HostRuntime) -> Result<(), Fail> {
-    let lines = spaces(rt.alloc(), 65_536)?;
-    assert!(rt; relays(&rt, rt.alloc(), lines.as_slice(), Ok(2), OPENED_THEN_BAD)?);
-    Ok(())
-}
-
-#[test]
-fn a_line_that_is_too_long(rt: HostRuntime) -> Result<(), Fail> {
-    let lines = spaces(rt.alloc(), 65_537)?;
-    let too_long = Err(RelayFault::LineTooLong(1));
-    assert!(rt; relays(&rt, rt.alloc(), lines.as_slice(), too_long, OPENED)?);
-    Ok(())
-}
-
-#[test]
-fn a_reader_that_fails(rt: HostRuntime) -> Result<(), Fail> {
-    let lines = spaces(rt.alloc(), 3)?;
-    let reader = Failing {
-        bytes: lines.as_slice(),
-    };
-    let fails = Err(RelayFault::Read(2));
-    assert!(rt; relays(&rt, rt.alloc(), reader, fails, OPENED_THEN_BAD)?);
-    Ok(())
-}
-
-#[test]
-fn a_writer_that_fails(rt: HostRuntime) -> Result<(), Fail> {
-    let lines = spaces(rt.alloc(), 3)?;
-    let mut writer = Narrow { writes: 1 };
-    let (served, relayed) = relayed(&rt, rt.alloc(), lines.as_slice(), &mut writer)?;
-    assert_eq!(rt; relayed, Err(RelayFault::Write(1)));
-    let one = Served {
-        connections: 1,
-        failed: 1,
-    };
-    assert_eq!(rt; served, Ok(one));
-    Ok(())
-}
-
-/// Answers so many messages of the next connection by texts, the next one by bytes or not at all, and leaves.
-fn answer_some(
-    alloc: Global,
-    listener: &TcpListener,
-    texts: usize,
-    gives_bytes: bool,
-) -> Option<()> {
-    let (stream, _) = listener.accept().ok()?;
-    let mut socket = tungstenite::accept(alloc, stream).ok()?;
-    for _ in 0..texts {
-        let _ = socket.read().ok()?;
-        socket.send(Message::text(alloc, "so").ok()?).ok()?;
-    }
-    let _ = socket.read().ok()?;
-    if gives_bytes {
-        socket.send(Message::binary(alloc, b"no").ok()?).ok()?;
-    }
-    Some(())
-}
-
-/// How relaying four lines to such a server ends, after two replies.
-fn ended<R>(rt: &R, alloc: Global, gives_bytes: bool) -> Result<Result<u64, RelayFault>, Fail>
-where
-    R: Net<Listener = TcpListener, Stream = TcpStream> + Threads + Wait + RandomSource + Sync,
-{
-    let listener = TcpListener::bind(rt, "127.0.0.1:0")?;
-    let stream = TcpStream::connect(rt, listener.local_addr()?)?;
-    let mut replies = Vec::new(alloc);
-    let (_, relayed) = thread::join(
-        rt,
-        || answer_some(alloc, &listener, 2, gives_bytes),
-        || relay(rt, alloc, stream, b"a\nb\nc\nd\n".as_slice(), &mut replies),
-    );
-    Ok(relayed)
-}
-
-/// Answers the hello of the next connection by a page.
-fn refuse(listener: &TcpListener) -> io::Result<()> {
-    let (stream, _) = listener.accept()?;
-    let mut stream = stream;
-    let mut hello = [0; 1_024];
-    let _ = stream.read(&mut hello)?;
-    stream.write_all(b"HTTP/1.1 200 OK\r\n\r\n")
-}
-
-#[test]
-fn a_server_that_leaves_or_gives_no_text(rt: HostRuntime) -> Result<(), Fail> {
-    let alloc = rt.alloc();
-    assert_eq!(rt; ended(&rt, alloc, false)?, Err(RelayFault::Ended(2)));
-    assert_eq!(rt; ended(&rt, alloc, true)?, Err(RelayFault::Ended(2)));
-    Ok(())
-}
-
-#[test]
-fn a_server_that_is_gone(rt: HostRuntime) -> Result<(), Fail> {
-    let alloc = rt.alloc();
-    let listener = TcpListener::bind(&rt, "127.0.0.1:0")?;
-    let stream = TcpStream::connect(&rt, listener.local_addr()?)?;
-    // The connection that waits there is reset.
-    drop(listener);
-    let mut replies = Vec::new(alloc);
-    let relayed = relay(&rt, alloc, stream, b"a\n".as_slice(), &mut replies);
-    assert_eq!(rt; relayed, Err(RelayFault::Handshake));
-    Ok(())
-}
-
-#[test]
-fn a_server_that_is_no_websocket(rt: HostRuntime) -> Result<(), Fail> {
-    let alloc = rt.alloc();
-    let listener = TcpListener::bind(&rt, "127.0.0.1:0")?;
-    let stream = TcpStream::connect(&rt, listener.local_addr()?)?;
-    let mut replies = Vec::new(alloc);
-    let (refused, relayed) = thread::join(
-        &rt,
-        || refuse(&listener),
-        || relay(&rt, alloc, stream, b"a\n".as_slice(), &mut replies),
-    );
-    assert!(rt; refused.is_ok());
-    assert_eq!(rt; relayed, Err(RelayFault::Handshake));
-    Ok(())
-}
+pub const LISTS: [&str; 13] = [
+    LINES_ARE_RELAYED_TO_A_SERVER,
+    A_BROKEN_CONNECTION_ENDS_ALONE,
+    AN_EMPTY_INPUT,
+    A_LAST_LINE_WITHOUT_ITS_END,
+    A_LINE_THAT_IS_NOT_UTF8,
+    A_LINE_AS_LONG_AS_MAY_BE,
+    A_LINE_THAT_IS_TOO_LONG,
+    A_READER_THAT_FAILS,
+    A_WRITER_THAT_FAILS,
+    OTHER_HOSTS,
+    A_GATE_HEARS_OF_EACH_CONNECTION_AND_OF_EACH_REPLY,
+    ONE_MORE_THAN_THERE_IS_ROOM_FOR_WAITS,
+    A_LISTENER_THAT_ACCEPTS_NOTHING,
+];

@@ -1,17 +1,19 @@
-//! Managers that go on at once.
+//! Managers that go on at once: the calls `visit_and_ask` and `open_pairs` of lists.
 
-use super::{ELSEWHERE, HERE, first_client};
-use std::process::Abort;
+use super::{ELSEWHERE, HERE};
+use crate::lists::show;
+use std::alloc::Global;
 use std::sync::Wait;
 use std::sync::atomic::{AtomicBool, Ordering};
 use std::test::Fail;
 use std::thread;
+use std::thread::Threads;
 use wl_journal::Entry;
 use wl_manager::Visitor;
 use wl_origin::OriginKey;
 use wl_samples::{ask, key};
 use wl_service::Service;
-use wl_types::{Ask, Kind, Mode, Phase};
+use wl_types::{Ask, Kind, Memory, Mode, Phase};
 
 const TURNS: u64 = 100_000_000;
 
@@ -56,38 +58,49 @@ fn visit_long<R: Wait>(
     service.visit(rt, key, &mut waiting) == Ok(true) && waiting.in_time
 }
 
-/// Once the visitor has the lock, a client of another origin opens and asks.
-fn ask_elsewhere<R: Wait + Abort>(
+/// Once the visitor has the lock, a client of another origin opens and asks. None if it can't.
+fn ask_elsewhere<R: Wait>(
     rt: &R,
     service: &Service,
     asked: &Ask,
     entered: &AtomicBool,
     answered: &AtomicBool,
-) -> Phase {
-    assert!(rt; comes(entered));
-    let mut client = service
-        .open(rt, ELSEWHERE, Kind::Window)
-        .expect(rt, "a client");
-    let mut ticket = client.request(rt, asked).expect(rt, "a ticket");
+) -> Option<Phase> {
+    if !comes(entered) {
+        return None;
+    }
+    let mut client = service.open(rt, ELSEWHERE, Kind::Window).ok()?;
+    let mut ticket = client.request(rt, asked).ok()?;
     answered.store(true, Ordering::SeqCst);
-    ticket.look()
+    Some(ticket.look())
 }
 
-#[test]
-fn two_managers_go_on_at_once(rt: HostRuntime) -> Result<(), Fail> {
-    let asked = ask(rt.alloc(), "db", Mode::Exclusive)?;
-    let (service, _one) = first_client(&rt, rt.alloc())?;
-    let key = key(rt.alloc(), HERE)?;
+/// Visits the manager here while another client asks elsewhere: whether the visit was waited for in time, and what became
+/// of the request.
+pub fn visit_and_ask<R: Threads + Wait + Sync>(
+    rt: &R,
+    alloc: Global,
+    service: &Service,
+    came: &mut String,
+) -> Result<(), Fail> {
+    let asked = ask(alloc, "db", Mode::Exclusive)?;
+    let key = key(alloc, HERE)?;
+    show(came, Some(visit_beside(rt, service, &key, &asked)))
+}
+
+fn visit_beside<R: Threads + Wait + Sync>(
+    rt: &R,
+    service: &Service,
+    key: &OriginKey,
+    asked: &Ask,
+) -> (bool, Option<Phase>) {
     let entered = AtomicBool::new(false);
     let answered = AtomicBool::new(false);
-    let (in_time, phase) = thread::join(
-        &rt,
-        || visit_long(&rt, &service, &key, &entered, &answered),
-        || ask_elsewhere(&rt, &service, &asked, &entered, &answered),
-    );
-    assert!(rt; in_time);
-    assert_eq!(rt; phase, Phase::Granted);
-    Ok(())
+    thread::join(
+        rt,
+        || visit_long(rt, service, key, &entered, &answered),
+        || ask_elsewhere(rt, service, asked, &entered, &answered),
+    )
 }
 
 /// The number of a client that opens here.
@@ -95,18 +108,46 @@ fn number<R: Wait>(rt: &R, service: &Service, url: &str) -> Option<u64> {
     service.open(rt, url, Kind::Window).ok()?.client()
 }
 
-#[test]
-fn two_that_open_an_origin_at_once_share_its_manager(rt: HostRuntime) -> Result<(), Fail> {
-    let service = Service::new(&rt, rt.alloc())?;
-    for port in 1000..1100 {
-        let url = format!(in rt.alloc(); "https://a.test:{port}/")?;
-        let (one, two) = thread::join(
-            &rt,
-            || number(&rt, &service, url.as_str()),
-            || number(&rt, &service, url.as_str()),
-        );
-        let numbers = (one, two);
-        assert!(rt; numbers == (Some(1), Some(2)) || numbers == (Some(2), Some(1)));
-    }
-    Ok(())
+/// Whether two that open a new origin at once have one manager.
+fn share<R: Threads + Wait + Sync>(rt: &R, service: &Service, url: &str) -> bool {
+    let numbers = thread::join(rt, || number(rt, service, url), || number(rt, service, url));
+    numbers == (Some(1), Some(2)) || numbers == (Some(2), Some(1))
 }
+
+/// Opens two at once at each of many origins, and tells the port of the first at which they had no manager in common.
+pub fn open_pairs<R: Threads + Wait + Sync>(
+    rt: &R,
+    alloc: Global,
+    service: &Service,
+    came: &mut String,
+) -> Result<(), Fail> {
+    show(came, Some(apart(rt, alloc, service)?))
+}
+
+fn apart<R: Threads + Wait + Sync>(
+    rt: &R,
+    alloc: Global,
+    service: &Service,
+) -> Result<Option<u64>, Memory> {
+    for port in 1000..1100 {
+        let url = format!(in alloc; "https://a.test:{port}/")?;
+        if !share(rt, service, url.as_str()) {
+            return Ok(Some(port));
+        }
+    }
+    Ok(None)
+}
+
+const TWO_MANAGERS_GO_ON_AT_ONCE: &str = "\
+open window https://a.test/ -> Ok(Some(1))
+visit_and_ask -> (true, Some(Granted))
+";
+
+const TWO_THAT_OPEN_AN_ORIGIN_AT_ONCE_SHARE_ITS_MANAGER: &str = "\
+open_pairs -> None
+";
+
+pub const LISTS: [&str; 2] = [
+    TWO_MANAGERS_GO_ON_AT_ONCE,
+    TWO_THAT_OPEN_AN_ORIGIN_AT_ONCE_SHARE_ITS_MANAGER,
+];

@@ -1,4 +1,4 @@
-use Rattle.wl_manager_tests.proofs.manager.threads.two_agents_take_turns_and_are_counted.Given as goal
+use Rattle.wl_manager_tests.proofs.manager.threads.turns.two_agents_take_turns_and_are_counted.Given as goal
 
 -- the ledger that was just made
 abbrev pub ghosts-two_agents : goal.ghosts-two_agents

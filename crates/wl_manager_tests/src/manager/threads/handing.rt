@@ -1,0 +1,80 @@
+//! A lock that goes from one agent to the next while a thread looks on.
+
+use crate::manager::{PlainAgent, PlainTicket, plain, summed};
+use std::process::Abort;
+use std::sync::Wait;
+use std::test::Fail;
+use std::thread;
+use std::thread::Threads;
+use wl_cell::Watch;
+use wl_core::ReleaseAnswer;
+use wl_manager::Manager;
+use wl_samples::ask;
+use wl_types::{Ask, Kind, Mode, Phase};
+
+/// What the first agent's release answers, what the watch of its ticket sees once the second has the lock, and what
+/// the second's release answers.
+type Handing = (ReleaseAnswer, Phase, ReleaseAnswer);
+
+const ENDED_BEFORE: Handing = (
+    ReleaseAnswer::Released,
+    Phase::Released,
+    ReleaseAnswer::Released,
+);
+
+/// Looks until the ticket isn't Pending, and then at the watch. Pending where that never came.
+fn look_twice(ticket: &mut PlainTicket, watch: &mut Watch) -> Phase {
+    for _ in 0..100_000_000 {
+        if ticket.look() != Phase::Pending {
+            return watch.look();
+        }
+    }
+    Phase::Pending
+}
+
+fn release_and_look<R: Threads + Wait + Sync>(
+    rt: &R,
+    one: &mut PlainAgent,
+    first: &mut PlainTicket,
+    second: &mut PlainTicket,
+    watch: &mut Watch,
+) -> (ReleaseAnswer, Phase) {
+    thread::join(rt, || one.release(rt, first), || look_twice(second, watch))
+}
+
+fn hand_over<R: Threads + Wait + Sync>(
+    rt: &R,
+    one: &mut PlainAgent,
+    two: &mut PlainAgent,
+    asked: &Ask,
+) -> Result<Handing, Fail> {
+    let mut first = one.request(rt, asked)?;
+    let mut second = two.request(rt, asked)?;
+    let mut watch = first.watch()?;
+    let (released, seen) = release_and_look(rt, one, &mut first, &mut second, &mut watch);
+    Ok((released, seen, two.release(rt, &mut second)))
+}
+
+/// Whoever sees the grant sees the end.
+fn assert_end_is_seen<R: Threads + Wait + Abort + Sync>(
+    rt: &R,
+    one: &mut PlainAgent,
+    two: &mut PlainAgent,
+    asked: &Ask,
+) -> Result<(), Fail> {
+    for _ in 0..1000 {
+        assert_eq!(rt; hand_over(rt, one, two, asked)?, ENDED_BEFORE);
+    }
+    Ok(())
+}
+
+#[test]
+fn ends_are_settled_before_grants(rt: HostRuntime) -> Result<(), Fail> {
+    let manager = plain(&rt, rt.alloc())?;
+    let asked = ask(rt.alloc(), "db", Mode::Exclusive)?;
+    let mut one = Manager::open(&manager, &rt, Kind::Window)?;
+    let mut two = Manager::open(&manager, &rt, Kind::Window)?;
+    assert_end_is_seen(&rt, &mut one, &mut two, &asked)?;
+    assert_eq!(rt; summed(&rt, &manager).entries, 4002);
+    Ok(())
+}

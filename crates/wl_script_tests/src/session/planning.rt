@@ -1,0 +1,37 @@
+//! What a session plans to do with a message, as text.
+
+use std::alloc::Global;
+use wl_codec::{Body, CodecFault, Outcome, read_message};
+use wl_session::{Action, Session};
+use wl_types::{Kind, Memory};
+
+/// The id that the message's reply has, and what is to be done.
+pub fn plan(alloc: Global, session: &Session, message: &str) -> Result<String, Memory> {
+    let plan = session.plan(read_message(alloc, message.as_bytes())?);
+    Ok(format!(in alloc; "{:?} {}", plan.id, action_told(&plan.action))?)
+}
+
+fn action_told(action: &Action) -> &'static str {
+    match action {
+        Action::Act(body) => act_told(body),
+        Action::Answer(Outcome::NotOpen) => "NotOpen",
+        Action::Answer(Outcome::AlreadyOpen) => "AlreadyOpen",
+        Action::Answer(Outcome::Fault(CodecFault::BadOp)) => "BadOp",
+        Action::Answer(Outcome::Fault(CodecFault::BadId)) => "BadId",
+        _ => "another answer",
+    }
+}
+
+fn act_told(body: &Body) -> &'static str {
+    match body {
+        Body::Enter { url, kind } => {
+            if *kind == Kind::Window && url.as_str() == "https://a.test/" {
+                "opens a window of a.test"
+            } else {
+                "opens something else"
+            }
+        }
+        Body::Poll => "polls",
+        _ => "another act",
+    }
+}

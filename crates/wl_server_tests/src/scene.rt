@@ -1,0 +1,188 @@
+//! A service with its clients and their tickets, and the calls of lists that are theirs.
+//!
+//! Clients and tickets are called by their places, from 1 in the order in which they came; those behind a client that
+//! ends move up. The calls are `open KIND URL`, which answers the client's number, and `fill COUNT URL`, which opens that
+//! many workers and answers the last one's; `request CLIENT NAME SIGNAL`, which answers the request's number, and
+//! `look TICKET`; `release CLIENT TICKET`; `signal CLIENT` and `abort CLIENT SIGNAL REASON`; `set CLIENT active`;
+//! `query CLIENT`, which answers how many entries were seen and how many locks are held; `terminate CLIENT`, which answers
+//! whether it left something; and `visit URL`, which answers whether the visitor was called, and how many entries it was
+//! shown.
+
+use crate::lists::{number, rest, show, word};
+use std::alloc::Global;
+use std::sync::Wait;
+use std::test::Fail;
+use wl_journal::{Entry, Sight};
+use wl_manager::Visitor;
+use wl_samples::{ask, key};
+use wl_service::{Client, OpenFault, Service, Ticket};
+use wl_types::{Ask, Kind, Memory, Mode, Phase, Reason, Refusal, ReleaseAnswer};
+
+#[derive(Drop)]
+pub struct Scene {
+    pub service: Service,
+    clients: Vec<Client>,
+    tickets: Vec<Ticket>,
+    pub alloc: Global,
+}
+
+/// How many entries a visit showed, if it showed any.
+#[derive(Drop)]
+struct Shown {
+    entries: Option<usize>,
+}
+
+impl Visitor for Shown {
+    fn visit(&mut self, entries: &[Entry]) {
+        self.entries = Some(entries.len());
+    }
+}
+
+fn kind(word: &str) -> Kind {
+    if word == "worker" {
+        Kind::Worker
+    } else {
+        Kind::Window
+    }
+}
+
+fn reason(word: &str) -> Reason {
+    if word == "TimeoutError" {
+        Reason::TimeoutError
+    } else {
+        Reason::AbortError
+    }
+}
+
+/// The item of a place, from 1.
+fn at<T>(items: &mut Vec<T>, place: usize) -> Option<&mut T> {
+    items.get_mut(place.wrapping_sub(1))
+}
+
+/// How many entries were seen, and how many locks are held.
+fn counted(seen: Result<Sight, Refusal>) -> Result<(u64, usize), Refusal> {
+    let sight = seen?;
+    Ok((sight.seen, sight.snapshot.held.as_slice().len()))
+}
+
+/// The calls that take a client alone.
+fn call_client<R: Wait>(
+    rt: &R,
+    client: &mut Client,
+    call: &str,
+    came: &mut String,
+) -> Result<(), Fail> {
+    match word(call, 0) {
+        "signal" => show(came, Some(client.new_signal(rt))),
+        "abort" => {
+            let signal = number(call, 2) as u64;
+            show(came, Some(client.abort(rt, signal, reason(word(call, 3)))))
+        }
+        "set" => show(came, Some(client.set_active(rt, word(call, 2) == "active"))),
+        "query" => show(came, Some(counted(client.query(rt)))),
+        _ => show(came, None::<u64>),
+    }
+}
+
+impl Scene {
+    pub fn new<R>(rt: &R, alloc: Global) -> Result<Scene, Memory> {
+        Ok(Scene {
+            service: Service::new(rt, alloc)?,
+            clients: Vec::new(alloc),
+            tickets: Vec::new(alloc),
+            alloc,
+        })
+    }
+
+    pub fn do_call<R: Wait>(&mut self, rt: &R, call: &str, came: &mut String) -> Result<(), Fail> {
+        let place = number(call, 1);
+        match word(call, 0) {
+            "open" => show(came, Some(self.open(rt, kind(word(call, 1)), rest(call)))),
+            "fill" => show(came, Some(self.fill(rt, place, rest(call)))),
+            "visit" => self.visit(rt, word(call, 1), came),
+            "request" => self.request(rt, place, call, came),
+            "look" => show(came, self.look(place)),
+            "release" => show(came, self.release(rt, place, number(call, 2))),
+            "terminate" => show(came, self.terminate(rt, place)),
+            _ => match at(&mut self.clients, place) {
+                Some(client) => call_client(rt, client, call, came),
+                None => show(came, None::<u64>),
+            },
+        }
+    }
+
+    fn open<R: Wait>(&mut self, rt: &R, kind: Kind, url: &str) -> Result<Option<u64>, OpenFault> {
+        let client = self.service.open(rt, url, kind)?;
+        let number = client.client();
+        match self.clients.push(client) {
+            Ok(()) => Ok(number),
+            Err(_) => Err(OpenFault::Memory),
+        }
+    }
+
+    fn fill<R: Wait>(&mut self, rt: &R, count: usize, url: &str) -> Result<Option<u64>, OpenFault> {
+        let mut last = None;
+        for _ in 0..count {
+            last = self.open(rt, Kind::Worker, url)?;
+        }
+        Ok(last)
+    }
+
+    fn request<R: Wait>(
+        &mut self,
+        rt: &R,
+        client: usize,
+        call: &str,
+        came: &mut String,
+    ) -> Result<(), Fail> {
+        let mut asked = ask(self.alloc, word(call, 2), Mode::Exclusive)?;
+        asked.signal = word(call, 3).parse::<u64>().ok();
+        show(came, self.request_as(rt, client, &asked))
+    }
+
+    fn request_as<R: Wait>(
+        &mut self,
+        rt: &R,
+        client: usize,
+        asked: &Ask,
+    ) -> Option<Result<u64, Refusal>> {
+        match at(&mut self.clients, client)?.request(rt, asked) {
+            Ok(ticket) => Some(self.keep(ticket)),
+            Err(refusal) => Some(Err(refusal)),
+        }
+    }
+
+    /// Answers the request's number.
+    fn keep(&mut self, ticket: Ticket) -> Result<u64, Refusal> {
+        let number = ticket.number();
+        match self.tickets.push(ticket) {
+            Ok(()) => Ok(number),
+            Err(_) => Err(Refusal::Memory),
+        }
+    }
+
+    fn look(&mut self, ticket: usize) -> Option<Phase> {
+        Some(at(&mut self.tickets, ticket)?.look())
+    }
+
+    fn release<R: Wait>(&mut self, rt: &R, client: usize, ticket: usize) -> Option<ReleaseAnswer> {
+        let ticket = at(&mut self.tickets, ticket)?;
+        Some(at(&mut self.clients, client)?.release(rt, ticket))
+    }
+
+    fn terminate<R: Wait>(&mut self, rt: &R, client: usize) -> Option<bool> {
+        let index = client.wrapping_sub(1);
+        if index < self.clients.len() {
+            Some(self.clients.remove(index).terminate(rt).is_some())
+        } else {
+            None
+        }
+    }
+
+    fn visit<R: Wait>(&self, rt: &R, url: &str, came: &mut String) -> Result<(), Fail> {
+        let key = key(self.alloc, url)?;
+        let mut shown = Shown { entries: None };
+        let visited = self.service.visit(rt, &key, &mut shown);
+        show(came, Some((visited, shown.entries)))
+    }
+}
