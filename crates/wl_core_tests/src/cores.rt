@@ -6,4 +6,4 @@ mod lists;
 mod random;
 mod runs;
 
-pub use lists::assert_lists;
+pub use lists::{LISTS, came};

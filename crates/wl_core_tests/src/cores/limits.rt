@@ -27,13 +27,6 @@ terminate 7 -> Done
 open worker -> Agent(4097)
 ";
 
-#[test]
-fn at_most_4096_agents_are_live(rt: HostRuntime) -> Result<(), Fail> {
-    let came = done_after(rt.alloc(), "", (4095, "open window"), ONE_AGENT_TOO_MANY)?;
-    assert_eq!(rt; came.as_str(), ONE_AGENT_TOO_MANY);
-    Ok(())
-}
-
 const TWO_AGENTS: &str = "\
 open window -> Agent(1)
 open window -> Agent(2)
@@ -45,11 +38,17 @@ signal 1 -> Limit/signals
 signal 2 -> Signal(1025)
 ";
 
+/// What is done before a call is, how often that, and the list then.
+const LIMITS: [(&str, (u64, &str), &str); 2] = [
+    ("", (4095, "open window"), ONE_AGENT_TOO_MANY),
+    (TWO_AGENTS, (1023, "signal 1"), ONE_SIGNAL_TOO_MANY),
+];
+
 #[test]
-fn an_agent_makes_at_most_1024_signals(rt: HostRuntime) -> Result<(), Fail> {
-    let often = (1023, "signal 1");
-    let came = done_after(rt.alloc(), TWO_AGENTS, often, ONE_SIGNAL_TOO_MANY)?;
-    assert_eq!(rt; came.as_str(), ONE_SIGNAL_TOO_MANY);
+fn agents_and_signals_have_limits(rt: HostRuntime) -> Result<(), Fail> {
+    for (first, often, list) in LIMITS {
+        assert_eq!(rt; done_after(rt.alloc(), first, often, list)?.as_str(), list);
+    }
     Ok(())
 }
 

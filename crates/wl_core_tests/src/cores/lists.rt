@@ -1,7 +1,6 @@
 //! Worked lists of calls, for every kind of core. wl_samples says how they are written.
 
 use std::alloc::Global;
-use std::process::Abort;
 use std::test::Fail;
 use wl_core::{LockCore, PlainCore};
 use wl_index::IndexCore;
@@ -99,7 +98,7 @@ release 2 2 -> Released(Released), 2 Released, 3 Granted
 take 3 -> Took(Taken)
 ";
 
-const LISTS: [&str; 7] = [
+pub const LISTS: [&str; 7] = [
     AGENTS_COME_AND_GO,
     ONE_LOCK,
     AN_ABORT,
@@ -109,23 +108,26 @@ const LISTS: [&str; 7] = [
     A_READER_BEHIND_A_WRITER,
 ];
 
-/// Wants each list to come out as it is written, on a new core of the kind.
-pub fn assert_lists<C: LockCore<Seed = ()>, R: Abort>(rt: &R, alloc: Global) -> Result<(), Fail> {
+/// A list as it comes out of a new core of the kind.
+pub fn came<C: LockCore<Seed = ()>>(alloc: Global, list: &str) -> Result<String, Memory> {
+    let mut core: C = opening(alloc);
+    done(alloc, &mut core, list)
+}
+
+#[test]
+fn the_plain_core_does_the_lists(rt: HostRuntime) -> Result<(), Fail> {
     for list in LISTS {
-        let mut core: C = opening(alloc);
-        assert_eq!(rt; done(alloc, &mut core, list)?.as_str(), list);
+        assert_eq!(rt; came::<PlainCore>(rt.alloc(), list)?.as_str(), list);
     }
     Ok(())
 }
 
 #[test]
-fn the_plain_core_does_the_lists(rt: HostRuntime) -> Result<(), Fail> {
-    assert_lists::<PlainCore, _>(&rt, rt.alloc())
-}
-
-#[test]
 fn the_indexed_core_does_the_lists(rt: HostRuntime) -> Result<(), Fail> {
-    assert_lists::<IndexCore, _>(&rt, rt.alloc())
+    for list in LISTS {
+        assert_eq!(rt; came::<IndexCore>(rt.alloc(), list)?.as_str(), list);
+    }
+    Ok(())
 }
 
 const TWO_READERS: &str = "\

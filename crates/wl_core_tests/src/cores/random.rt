@@ -95,14 +95,26 @@ impl Last {
     }
 }
 
-/// Adds a word of a kind and a space, with a number in the place of its letter.
-fn add_word(call: &mut String, word: &str, dice: &mut Dice, last: Last) -> Result<(), Memory> {
+/// The number that stands in the place of a word's letter, if it has one.
+fn number(word: &str, dice: &mut Dice, last: Last) -> Option<u64> {
     match word {
-        "A" => write!(call, "{} ", dice.near(last.agent))?,
-        "R" => write!(call, "{} ", dice.near(last.request))?,
-        "S" => write!(call, "{} ", dice.near(last.signal))?,
-        "signal=S" => write!(call, "signal={} ", dice.near(last.signal))?,
-        _ => write!(call, "{word} ")?,
+        "A" => Some(dice.near(last.agent)),
+        "R" => Some(dice.near(last.request)),
+        "S" | "signal=S" => Some(dice.near(last.signal)),
+        _ => None,
+    }
+}
+
+/// What stands before the letter.
+fn prefix(word: &str) -> &'static str {
+    if word == "signal=S" { "signal=" } else { "" }
+}
+
+/// Adds a word of a kind and a space, with a number in the place of its letter.
+fn add_word(call: &mut String, word: &str, number: Option<u64>) -> Result<(), Memory> {
+    match number {
+        Some(number) => write!(call, "{}{number} ", prefix(word))?,
+        None => write!(call, "{word} ")?,
     }
     Ok(())
 }
@@ -133,7 +145,11 @@ impl Calls {
     fn write_next(&mut self) -> Result<(), Memory> {
         self.text.clear();
         for word in self.dice.kind().split(' ') {
-            add_word(&mut self.text, word, &mut self.dice, self.last)?;
+            add_word(
+                &mut self.text,
+                word,
+                number(word, &mut self.dice, self.last),
+            )?;
         }
         Ok(())
     }
@@ -169,12 +185,7 @@ impl Both {
 }
 
 /// How many calls are answered alike before the first after which the cores differ.
-fn count_alike(alloc: Global, seed: u64) -> Result<u64, Memory> {
-    let mut both = Both {
-        index: opening(alloc),
-        plain: opening(alloc),
-        calls: Calls::new(alloc, seed),
-    };
+fn count_alike(alloc: Global, both: &mut Both) -> Result<u64, Memory> {
     for count in 0..CALLS {
         if !both.answer_alike(alloc)? {
             return Ok(count);
@@ -183,10 +194,19 @@ fn count_alike(alloc: Global, seed: u64) -> Result<u64, Memory> {
     Ok(CALLS)
 }
 
+fn count_from(alloc: Global, seed: u64) -> Result<u64, Memory> {
+    let mut both = Both {
+        index: opening(alloc),
+        plain: opening(alloc),
+        calls: Calls::new(alloc, seed),
+    };
+    count_alike(alloc, &mut both)
+}
+
 #[test]
 fn both_cores_do_the_same(rt: HostRuntime) -> Result<(), Fail> {
     for seed in 1..=SEEDS {
-        assert_eq!(rt; count_alike(rt.alloc(), seed)?, CALLS, "seed {seed}");
+        assert_eq!(rt; count_from(rt.alloc(), seed)?, CALLS, "seed {seed}");
     }
     Ok(())
 }
