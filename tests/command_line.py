@@ -26,7 +26,7 @@ Usage: weblocks <COMMAND>
 
 Commands:
   run     Answer each line of standard input by one line on standard output
-  audit   Do each line of standard input, and say for each origin whether its journal is legal
+  audit   Do each line of standard input, and say for each manager whether its journal is legal
   serve   Serve locks over WebSocket on 127.0.0.1
   client  Send each line of standard input to a server, and print its reply as a line
   help    Print this message or the help of the given subcommand(s)
@@ -59,7 +59,7 @@ All messages and replies: docs/FORMATS.md.
 )
 
 AUDIT_HELP = """\
-Do each line of standard input, and say for each origin whether its journal is legal
+Do each line of standard input, and say for each manager whether its journal is legal
 
 Usage: weblocks audit
 
@@ -69,8 +69,9 @@ Options:
 Example:
   weblocks audit < script.jsonl
 
-  A line for each origin:
+  A line for each manager, here those of two buckets:
   {"entries":4,"legal":true,"origin":"https://a.test"}
+  {"bucket":"inbox","entries":3,"legal":true,"origin":"https://a.test"}
 
 Scripts and audits: docs/FORMATS.md.
 """

@@ -1,16 +1,21 @@
-"""A message of a script, by docs/FORMATS.md: its JSON value, its faults, and the origin of its URL, if that is simple."""
+"""A message of a script, by docs/FORMATS.md: its JSON value, its faults, its bucket, and the origin of its URL, if that is simple."""
 
 import json
 import math
+import re
 from urllib.parse import urlsplit
 
-LARGEST = 2**53 - 1
+LARGEST, LARGEST_CODE = 2**53 - 1, 2**16 - 1
 DEEPEST = 127
 PORTS = {"http": 80, "https": 443, "ws": 80, "wss": 443}
 
 
 class Refused(Exception):
-    """What an error's reply says: its name and its rule."""
+    """What an error's reply says: its name and its rule, and in `more` the other members of the error."""
+
+    def __init__(self, name, rule, **more):
+        super().__init__(name, rule)
+        self.error = {"name": name, "rule": rule, **more}
 
 
 class Inexact:
@@ -73,17 +78,22 @@ def one_of(*words):
     return lambda value: is_text(value) and value in words
 
 
+def is_reason(value):
+    """One of the two words, or a code."""
+    return value in ("AbortError", "TimeoutError") if is_text(value) else is_whole(value) and value <= LARGEST_CODE
+
+
 def is_object(value):
     return value is None or isinstance(value, dict)
 
 
 # Of each operation: the members in the order in which they are checked, whether each must be there, and what it may be.
 MEMBERS = {
-    "open": [("url", True, is_text), ("kind", False, one_of("window", "worker"))],
+    "open": [("url", True, is_text), ("kind", False, one_of("window", "worker")), ("bucket", False, is_text)],
     "signal": [],
     "request": [("name", True, is_text), ("options", False, is_object)],
     "release": [("request", True, is_whole)],
-    "abort": [("signal", True, is_whole), ("reason", False, one_of("AbortError", "TimeoutError"))],
+    "abort": [("signal", True, is_whole), ("reason", False, is_reason)],
     "active": [("active", True, is_flag)],
     "query": [],
     "poll": [],
@@ -122,3 +132,10 @@ def origin_of(url):
     if parts.scheme not in PORTS:
         return None
     return parts.scheme, parts.hostname, parts.port or PORTS[parts.scheme]
+
+
+def bucket_of(message):
+    bucket = message.get("bucket", "default")
+    if not re.fullmatch("[a-z0-9][a-z0-9_-]{0,63}", bucket):
+        raise Refused("BadBucket", "bucket")
+    return bucket

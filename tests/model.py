@@ -6,7 +6,7 @@ script alike, the definitions say what the documents say. It walks all its lists
 
 import json
 
-from messages import PORTS, Refused, check_message, is_whole, origin_of, value_of
+from messages import PORTS, Refused, bucket_of, check_message, is_whole, origin_of, value_of
 
 LONGEST_NAME, MOST_REQUESTS, MOST_SIGNALS, MOST_AGENTS = 1024, 65536, 1024, 4096
 
@@ -17,7 +17,8 @@ LONGEST_NAME, MOST_REQUESTS, MOST_SIGNALS, MOST_AGENTS = 1024, 65536, 1024, 4096
 class Request:
     def __init__(self, number, agent, name, shared, signal):
         self.number, self.agent, self.name, self.shared, self.signal = number, agent, name, shared, signal
-        self.phase = "pending"
+        # The reason of the phase aborted: a word, or a code, which may be 0.
+        self.phase, self.reason = "pending", None
 
     def shown(self):
         mode = "shared" if self.shared else "exclusive"
@@ -59,10 +60,10 @@ class Manager:
         first = next((i for i, request in enumerate(queue) if not request.shared), len(queue))
         return queue[:first]
 
-    def end(self, which, phase, requests):
+    def end(self, which, phase, requests, reason=None):
         for request in [request for request in requests if which(request)]:
             requests.remove(request)
-            request.phase = phase
+            request.phase, request.reason = phase, reason
 
     def enter(self, kind):
         if len(self.agents) >= MOST_AGENTS:
@@ -115,7 +116,9 @@ class Manager:
         if signal is not None and (steal or if_available):
             raise Refused("NotSupportedError", "signal-combined")
         reason = None if signal is None else self.signal(agent, signal)["reason"]
-        if reason:
+        if is_whole(reason):
+            raise Refused("AbortCode", "signal-aborted", reason=reason)
+        if reason is not None:
             raise Refused(reason, "signal-aborted")
         if len(name.encode()) > LONGEST_NAME:
             raise Refused("Limit", "name-length")
@@ -156,11 +159,11 @@ class Manager:
 
     def abort(self, agent, number, reason):
         signal = self.signal(agent, number)
-        if signal["reason"]:
+        if signal["reason"] is not None:
             return "already-aborted"
         signal["reason"] = reason
-        self.end(lambda request: request.signal == number, "aborted:" + reason, self.pending)
-        self.end(lambda lock: lock.signal == number and lock.phase == "granted", "aborted:" + reason, self.held)
+        self.end(lambda request: request.signal == number, "aborted", self.pending, reason)
+        self.end(lambda lock: lock.signal == number and lock.phase == "granted", "aborted", self.held, reason)
         self.settle()
         return "done"
 
@@ -232,9 +235,8 @@ class Agent:
 
 
 def notice(request):
-    phase, _, reason = request.phase.partition(":")
-    told = {"phase": "granted" if phase == "taken" else phase, "request": request.number}
-    return told | {"reason": reason} if reason else told
+    told = {"phase": "granted" if request.phase == "taken" else request.phase, "request": request.number}
+    return told if request.reason is None else told | {"reason": request.reason}
 
 
 class OpaqueAgent:
@@ -300,11 +302,11 @@ class World:
             if message["op"] in ("open", "close"):
                 return {"id": number, "notices": [], "ok": self.come_or_go(agent, message)}
         except Refused as why:
-            return {"id": number, "notices": [], "error": dict(zip(("name", "rule"), why.args))}
+            return {"id": number, "notices": [], "error": why.error}
         try:
             said = {"ok": {} if message["op"] == "poll" else getattr(agent, message["op"])(message)}
         except Refused as why:
-            said = {"error": dict(zip(("name", "rule"), why.args))}
+            said = {"error": why.error}
         return {"id": number, "notices": agent.notices(), **said}
 
     def speaker(self, message):
@@ -320,17 +322,21 @@ class World:
             agent.close()
             del self.agents[message["agent"]]
             return {}
-        origin, kind = origin_of(message["url"]), message.get("kind", "window")
+        # The URL's fault comes before the bucket's.
+        origin = origin_of(message["url"])
+        bucket, kind = bucket_of(message), message.get("kind", "window")
         if origin:
-            agent = Agent(self.managers.setdefault(origin, Manager()), kind)
+            agent = Agent(self.managers.setdefault((origin, bucket), Manager()), kind)
         else:
             agent = OpaqueAgent(kind)
         self.agents[message["agent"]] = agent
         return {"client": agent.client()}
 
     def audit(self):
-        """A line for each origin where something was recorded."""
-        for scheme, host, port in sorted(self.managers):
+        """A line for each manager where something was recorded."""
+        for key in sorted(self.managers):
+            (scheme, host, port), bucket = key
             shown = "" if port == PORTS[scheme] else f":{port}"
-            entries = self.managers[scheme, host, port].entries
-            yield b'{"entries":%d,"legal":true,"origin":"%s"}' % (entries, f"{scheme}://{host}{shown}".encode())
+            named = {} if bucket == "default" else {"bucket": bucket}
+            line = {**named, "entries": self.managers[key].entries, "legal": True, "origin": f"{scheme}://{host}{shown}"}
+            yield json.dumps(line, ensure_ascii=False, separators=(",", ":")).encode()

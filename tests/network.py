@@ -1,13 +1,25 @@
 """The built program as a server, and as a client of one."""
 
+import json
+import os
 import socket
 import subprocess
 import time
+from contextlib import ExitStack
 from pathlib import Path
 
-from running import SECONDS, Ended, Wrong, expect, expect_end, read_line, run_on, run_whole
+from running import SECONDS, Ended, Running, Wrong, expect, expect_end, read_line, run_on, run_whole, text
 
-SCRIPT = Path(__file__).resolve().parent / "scripts" / "a_lock_is_held_and_released"
+SCRIPTS = Path(__file__).resolve().parent / "scripts"
+SCRIPT = SCRIPTS / "a_lock_is_held_and_released"
+BY_CONNECTIONS = [
+    "origins_share_nothing",
+    "buckets_of_an_origin_share_nothing",
+    "bad_buckets_open_nothing",
+    "a_signal_may_be_aborted_with_a_code",
+    "aborts_end_requests_with_their_own_codes",
+    "codes_are_whole_numbers_up_to_65535",
+]
 
 
 def free_port():
@@ -42,6 +54,25 @@ class Serving:
             self.child.communicate()
 
 
+class Client(Running):
+    """The program as a client, which is asked line by line."""
+
+    def __init__(self, program, port):
+        self.replies, out = os.pipe()
+        try:
+            super().__init__([program, "client", "--port", str(port)], out)
+        finally:
+            os.close(out)
+
+    def ask(self, line):
+        self.give(line)
+        return read_line(self.replies, time.monotonic() + SECONDS)
+
+    def __exit__(self, *why):
+        super().__exit__(*why)
+        os.close(self.replies)
+
+
 def client_gets_the_replies(program):
     """A script of one agent, whose member `agent` a message doesn't need."""
     with Serving(program, 1) as server:
@@ -49,6 +80,20 @@ def client_gets_the_replies(program):
         script, wanted = (SCRIPT.with_suffix(it).read_bytes() for it in (".in", ".out"))
         expect_end(run_whole(client, script), wanted)
         expect_end(server.end(), b"served 1 failed 0\n")
+
+
+def agents_get_the_replies(program, script):
+    """A script of several agents, each by a connection of its own."""
+    lines, replies = (script.with_suffix(it).read_bytes().splitlines(keepends=True) for it in (".in", ".out"))
+    speakers = [json.loads(line)["agent"] for line in lines]
+    with ExitStack() as stack:
+        server = stack.enter_context(Serving(program, len(set(speakers))))
+        clients = {it: stack.enter_context(Client(program, server.port)) for it in set(speakers)}
+        for speaker, line, reply in zip(speakers, lines, replies):
+            expect("the reply to " + text(line), clients[speaker].ask(line), reply)
+        for client in clients.values():
+            expect_end(client.end(), b"")
+        expect_end(server.end(), b"served %d failed 0\n" % len(clients))
 
 
 def locks_end_with_their_connection(program):
@@ -89,6 +134,8 @@ def nobody_serves(program, port):
 
 def network_checks(program):
     yield "a client gets the replies of its script", lambda: client_gets_the_replies(program)
+    for name in BY_CONNECTIONS:
+        yield f"{name}, by connections", lambda s=SCRIPTS / name: agents_get_the_replies(program, s)
     yield "locks end with their connection", lambda: locks_end_with_their_connection(program)
     yield "a broken handshake", lambda: broken_handshake(program)
     yield "a port that is taken", lambda: port_is_taken(program)

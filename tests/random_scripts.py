@@ -8,9 +8,12 @@ from model import Agent, World
 LABELS = ["anna", "ben", "cora", "dan", "eve", "fay"]
 # The first and the third are of one origin, and the last is of an opaque one.
 URLS = ["https://a.test/", "http://a.test:8443/x", "https://a.test:443/y", "wss://b.test/", "data:text/plain,x"]
+BUCKETS = [{}, {"bucket": "default"}, {"bucket": "inbox"}]
+BAD_BUCKETS = ["", "Inbox", "-a", "_", "a" * 65, "in box", "\u00e9"]
 NAMES = ["db", "db", "db/1", "printer", "", "\u00e9\u2028\U0001f512\"\\\n\u007f\u0001"]
 REFUSED_NAMES = ["-x", "x" * 1025, "\u00e9" * 513, "-" + "x" * 1025]
-ODD_VALUES = [None, True, False, -1, 0.5, 1.0, 2**53, "", "x", "\u00e9", [], {}, {"mode": "shared"}]
+REASONS = ["AbortError", "TimeoutError", 0, 7, 2**16 - 1, 2**16]
+ODD_VALUES = [None, True, False, -1, 0.5, 1.0, 7, 2**16, 2**53, "", "7", "x", "\u00e9", [], {}, {"mode": "shared"}]
 # Nests as deep as it may, and once more.
 DEEP = [b'{"agent":"anna","id":1,"op":"poll","x":' + b"[" * deep + b"]" * deep + b"}" for deep in (126, 127)]
 BAD_LINES = [b"", b"{", b"[]", b"null", b"\xff", b'"id"', b'{"id":01}', b'{"id":1} x', b'{"id":1,"x":"\\ud800"}', *DEEP]
@@ -38,7 +41,7 @@ class Author:
     def spoil(self, message):
         """Takes a member away, or gives one some value."""
         within = message["options"] if message.get("options") and self.chance(2) else message
-        member = self.random.choice([*within, *(["url", "kind", "options"] if within is message else [])])
+        member = self.random.choice([*within, *(["url", "kind", "bucket", "options"] if within is message else [])])
         if self.chance(3):
             within.pop(member, None)
         else:
@@ -62,7 +65,7 @@ class Author:
         if op == "release":
             return {"op": op, "request": self.number(held)}
         if op == "abort":
-            reason = self.random.choice([{}, {"reason": "AbortError"}, {"reason": "TimeoutError"}])
+            reason = self.random.choice([{}, *({"reason": reason} for reason in REASONS)])
             return {"op": op, "signal": self.number(signals[-3:]), **reason}
         if op == "active":
             return {"op": op, "active": not self.chance(4)}
@@ -71,7 +74,8 @@ class Author:
     def open(self):
         kind = self.random.choice([{}, {"kind": "window"}, {"kind": "worker"}])
         url = "no url" if self.chance(20) else self.random.choice(URLS[: None if self.chance(4) else 2])
-        return {"op": "open", "url": url, **kind}
+        bucket = {"bucket": self.random.choice(BAD_BUCKETS)} if self.chance(20) else self.random.choice(BUCKETS)
+        return {"op": "open", "url": url, **kind, **bucket}
 
     def request(self, signals):
         options = {}

@@ -1,4 +1,4 @@
--- What the rule of a cell means for what its seats know (own).
+-- What the rule of a cell means for what its seats know, and that words tell phases apart (own).
 use Rattle.std.specs.Prelude.{◌≡◌, ◌⊎◌, ℕ, true, IsTrue}
 use mathlib.Core.Option.{some}
 use lib.ListN.{get_elem?}
@@ -9,6 +9,7 @@ use Rattle.wl_types.specs.Phases.{Reaches, is_end}
 use Rattle.wl_cell.specs.declared.view.View.{View}
 use Rattle.wl_cell.specs.declared.view.View.TheVariants.{First, Keeper, Owner, Watch, Note, Spent}
 use Rattle.wl_cell.specs.Rule.{Cell, Kept}
+use Rattle.wl_cell.specs.Words.{word_of}
 
 -- a phase that the cell had, as a seat knows
 abbrev pub Knows : View → Phase → Type 0
@@ -36,3 +37,7 @@ EndsAreEqual =
 abbrev pub NoAbortOnceTaken : Type 0
 NoAbortOnceTaken =
     (cell : Cell) → Kept cell → (number : ℕ) (seen : Phase) → get_elem? cell.views number ≡ some (Owner true seen) → (reason : Reason) → ¬ IsKnown cell (Aborted reason)
+
+-- no two phases share a word, and so no two reasons
+abbrev pub WordsTellPhasesApart : Type 0
+WordsTellPhasesApart = (one other : Phase) → word_of one ≡ word_of other → one ≡ other

@@ -1,6 +1,6 @@
-//! What the rule of a cell means. Each law is the contract of a function without a body.
+//! What the rule of a cell and its words mean. Each law is the contract of a function without a body.
 
-ghost use Rattle.wl_cell.specs.Laws.{SeatsAgree, EndsAreEqual, NoAbortOnceTaken};
+ghost use Rattle.wl_cell.specs.Laws.{SeatsAgree, EndsAreEqual, NoAbortOnceTaken, WordsTellPhasesApart};
 
 /// Between any two steps, of two phases that seats of a cell know, one reaches the other. So what they found can
 /// be put into one order.
@@ -17,4 +17,10 @@ pub fn ends_are_equal()
 /// found Taken, and no watch. And where an abort is known, the owner took nothing.
 pub fn no_abort_once_taken()
     ensures { NoAbortOnceTaken }
+{}
+
+/// No two phases share a word of a cell. So an abort is read back with its very reason: no two codes share a word,
+/// and none has that of a named reason.
+pub fn words_tell_phases_apart()
+    ensures { WordsTellPhasesApart }
 {}

@@ -1,7 +1,7 @@
 //! Phases as words. This file and specs/Words.antt are the only ones that know which word stands for which phase.
 
 ghost use Rattle.std.specs.Prelude.{◌≡◌, ◌+◌, ◌<◌};
-ghost use Rattle.wl_cell.specs.Words.{word_of, reason_code, reason_count, word_count};
+ghost use Rattle.wl_cell.specs.Words.{word_of, reason_number, reason_count, word_count};
 ghost use Rattle.wl_types.specs.declared.phases.Phase.{Phase};
 ghost use Rattle.wl_types.specs.declared.words.Reason.{Reason};
 
@@ -18,7 +18,7 @@ pub(crate) fn word_of(phase: Phase) -> u64
         Phase::Unavailable => 3,
         Phase::Released => 4,
         Phase::Stolen => 5,
-        Phase::Aborted(reason) => 6 + reason_code(reason),
+        Phase::Aborted(reason) => 6 + reason_number(reason),
     }
 }
 
@@ -37,22 +37,24 @@ pub(crate) fn phase_of(word: u64) -> Phase
     }
 }
 
-fn reason_code(reason: Reason) -> u64
-    ensures code { result ≡ reason_code reason }
-    ensures range { reason_code reason < reason_count }
+fn reason_number(reason: Reason) -> u64
+    ensures number { result ≡ reason_number reason }
+    ensures range { reason_number reason < reason_count }
 {
     match reason {
         Reason::AbortError => 0,
         Reason::TimeoutError => 1,
+        Reason::Code(code) => 2 + u64::from(code),
     }
 }
 
-fn reason_of(code: u64) -> Reason
-    requires { code < reason_count }
-    ensures { (reason : Reason) → code ≡ reason_code reason → result ≡ reason }
+fn reason_of(number: u64) -> Reason
+    requires { number < reason_count }
+    ensures { (reason : Reason) → number ≡ reason_number reason → result ≡ reason }
 {
-    match code {
+    match number {
         0 => Reason::AbortError,
-        _ => Reason::TimeoutError,
+        1 => Reason::TimeoutError,
+        code => Reason::Code((code - 2) as u16),
     }
 }

@@ -18,8 +18,8 @@ use wl_types::{
     TakeAnswer,
 };
 
-/// The core of a lock manager: the lock machine of one origin. Contracts see a core as the machine's state and the
-/// changes of its last call; each call is the machine's step for the command of that name.
+/// The core of a lock manager: the lock machine of one bucket of an origin. Contracts see a core as the machine's state
+/// and the changes of its last call; each call is the machine's step for the command of that name.
 ///
 /// A call that is refused answers the first refusal that applies, in the order of docs/FORMATS.md, and `Memory` only
 /// where no other does. It changes no state, uses up no number and leaves no changes. `take`, `release`, `abort`

@@ -13,11 +13,11 @@ use std::alloc::Global;
 use std::collections::BTreeMap;
 use std::marker::Model;
 use wl_machine::{Command, Reply};
-use wl_origin::OriginKey;
+use wl_origin::ManagerKey;
 use wl_types::{Memory, Numbers};
 
-/// A core for each origin.
-pub type Realm<C> = KeyedRealm<OriginKey, C>;
+/// A core for each bucket of each origin.
+pub type Realm<C> = KeyedRealm<ManagerKey, C>;
 
 /// Cores by their keys, seen as a list in the order of the keys. A core stays for the life of the realm.
 #[derive(Drop)]

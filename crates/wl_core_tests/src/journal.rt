@@ -107,6 +107,7 @@ signal 1 -> Signal(1)
 abort 1 1 AbortError -> Aborted(Done)
 count -> 3 of 3
 abort 1 1 AbortError -> Aborted(AlreadyAborted)
+abort 1 1 7 -> Aborted(AlreadyAborted)
 abort 1 2 AbortError -> NoSuch/signal
 take 9 -> Took(NotGranted)
 release 1 9 -> Released(NotHeld)

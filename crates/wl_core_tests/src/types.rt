@@ -109,7 +109,7 @@ fn the_first_check_that_fails_is_answered(rt: HostRuntime) -> Result<(), Fail> {
     Ok(())
 }
 
-const REFUSALS: [(Refusal, &str); 16] = [
+const REFUSALS: [(Refusal, &str); 19] = [
     (Refusal::InvalidState, "1 InvalidStateError/inactive"),
     (Refusal::Security, "2 SecurityError/opaque-origin"),
     (Refusal::ReservedName, "3 NotSupportedError/reserved-name"),
@@ -125,6 +125,18 @@ const REFUSALS: [(Refusal, &str); 16] = [
     (
         Refusal::SignalAborted(Reason::TimeoutError),
         "7 TimeoutError/signal-aborted",
+    ),
+    (
+        Refusal::SignalAborted(Reason::AbortError),
+        "7 AbortError/signal-aborted",
+    ),
+    (
+        Refusal::SignalAborted(Reason::Code(7)),
+        "7 AbortCode 7/signal-aborted",
+    ),
+    (
+        Refusal::SignalAborted(Reason::Code(65535)),
+        "7 AbortCode 65535/signal-aborted",
     ),
     (Refusal::NameTooLong, "8 Limit/name-length"),
     (Refusal::NoSuchSignal, "9 NoSuch/signal"),
@@ -144,6 +156,52 @@ fn a_refusal_has_a_name_a_rule_and_a_number(rt: HostRuntime) -> Result<(), Fail>
         assert_eq!(rt; text.as_str(), wanted);
     }
     Ok(())
+}
+
+/// All codes have one name.
+const REASONS: [(Reason, &str, Option<u16>); 5] = [
+    (Reason::AbortError, "AbortError", None),
+    (Reason::TimeoutError, "TimeoutError", None),
+    (Reason::Code(0), "AbortCode", Some(0)),
+    (Reason::Code(1), "AbortCode", Some(1)),
+    (Reason::Code(65535), "AbortCode", Some(65535)),
+];
+
+#[test]
+fn a_reason_has_a_name_and_a_refusal_its_code(rt: HostRuntime) {
+    for (reason, name, code) in REASONS {
+        assert_eq!(rt; reason.name(), name);
+        assert_eq!(rt; Refusal::SignalAborted(reason).name(), name);
+        assert_eq!(rt; Refusal::SignalAborted(reason).code(), code);
+    }
+    assert_eq!(rt; Refusal::NoSuchSignal.code(), None);
+}
+
+/// Whether two reasons are equal, what is refused for them, and what ends for them.
+fn are_equal(one: Reason, other: Reason) -> (bool, bool, bool) {
+    (
+        one == other,
+        Refusal::SignalAborted(one) == Refusal::SignalAborted(other),
+        Phase::Aborted(one) == Phase::Aborted(other),
+    )
+}
+
+const APART: [(Reason, Reason); 6] = [
+    (Reason::AbortError, Reason::TimeoutError),
+    (Reason::AbortError, Reason::Code(0)),
+    (Reason::TimeoutError, Reason::Code(1)),
+    (Reason::Code(7), Reason::Code(8)),
+    (Reason::Code(0), Reason::Code(256)),
+    (Reason::Code(0), Reason::Code(65535)),
+];
+
+#[test]
+fn reasons_are_equal_where_their_codes_are(rt: HostRuntime) {
+    for (one, other) in APART {
+        assert_eq!(rt; are_equal(one, other), (false, false, false));
+        assert_eq!(rt; are_equal(one, one), (true, true, true));
+        assert_eq!(rt; are_equal(other, other), (true, true, true));
+    }
 }
 
 #[test]
@@ -183,9 +241,10 @@ fn a_list_keeps_its_order(rt: HostRuntime) -> Result<(), Fail> {
     Ok(())
 }
 
-const ENDS: [(Phase, bool); 7] = [
+const ENDS: [(Phase, bool); 8] = [
     (Phase::Unavailable, true),
     (Phase::Aborted(Reason::AbortError), true),
+    (Phase::Aborted(Reason::Code(0)), true),
     (Phase::Released, true),
     (Phase::Stolen, true),
     (Phase::Pending, false),
@@ -200,6 +259,5 @@ fn ends_are_ends(rt: HostRuntime) {
     }
     assert!(rt; Phase::Pending.is_pending() && !Phase::Granted.is_pending());
     assert_eq!(rt; Mode::Exclusive.word(), "exclusive");
-    assert_eq!(rt; Reason::AbortError.word(), "AbortError");
     assert!(rt; Kind::Window != Kind::Worker);
 }

@@ -5,7 +5,6 @@ use Rattle.std.proofs.lemmas.Slice.Eq.{bytes_eq-Decides}
 use Rattle.std.proofs.Math.Bool.{beq}
 use Rattle.std.specs.Prelude.{◌&&◌, Option, Some, None}
 use Rattle.std.specs.Option.{option_eq}
-use Rattle.std.specs.Ordering.{on}
 use Rattle.std.specs.Str.{bytes_eq}
 use Rattle.std.specs.Cmp.Lexicographic.{pointwise}
 use Rattle.wl_types.specs.declared.words.Mode.{Mode}
@@ -13,7 +12,7 @@ use Rattle.wl_types.specs.declared.words.Mode.TheVariants.{Exclusive, Shared}
 use Rattle.wl_types.specs.declared.words.Kind.{Kind}
 use Rattle.wl_types.specs.declared.words.Kind.TheVariants.{Window, Worker}
 use Rattle.wl_types.specs.declared.words.Reason.{Reason}
-use Rattle.wl_types.specs.declared.words.Reason.TheVariants.{AbortError, TimeoutError}
+use Rattle.wl_types.specs.declared.words.Reason.TheVariants.{AbortError, TimeoutError, Code}
 use Rattle.wl_types.specs.declared.phases.Numbers.{Numbers}
 use Rattle.wl_machine.specs.declared.rows.AgentRow.{AgentRow}
 use Rattle.wl_machine.specs.declared.rows.SignalRow.{SignalRow}
@@ -22,7 +21,7 @@ use Rattle.wl_machine.specs.declared.rows.PendingRow.{PendingRow}
 use Rattle.wl_machine.specs.State.{State}
 use Rattle.wl_machine.specs.Grants.{is_exclusive}
 use Rattle.wl_machine.specs.Refusals.{is_window}
-use Rattle.wl_machine.specs.Same.{is_timeout, same_agent, same_signal, same_lock, same_request, same_numbers, same_state}
+use Rattle.wl_machine.specs.Same.{same_reason, same_agent, same_signal, same_lock, same_request, same_numbers, same_state}
 use Rattle.wl_machine.specs.Laws.{SameIsEqual}
 use Rattle.wl_machine.specs.Alike.{same_state_equiv}
 use Rattle.wl_machine.proofs.Lists.{and_first, and_second}
@@ -70,11 +69,11 @@ kind_exact Worker Worker is = refl
 kind_exact Window Worker is = absurd (cc (is))
 kind_exact Worker Window is = absurd (cc (is))
 
-reason_exact : (a b : Reason) → beq (is_timeout a) (is_timeout b) ≡ true → a ≡ b
+reason_exact : (a b : Reason) → same_reason a b ≡ true → a ≡ b
 reason_exact AbortError AbortError is = refl
 reason_exact TimeoutError TimeoutError is = refl
-reason_exact AbortError TimeoutError is = absurd (cc (is))
-reason_exact TimeoutError AbortError is = absurd (cc (is))
+reason_exact (Code a) (Code b) is = ap (λ (code : ℕ). Code code) (number_exact a b is)
+reason_exact a b is = absurd (cc (is))
 
 abbrev agent_row_of : ℕ → Kind → Bool → AgentRow
 agent_row_of the_number the_kind the_active = record { number = the_number; kind = the_kind; active = the_active }
@@ -98,7 +97,7 @@ signal_exact a b is =
     let two = both (a.number == b.number) _ one.1 in
     let agent : a.agent ≡ b.agent = number_exact a.agent b.agent one.0 in
     let number : a.number ≡ b.number = number_exact a.number b.number two.0 in
-    let reason : a.reason ≡ b.reason = option_exact (on is_timeout beq) reason_exact a.reason b.reason two.1 in
+    let reason : a.reason ≡ b.reason = option_exact same_reason reason_exact a.reason b.reason two.1 in
     let equal : signal_row_of a.agent a.number a.reason ≡ signal_row_of b.agent b.number b.reason = rw (agent, number, reason) refl in
     equal
 

@@ -7,7 +7,7 @@ use Rattle.std.specs.Ordering.{on, eq_of_both}
 use Rattle.std.proofs.Math.Bool.{beq}
 use Rattle.wl_types.specs.declared.words.Reason.{Reason}
 use Rattle.wl_types.specs.declared.phases.Numbers.{Numbers}
-use Rattle.wl_types.specs.declared.words.Reason.TheVariants.{AbortError, TimeoutError}
+use Rattle.wl_types.specs.declared.words.Reason.TheVariants.{AbortError, TimeoutError, Code}
 use Rattle.wl_machine.specs.declared.rows.AgentRow.{AgentRow}
 use Rattle.wl_machine.specs.declared.rows.SignalRow.{SignalRow}
 use Rattle.wl_machine.specs.declared.rows.HeldRow.{HeldRow}
@@ -16,15 +16,18 @@ use Rattle.wl_machine.specs.State.{State}
 use Rattle.wl_machine.specs.Grants.{is_exclusive}
 use Rattle.wl_machine.specs.Refusals.{is_window}
 
-abbrev pub is_timeout : Reason → Bool
-is_timeout AbortError = false
-is_timeout TimeoutError = true
+-- one word, or one code
+abbrev pub same_reason : Reason → Reason → Bool
+same_reason AbortError AbortError = true
+same_reason TimeoutError TimeoutError = true
+same_reason (Code one) (Code other) = one == other
+same_reason one other = false
 
 abbrev pub same_agent : AgentRow → AgentRow → Bool
 same_agent = eq_of_both (on (λ row. row.number) ◌==◌) (eq_of_both (on (λ row. is_window row.kind) beq) (on (λ row. row.active) beq))
 
 abbrev pub same_signal : SignalRow → SignalRow → Bool
-same_signal = eq_of_both (on (λ row. row.agent) ◌==◌) (eq_of_both (on (λ row. row.number) ◌==◌) (on (λ row. row.reason) (option_eq (on is_timeout beq))))
+same_signal = eq_of_both (on (λ row. row.agent) ◌==◌) (eq_of_both (on (λ row. row.number) ◌==◌) (on (λ row. row.reason) (option_eq same_reason)))
 
 abbrev pub same_request : PendingRow → PendingRow → Bool
 same_request =

@@ -3,7 +3,7 @@ use Rattle.std.specs.Prelude.{◌≡◌, ℕ, true, false, List, [], ◌∷◌, 
 use Rattle.wl_types.specs.declared.words.Mode.{Mode}
 use Rattle.wl_types.specs.declared.words.Mode.TheVariants.{Exclusive, Shared}
 use Rattle.wl_types.specs.declared.words.Kind.TheVariants.{Window}
-use Rattle.wl_types.specs.declared.words.Reason.TheVariants.{AbortError, TimeoutError}
+use Rattle.wl_types.specs.declared.words.Reason.TheVariants.{AbortError, TimeoutError, Code}
 use Rattle.wl_types.specs.declared.phases.Numbers.{Numbers}
 use Rattle.wl_types.specs.declared.phases.Phase.{Phase}
 use Rattle.wl_types.specs.declared.phases.Phase.TheVariants.{Granted, Unavailable, Stolen, Aborted, Released}
@@ -123,6 +123,12 @@ AbortKeepsTakenLock =
     ≡ ((reply.Signal 1, []) ∷ (reply.Request 1, change 1 Granted ∷ []) ∷ (reply.Took take_answer.Taken, []) ∷ (reply.Aborted abort_answer.Done, [])
     ∷ (reply.Seen (record { held = info db Exclusive 1 ∷ []; pending = [] }), []) ∷ (reply.Aborted abort_answer.AlreadyAborted, [])
     ∷ (reply.Refused (SignalAborted AbortError), []) ∷ [])
+
+-- a signal keeps the code that it was aborted with
+abbrev pub FirstCodeStays : Type 0
+FirstCodeStays =
+    replies_and_changes (NewSignal 1 ∷ Abort 1 1 (Code 7) ∷ Abort 1 1 (Code 8) ∷ Request 1 (with_signal 1 db Exclusive) ∷ []) three
+    ≡ ((reply.Signal 1, []) ∷ (reply.Aborted abort_answer.Done, []) ∷ (reply.Aborted abort_answer.AlreadyAborted, []) ∷ (reply.Refused (SignalAborted (Code 7)), []) ∷ [])
 
 -- a lock that was granted, and whose agent wasn't told
 abbrev pub untold : State

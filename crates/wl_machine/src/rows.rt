@@ -2,12 +2,10 @@
 
 ghost use Rattle.std.specs.Prelude.{◌≡◌};
 ghost use Rattle.std.specs.Option.{option_eq};
-ghost use Rattle.std.specs.Ordering.{on};
-ghost use Rattle.std.proofs.Math.Bool.{beq};
 ghost use Rattle.std.specs.Cmp.{partial_equiv_from_equiv};
 ghost use Rattle.wl_machine.specs.Grants.{is_exclusive};
 ghost use Rattle.wl_machine.specs.Refusals.{is_window};
-ghost use Rattle.wl_machine.specs.Same.{is_timeout, same_agent, same_signal, same_request, same_lock, same_numbers};
+ghost use Rattle.wl_machine.specs.Same.{same_reason, same_agent, same_signal, same_request, same_lock, same_numbers};
 ghost use Rattle.wl_machine.specs.Alike.{same_agent_equiv, same_signal_equiv, same_request_equiv, same_lock_equiv};
 
 use wl_types::{Kind, Mode, Name, Numbers, Reason};
@@ -67,18 +65,23 @@ fn window(kind: Kind) -> bool
     kind == Kind::Window
 }
 
-fn timeout(reason: Reason) -> bool
-    ensures { result ≡ is_timeout reason }
+fn same_reason(one: Reason, other: Reason) -> bool
+    ensures { result ≡ same_reason one other }
 {
-    reason == Reason::TimeoutError
+    match (one, other) {
+        (Reason::AbortError, Reason::AbortError) => true,
+        (Reason::TimeoutError, Reason::TimeoutError) => true,
+        (Reason::Code(one), Reason::Code(other)) => one == other,
+        _ => false,
+    }
 }
 
-fn same_reason(one: Option<Reason>, other: Option<Reason>) -> bool
-    ensures { result ≡ option_eq (on is_timeout beq) one other }
+fn same_abort(one: Option<Reason>, other: Option<Reason>) -> bool
+    ensures { result ≡ option_eq same_reason one other }
 {
     match (one, other) {
         (None, None) => true,
-        (Some(one), Some(other)) => timeout(one) == timeout(other),
+        (Some(one), Some(other)) => same_reason(one, other),
         _ => false,
     }
 }
@@ -110,7 +113,7 @@ impl PartialEq for SignalRow {
     fn eq(&self, other: &SignalRow) -> bool {
         self.agent == other.agent
             && self.number == other.number
-            && same_reason(self.reason, other.reason)
+            && same_abort(self.reason, other.reason)
     }
 }
 

@@ -12,7 +12,7 @@ use std::sync::Wait;
 use std::test::Fail;
 use wl_types::Memory;
 use wl_types::Phase::{Aborted, Granted, Released, Stolen, Unavailable};
-use wl_types::Reason::{AbortError, TimeoutError};
+use wl_types::Reason::{AbortError, Code, TimeoutError};
 
 /// Makes the calls on a new cell.
 fn assert_calls<R: Wait + Abort>(
@@ -76,6 +76,42 @@ const ENDED_WHILE_IT_WAITED: [(Call, &str); 24] = [
 #[test]
 fn a_look_is_of_now(rt: HostRuntime) -> Result<(), Fail> {
     Ok(assert_calls(&rt, rt.alloc(), ENDED_WHILE_IT_WAITED.as_slice())?)
+}
+
+/// A code is read back as itself, the least and the greatest too. A take that comes after the abort takes nothing.
+const ABORTED_WITH_A_CODE: [(Call, &str); 27] = [
+    (New, "true"),
+    (Settle(Aborted(Code(0))), "true"),
+    (Look, "Aborted(Code(0))"),
+    (Agree, "(Aborted(Code(0)), Aborted(Code(0)))"),
+    (Take, "Before(Aborted(Code(0)))"),
+    (New, "true"),
+    (Settle(Aborted(Code(65535))), "true"),
+    (Kept, "Aborted(Code(65535))"),
+    (LookOn, "Aborted(Code(65535))"),
+    (Take, "Before(Aborted(Code(65535)))"),
+    (New, "true"),
+    (Settle(Granted), "true"),
+    (TryAbort(Code(65535)), "Some(true)"),
+    (TryAbort(Code(0)), "None"),
+    (Settle(Aborted(Code(0))), "false"),
+    (Take, "Before(Aborted(Code(65535)))"),
+    (Look, "Aborted(Code(65535))"),
+    (New, "true"),
+    (Settle(Granted), "true"),
+    (TryAbort(Code(0)), "Some(true)"),
+    (Take, "Before(Aborted(Code(0)))"),
+    (LookOn, "Aborted(Code(0))"),
+    (New, "true"),
+    (Settle(Granted), "true"),
+    (Take, "Taken"),
+    (TryAbort(Code(7)), "Some(false)"),
+    (Look, "Taken"),
+];
+
+#[test]
+fn a_cell_carries_the_code_of_an_abort(rt: HostRuntime) -> Result<(), Fail> {
+    Ok(assert_calls(&rt, rt.alloc(), ABORTED_WITH_A_CODE.as_slice())?)
 }
 
 /// The same of the end of a lock that was granted and seen so.

@@ -1,4 +1,4 @@
-//! The key of a manager, and the order of keys.
+//! The origin of a manager's key, and the order of origins.
 
 ghost use Rattle.std.specs.Prelude.{◌≡◌, string_bytes, IfOk};
 ghost use Rattle.wl_origin.specs.Origin.{tuple_text};
@@ -10,7 +10,7 @@ use std::hash::{Hash, Hasher};
 use std::marker::Model;
 use wl_types::Memory;
 
-/// An origin that has a lock manager: a scheme, the text of a host and a port. Keys are ordered by these three, the
+/// An origin that has lock managers: a scheme, the text of a host and a port. Keys are ordered by these three, the
 /// texts by their bytes and the port as a number.
 #[derive(Debug, Drop)]
 pub struct OriginKey {

@@ -8,10 +8,10 @@ use std::error::Error;
 use std::fmt;
 use url::{Origin, ParseError, Url};
 
-/// Whether an origin has a lock manager.
+/// Whether an origin has lock managers.
 #[derive(Debug, PartialEq, Eq, Drop)]
 pub enum Standing {
-    /// It has the manager of this key.
+    /// It has this key, and a manager for each of its buckets.
     Tuple(OriginKey),
     /// It has none, as the origin of a `data:` or a `file:` URL (Storage, "obtain a storage key").
     Opaque,

@@ -12,7 +12,7 @@ use wl_types::{Ask, Kind, Memory, Mode, Reason, Refusal};
 /// The calls are `open KIND`, `set AGENT active`, `signal AGENT`, `request AGENT NAME OPTION ..`, `take REQUEST`,
 /// `release AGENT REQUEST`, `abort AGENT SIGNAL REASON`, `terminate AGENT` and `query AGENT`; with `may` before one of
 /// the first four, what it would be refused; `untaken AGENT SIGNAL PLACE` and `above AGENT SIGNAL REQUEST`. The options
-/// are `shared`, `available`, `steal` and `signal=SIGNAL`.
+/// are `shared`, `available`, `steal` and `signal=SIGNAL`. A reason is `AbortError`, `TimeoutError` or a code.
 pub fn done<C: LockCore>(alloc: Global, core: &mut C, list: &str) -> Result<String, Memory> {
     let mut came = String::new(alloc);
     for line in list.lines() {
@@ -137,9 +137,11 @@ fn kind(word: &str) -> Kind {
 
 fn reason(word: &str) -> Reason {
     if word == "TimeoutError" {
-        Reason::TimeoutError
-    } else {
-        Reason::AbortError
+        return Reason::TimeoutError;
+    }
+    match word.parse::<u16>() {
+        Ok(code) => Reason::Code(code),
+        Err(_) => Reason::AbortError,
     }
 }
 

@@ -11,7 +11,7 @@ pub use calls::{done, done_often};
 use std::alloc::Global;
 use std::test::Fail;
 use wl_core::{Command, LockCore, Reply};
-use wl_origin::{OriginKey, Standing, key_of};
+use wl_origin::{ManagerKey, OriginKey, Standing, key_of, manager_of};
 use wl_types::{Ask, Kind, Memory, Mode, Numbers, Refusal, Text};
 
 /// A core, of whatever kind, whose next numbers are all 1.
@@ -70,11 +70,24 @@ pub fn letters(alloc: Global, count: usize) -> Result<String, Memory> {
     Ok(text)
 }
 
-/// The key of a URL that has one.
-pub fn key(alloc: Global, url: &str) -> Result<OriginKey, Fail> {
+/// The origin of a URL that has one.
+pub fn origin_key(alloc: Global, url: &str) -> Result<OriginKey, Fail> {
     match key_of(alloc, url)? {
-        Standing::Tuple(key) => Ok(key),
+        Standing::Tuple(origin) => Ok(origin),
         Standing::Opaque => Err(Fail::new("an opaque origin")),
+    }
+}
+
+/// The key of the bucket `default` of a URL's origin.
+pub fn key(alloc: Global, url: &str) -> Result<ManagerKey, Fail> {
+    key_in(alloc, url, "default")
+}
+
+/// The key of a bucket of a URL's origin.
+pub fn key_in(alloc: Global, url: &str, bucket: &str) -> Result<ManagerKey, Fail> {
+    match manager_of(alloc, url, bucket)? {
+        Some(key) => Ok(key),
+        None => Err(Fail::new("an opaque origin")),
     }
 }
 

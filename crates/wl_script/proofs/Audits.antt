@@ -11,7 +11,7 @@ use Rattle.std.proofs.Math.Seq.{split_at}
 use Rattle.std.proofs.lemmas.List.{take_more}
 use Rattle.std.proofs.Math.ListN.{get_or}
 use Rattle.wl_journal.specs.Books.{Book}
-use Rattle.wl_origin.specs.Origin.{Tuple}
+use Rattle.wl_origin.specs.declared.manager_key.ManagerKey.{ManagerKey}
 use Rattle.wl_world.specs.Cores.{AreCoresOf}
 use Rattle.wl_world.specs.Origins.{Core}
 use Rattle.wl_world.specs.World.{World}
@@ -22,25 +22,25 @@ use Rattle.wl_script.specs.Audits.{Audited, IsUnwritten, LeavesAudit, LeavesOrig
 use Rattle.wl_script.specs.declared.fault.ScriptFault.{ScriptFault}
 use Rattle.wl_script.specs.declared.fault.ScriptFault.TheVariants.{Memory, Read, Write, LineTooLong, TooManyTurns}
 
-abbrev is_audited : Tuple × Core → Bool
+abbrev is_audited : ManagerKey × Core → Bool
 is_audited origin = not (entries_of origin.1 == 0)
 
-audited-append : (front back : List (Tuple × Core)) → audited (front ++ back) ≡ audited front ++ audited back
+audited-append : (front back : List (ManagerKey × Core)) → audited (front ++ back) ≡ audited front ++ audited back
 audited-append front back = filter-append is_audited front back
 
-audit_text-append : (front back : List (Tuple × Core)) → audit_text (front ++ back) ≡ audit_text front ++ audit_text back
+audit_text-append : (front back : List (ManagerKey × Core)) → audit_text (front ++ back) ≡ audit_text front ++ audit_text back
 audit_text-append front back =
     ap (flat_map (λ origin. audit_line origin.0 (entries_of origin.1))) (audited-append front back)
     ∙ flat_map-append (λ origin. audit_line origin.0 (entries_of origin.1)) (audited front) (audited back)
 
 -- one more book
-one_more_seen : (books : List (Tuple × Book)) (i : ℕ) (origin : Tuple × Book) → i < length books → origin ≡ get_or books i origin
+one_more_seen : (books : List (ManagerKey × Book)) (i : ℕ) (origin : ManagerKey × Book) → i < length books → origin ≡ get_or books i origin
     → all_seen (take (i + 1) books) ≡ all_seen (take i books) ++ (origin.0, seen origin.1) ∷ []
 one_more_seen books i origin within is =
     ap all_seen (take_more books i origin within ∙ ap (λ o. take i books ++ o ∷ []) (sym is))
     ∙ map-append (λ o. (o.0, seen o.1)) (take i books) (origin ∷ [])
 
-pub more_written : (books : List (Tuple × Book)) (i : ℕ) (origin : Tuple × Book) (before n : ℕ) (old now new : Option (List ℕ))
+pub more_written : (books : List (ManagerKey × Book)) (i : ℕ) (origin : ManagerKey × Book) (before n : ℕ) (old now new : Option (List ℕ))
     → i < length books → origin ≡ get_or books i origin → WritesNext before (origin.0, seen origin.1) n now new
     → Appends old now (audit_text (all_seen (take i books)))
     → Appends old new (audit_text (all_seen (take (i + 1) books)))
@@ -48,7 +48,7 @@ more_written books i origin before n old now new within is next appends =
     subst (Appends old new) (sym (ap audit_text (one_more_seen books i origin within is) ∙ audit_text-append (all_seen (take i books)) ((origin.0, seen origin.1) ∷ [])))
     (Appends-trans old now new _ _ appends next.written)
 
-pub more_counted : (books : List (Tuple × Book)) (i : ℕ) (origin : Tuple × Book) (before n : ℕ) (now new : Option (List ℕ))
+pub more_counted : (books : List (ManagerKey × Book)) (i : ℕ) (origin : ManagerKey × Book) (before n : ℕ) (now new : Option (List ℕ))
     → i < length books → origin ≡ get_or books i origin → WritesNext before (origin.0, seen origin.1) n now new
     → before ≡ length (audited (all_seen (take i books)))
     → n ≡ length (audited (all_seen (take (i + 1) books)))
@@ -58,7 +58,7 @@ more_counted books i origin before n now new within is next count =
     ∙ ap length (audited-append (all_seen (take i books)) ((origin.0, seen origin.1) ∷ []))
     ∙ length-append (audited (all_seen (take i books))) (audited ((origin.0, seen origin.1) ∷ [])))
 
-pub few_more : (origin : Tuple × Core) (before n i : ℕ) (now new : Option (List ℕ)) → WritesNext before origin n now new → before ≤ i → n ≤ i + 1
+pub few_more : (origin : ManagerKey × Core) (before n i : ℕ) (now new : Option (List ℕ)) → WritesNext before origin n now new → before ≤ i → n ≤ i + 1
 few_more origin before n i now new next few =
     let count = next.count in
     omega (arith, count, few, one_at_most (is_audited origin))
@@ -68,15 +68,15 @@ few_more origin before n i now new next few =
     one_at_most false = omega arith
 
 -- the books around this one
-split_seen : (books : List (Tuple × Book)) (i : ℕ) (origin : Tuple × Book) → i < length books → origin ≡ get_or books i origin
-    → (back : List (Tuple × Core)) × (all_seen books ≡ all_seen (take i books) ++ (origin.0, seen origin.1) ∷ back)
+split_seen : (books : List (ManagerKey × Book)) (i : ℕ) (origin : ManagerKey × Book) → i < length books → origin ≡ get_or books i origin
+    → (back : List (ManagerKey × Core)) × (all_seen books ≡ all_seen (take i books) ++ (origin.0, seen origin.1) ∷ back)
 split_seen books i origin within is = (
   _,
   ap all_seen (split_at books i origin within ∙ ap (λ o. take i books ++ o ∷ drop (suc i) books) (sym is))
       ∙ map-append (λ o. (o.0, seen o.1)) (take i books) (origin ∷ drop (suc i) books),
 )
 
-pub not_written : (books : List (Tuple × Book)) (i : ℕ) (origin : Tuple × Book) (done before : ℕ) (old now new : Option (List ℕ)) (fault : ScriptFault)
+pub not_written : (books : List (ManagerKey × Book)) (i : ℕ) (origin : ManagerKey × Book) (done before : ℕ) (old now new : Option (List ℕ)) (fault : ScriptFault)
     → i < length books → origin ≡ get_or books i origin
     → Appends old now (audit_text (all_seen (take i books))) → before ≡ length (audited (all_seen (take i books)))
     → IsUnwritten done before (origin.0, seen origin.1) now fault new
@@ -107,13 +107,13 @@ not_written books i origin done before old now new (LineTooLong n) within is app
 not_written books i origin done before old now new (TooManyTurns n) within is appends count left = absurd left
 
 -- the origins of the world after the script
-origins_are : (world later : World) (listed books : List (Tuple × Book)) → world ≡ later → AreCoresOf (Some 0) world (all_seen listed) → books ≡ listed
+origins_are : (world later : World) (listed books : List (ManagerKey × Book)) → world ≡ later → AreCoresOf (Some 0) world (all_seen listed) → books ≡ listed
     → AreCoresOf (Some 0) later (all_seen books)
 origins_are world later listed books led are same =
     subst (λ w. AreCoresOf (Some 0) w (all_seen books)) led (subst (λ books. AreCoresOf (Some 0) world (all_seen books)) (sym same) are)
 
 -- the audit of a script whose lines were all done
-pub audit_ends : (rest : Option (List ℕ)) (start world : World) (listed books : List (Tuple × Book)) (done : ℕ) (result : Result ℕ ScriptFault) (old new : Option (List ℕ))
+pub audit_ends : (rest : Option (List ℕ)) (start world : World) (listed books : List (ManagerKey × Book)) (done : ℕ) (result : Result ℕ ScriptFault) (old new : Option (List ℕ))
     → start ≡ recording
     → IfSome rest (λ input. (done ≡ length (lines input)) × Answered 65536 start (lines input) None None)
     → IfSome rest (λ input. world ≡ after start (lines input))
@@ -124,7 +124,7 @@ audit_ends None start world listed books done (Ok n) old new from answered led a
 audit_ends (Some input) start world listed books done (Ok n) old new from (count, answered) led are same wrote = (answered.within, (all_seen books, origins_are _ _ _ _ (led ∙ ap (λ w. after w (lines input)) from) are same, wrote))
 audit_ends rest start world listed books done (Err fault) old new from answered led are same wrote = tt
 
-pub audit_breaks : (rest : Option (List ℕ)) (start world : World) (listed books : List (Tuple × Book)) (done : ℕ) (result : Result ℕ ScriptFault) (old new : Option (List ℕ))
+pub audit_breaks : (rest : Option (List ℕ)) (start world : World) (listed books : List (ManagerKey × Book)) (done : ℕ) (result : Result ℕ ScriptFault) (old new : Option (List ℕ))
     → start ≡ recording
     → IfSome rest (λ input. (done ≡ length (lines input)) × Answered 65536 start (lines input) None None)
     → IfSome rest (λ input. world ≡ after start (lines input))

@@ -1,11 +1,14 @@
--- What an audit writes (own): a line for each origin whose journal has an entry.
-use Rattle.std.specs.Prelude.{ℕ, ◌+◌, ◌≡◌, ◌==◌, ◌≤◌, ◌<◌, ◌++◌, ◌∷◌, ◌⊎◌, [], List, Bool, true, not, codes, filter, length, map, Option, Some}
+-- What an audit writes (own): a line for each manager whose journal has an entry. Below, "origin" stands for the bucket of an
+-- origin that it is the manager of.
+use Rattle.std.specs.Prelude.{ℕ, ◌+◌, ◌≡◌, ◌==◌, ◌≤◌, ◌<◌, ◌++◌, ◌∷◌, ◌⊎◌, [], List, Bool, true, not, codes, filter, length, map, Option, Some, if◌then◌else◌}
 use Rattle.std.specs.List.{flat_map}
 use Rattle.std.specs.Option.{unwrap_or}
 use Rattle.std.specs.Io.KnownBytes.{Appends, Keeps}
-use Rattle.serde_json.specs.Data.{Data, boolean, number, unsigned, string, object, member, no_members}
+use Rattle.serde_json.specs.Data.{Data, boolean, number, unsigned, string, object, member, Members, no_members}
 use Rattle.serde_json.specs.Written.{compact_text}
-use Rattle.wl_origin.specs.Origin.{Tuple, tuple_text}
+use Rattle.wl_origin.specs.Bucket.{is_default}
+use Rattle.wl_origin.specs.Origin.{tuple_text}
+use Rattle.wl_origin.specs.declared.manager_key.ManagerKey.{ManagerKey}
 use Rattle.wl_journal.specs.Books.{Book}
 use Rattle.wl_world.specs.Cores.{AreCoresOf}
 use Rattle.wl_world.specs.Origins.{Core}
@@ -24,38 +27,44 @@ abbrev pub entries_of : Core → ℕ
 entries_of core = unwrap_or core.entries 0
 
 -- the origins that have a line: those where something was recorded
-abbrev pub audited : List (Tuple × Core) → List (Tuple × Core)
+abbrev pub audited : List (ManagerKey × Core) → List (ManagerKey × Core)
 audited cores = filter (λ origin. not (entries_of origin.1 == 0)) cores
 
-abbrev pub audit_value : ℕ → Bool → List ℕ → Data
-audit_value entries legal origin =
-    object (member (codes "entries") (number (unsigned entries)) (member (codes "legal") (boolean legal) (member (codes "origin") (string origin) no_members)))
+-- what every line has
+abbrev pub audit_members : ℕ → Bool → List ℕ → Members
+audit_members entries legal origin =
+    member (codes "entries") (number (unsigned entries)) (member (codes "legal") (boolean legal) (member (codes "origin") (string origin) no_members))
+
+-- a line begins with its bucket, where that isn't the default one
+abbrev pub audit_value : List ℕ → ℕ → Bool → List ℕ → Data
+audit_value bucket entries legal origin =
+    object (if is_default bucket then audit_members entries legal origin else member (codes "bucket") (string bucket) (audit_members entries legal origin))
 
 -- an origin's line: its journal is legal
-abbrev pub audit_line : Tuple → ℕ → List ℕ
-audit_line key entries = compact_text (audit_value entries true (tuple_text key)) ++ 10 ∷ []
+abbrev pub audit_line : ManagerKey → ℕ → List ℕ
+audit_line key entries = compact_text (audit_value key.bucket entries true (tuple_text key.origin)) ++ 10 ∷ []
 
 -- the lines of these origins
-abbrev pub audit_text : List (Tuple × Core) → List ℕ
+abbrev pub audit_text : List (ManagerKey × Core) → List ℕ
 audit_text cores = flat_map (λ origin. audit_line origin.0 (entries_of origin.1)) (audited cores)
 
 -- the lines of all these origins were written, which are n
-pub record WritesOrigins (cores : List (Tuple × Core)) (n : ℕ) (old new : Option (List ℕ)) : Type 0 where
+pub record WritesOrigins (cores : List (ManagerKey × Core)) (n : ℕ) (old new : Option (List ℕ)) : Type 0 where
   pub count : n ≡ length (audited cores)
   pub written : Appends old new (audit_text cores)
 
 -- the lines of the first of these origins were written
-pub record WritesFirst (cores : List (Tuple × Core)) (old new : Option (List ℕ)) : Type 0 where
-  pub front : List (Tuple × Core)
-  pub back : List (Tuple × Core)
+pub record WritesFirst (cores : List (ManagerKey × Core)) (old new : Option (List ℕ)) : Type 0 where
+  pub front : List (ManagerKey × Core)
+  pub back : List (ManagerKey × Core)
   pub split : cores ≡ front ++ back
   pub written : Appends old new (audit_text front)
 
 -- the lines of the first n origins were written, and then a part of the line of the next, but not all of it
-pub record WritesWithin (cores : List (Tuple × Core)) (n : ℕ) (old new : Option (List ℕ)) : Type 0 where
-  pub front : List (Tuple × Core)
-  pub origin : Tuple × Core
-  pub back : List (Tuple × Core)
+pub record WritesWithin (cores : List (ManagerKey × Core)) (n : ℕ) (old new : Option (List ℕ)) : Type 0 where
+  pub front : List (ManagerKey × Core)
+  pub origin : ManagerKey × Core
+  pub back : List (ManagerKey × Core)
   pub split : cores ≡ front ++ origin ∷ back
   pub count : n ≡ length (audited front)
   pub part : List ℕ
@@ -65,15 +74,15 @@ pub record WritesWithin (cores : List (Tuple × Core)) (n : ℕ) (old new : Opti
   pub written : Appends old new (audit_text front ++ part)
 
 -- the origins of the world, in the order of their keys, and what was written of them
-abbrev pub OfWorld : World → (List (Tuple × Core) → Type 0) → Type 0
-OfWorld world Wrote = (cores : List (Tuple × Core)) × AreCoresOf (Some 0) world cores × Wrote cores
+abbrev pub OfWorld : World → (List (ManagerKey × Core) → Type 0) → Type 0
+OfWorld world Wrote = (cores : List (ManagerKey × Core)) × AreCoresOf (Some 0) world cores × Wrote cores
 
 -- the lines of all n origins were written
 abbrev pub Audited : World → ℕ → Option (List ℕ) → Option (List ℕ) → Type 0
 Audited world n old new = OfWorld world (λ cores. WritesOrigins cores n old new)
 
 -- what a fault leaves of these origins, after so many lines of the script
-abbrev pub LeavesOrigins : ℕ → List (Tuple × Core) → ScriptFault → Option (List ℕ) → Option (List ℕ) → Type 0
+abbrev pub LeavesOrigins : ℕ → List (ManagerKey × Core) → ScriptFault → Option (List ℕ) → Option (List ℕ) → Type 0
 LeavesOrigins lines cores (Memory n) old new = (n ≡ lines) × WritesFirst cores old new
 LeavesOrigins lines cores (Write n) old new = WritesWithin cores n old new
 LeavesOrigins lines cores (Read n) old new = ⊥
@@ -89,12 +98,12 @@ LeavesAudit limit lines (TooManyTurns n) old new = (n ≤ length lines) × Keeps
 LeavesAudit limit lines (LineTooLong n) old new = (n ≤ length lines) × Keeps old new × IsTooLong limit lines n
 
 -- of one more origin the line was written, if it has one, and with it n were
-pub record WritesNext (before : ℕ) (origin : Tuple × Core) (n : ℕ) (old new : Option (List ℕ)) : Type 0 where
+pub record WritesNext (before : ℕ) (origin : ManagerKey × Core) (n : ℕ) (old new : Option (List ℕ)) : Type 0 where
   pub count : n ≡ before + length (audited (origin ∷ []))
   pub written : Appends old new (audit_text (origin ∷ []))
 
 -- the line of one origin was not written, after so many lines of the script, and so many other origins
-abbrev pub IsUnwritten : ℕ → ℕ → Tuple × Core → Option (List ℕ) → ScriptFault → Option (List ℕ) → Type 0
+abbrev pub IsUnwritten : ℕ → ℕ → ManagerKey × Core → Option (List ℕ) → ScriptFault → Option (List ℕ) → Type 0
 IsUnwritten lines written origin old (Memory n) new = (n ≡ lines) × Keeps old new
 IsUnwritten lines written origin old (Write n) new = (n ≡ written)
     × ((part more : List ℕ) × (0 < length more) × (audit_line origin.0 (entries_of origin.1) ≡ part ++ more) × Appends old new part)
@@ -106,5 +115,5 @@ IsUnwritten lines written origin old (TooManyTurns n) new = ⊥
 abbrev pub seen : Book → Core
 seen book = record { state = book.state; entries = Some book.total }
 
-abbrev pub all_seen : List (Tuple × Book) → List (Tuple × Core)
+abbrev pub all_seen : List (ManagerKey × Book) → List (ManagerKey × Core)
 all_seen books = map (λ origin. (origin.0, seen origin.1)) books

@@ -1,8 +1,10 @@
-//! Audits a script: runs it over books, and says for each origin whether its journal is legal.
+//! Audits a script: runs it over books, and says for each manager whether its journal is legal.
 
-ghost use Rattle.std.specs.Prelude.{◌≡◌, ◌+◌, ◌<◌, ◌≤◌, ◌^◌, true, None, All, length, IfOk, IfErr, IfSome, string_bytes};
+ghost use Rattle.std.specs.Prelude.{◌≡◌, ◌+◌, ◌<◌, ◌≤◌, ◌^◌, true, None, All, codes, length, IfOk, IfErr, IfSome, string_bytes};
+ghost use Rattle.serde_json.specs.Data.{member, object, string};
 ghost use Rattle.serde_json.specs.View.{view};
-ghost use Rattle.wl_script.specs.Audits.{Audited, LeavesAudit, LeavesOrigins, IsUnwritten, WritesNext, WritesOrigins, all_seen, audit_line, audit_value, recording, seen};
+ghost use Rattle.wl_origin.specs.Origin.{tuple_text};
+ghost use Rattle.wl_script.specs.Audits.{Audited, LeavesAudit, LeavesOrigins, IsUnwritten, WritesNext, WritesOrigins, all_seen, audit_line, audit_members, audit_value, recording, seen};
 ghost use Rattle.wl_script.specs.Faults.{is_read, is_write, IsTooManyTurns};
 ghost use Rattle.wl_script.specs.Leaves.{GaveBytes};
 ghost use Rattle.wl_script.specs.Lines.{lines};
@@ -16,7 +18,7 @@ use serde_json::{Value, json};
 use std::alloc::Global;
 use wl_index::IndexCore;
 use wl_journal::{AuditFault, Book};
-use wl_origin::OriginKey;
+use wl_origin::ManagerKey;
 use wl_types::Memory;
 use wl_world::Engine;
 
@@ -45,30 +47,62 @@ fn is_legal(book: &Book<IndexCore>) -> Result<bool, Memory>
     }
 }
 
-/// The JSON value of an origin's line.
-fn value_of(alloc: Global, entries: u64, legal: bool, origin: String) -> Result<Value, Memory>
-    ensures { IfOk result (λ value. view value ≡ audit_value entries legal (string_bytes origin)) }
+/// The JSON value of the line of an origin's default bucket.
+fn value_of_default(
+    alloc: Global,
+    entries: u64,
+    legal: bool,
+    origin: String,
+) -> Result<Value, Memory>
+    ensures { IfOk result (λ value. view value ≡ object (audit_members entries legal (string_bytes origin))) }
 {
     Ok(json!(in alloc; {"entries": entries, "legal": legal, "origin": origin})?)
 }
 
-/// An origin's line.
-fn line_of(alloc: Global, key: &OriginKey, book: &Book<IndexCore>) -> Result<String, Memory>
+/// The JSON value of the line of another bucket.
+fn value_of_bucket(
+    alloc: Global,
+    bucket: String,
+    entries: u64,
+    legal: bool,
+    origin: String,
+) -> Result<Value, Memory>
+    ensures { IfOk result (λ value. view value
+        ≡ object (member (codes "bucket") (string (string_bytes bucket)) (audit_members entries legal (string_bytes origin)))) }
+{
+    Ok(json!(in alloc; {"bucket": bucket, "entries": entries, "legal": legal, "origin": origin})?)
+}
+
+/// The JSON value of a manager's line.
+fn value_of(alloc: Global, key: &ManagerKey, entries: u64, legal: bool) -> Result<Value, Memory>
+    ensures { IfOk result (λ value. view value
+        ≡ audit_value key.now.bucket entries legal (tuple_text key.now.origin)) }
+{
+    let origin = key.origin.text(alloc)?;
+    if key.bucket.is_default() {
+        return value_of_default(alloc, entries, legal, origin);
+    }
+    let bucket = String::from_str(alloc, key.bucket.as_str())?;
+    value_of_bucket(alloc, bucket, entries, legal, origin)
+}
+
+/// A manager's line.
+fn line_of(alloc: Global, key: &ManagerKey, book: &Book<IndexCore>) -> Result<String, Memory>
     ensures { IfOk result (λ line. string_bytes line ≡ audit_line key.now book.now.total) }
 {
     let legal = is_legal(book)?;
-    let value = value_of(alloc, book.total(), legal, key.text(alloc)?)?;
+    let value = value_of(alloc, key, book.total(), legal)?;
     let mut line = value.to_string(alloc)?;
     line.push_str("\n")?;
     Ok(line)
 }
 
-/// Writes the line of one origin, if something was recorded there, after `lines` lines of the script and those of
-/// `written` other origins; says how many were written then.
+/// Writes the line of one manager, if something was recorded there, after `lines` lines of the script and those of
+/// `written` other managers; says how many were written then.
 fn write_origin<W: Output>(
     alloc: Global,
     writer: &mut W,
-    key: &OriginKey,
+    key: &ManagerKey,
     book: &Book<IndexCore>,
     lines: u64,
     written: u64,
@@ -91,11 +125,11 @@ fn write_origin<W: Output>(
     }
 }
 
-/// Writes the lines of all origins where something was recorded, and says how many.
+/// Writes the lines of all managers where something was recorded, and says how many.
 fn write_origins<W: Output>(
     alloc: Global,
     writer: &mut W,
-    books: &[(OriginKey, Book<IndexCore>)],
+    books: &[(ManagerKey, Book<IndexCore>)],
     lines: u64,
 ) -> Result<u64, ScriptFault>
     ensures ok { IfOk result (λ n. WritesOrigins (all_seen books.now) n (W.held writer.old) (W.held writer.new)) }
@@ -110,12 +144,13 @@ fn write_origins<W: Output>(
     Ok(written)
 }
 
-/// Runs a script over books, without its replies; then writes a line for each origin in the order of their keys, and
-/// answers their number. A line says how many commands the origin's journal records, and that it is legal. Limits
-/// are those of `run`.
+/// Runs a script over books, without its replies; then writes a line for each manager in the order of their keys, and
+/// answers their number. A line says how many commands the manager's journal records, and that it is legal, and begins
+/// with its bucket where that isn't `default`. Limits are those of `run`.
 ///
-/// A fault carries the lines of the script that were done, and `Write` the origins that were written whole. Before the
-/// end of the script nothing is written. An origin has a line once an agent has entered it; opaque ones have none.
+/// A fault carries the lines of the script that were done, and `Write` the managers that were written whole. Before the
+/// end of the script nothing is written. A bucket of an origin has a line once an agent has entered it; opaque origins
+/// have none.
 pub fn audit<R: Input, W: Output>(
     alloc: Global,
     reader: &mut R,

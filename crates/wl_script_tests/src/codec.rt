@@ -55,7 +55,10 @@ fn line_told(alloc: Global, line: &Line) -> Result<String, Memory> {
 fn asked(alloc: Global, message: &Message) -> Result<String, Memory> {
     let id = message.id;
     Ok(match &message.body {
-        Body::Enter { url, kind } => format!(in alloc; "{id} open {} {kind:?}", url.as_str())?,
+        Body::Enter { url, kind, bucket } => {
+            let (url, bucket) = (url.as_str(), bucket.as_str());
+            format!(in alloc; "{id} open {url} {bucket} {kind:?}")?
+        }
         Body::Request(ask) => wish(alloc, id, ask)?,
         body => format!(in alloc; "{id} {body:?}")?,
     })

@@ -3,7 +3,7 @@
 use std::alloc::Global;
 use std::test::Fail;
 use wl_origin::{KeyFault, OriginKey, Standing, key_of};
-use wl_samples::key;
+use wl_samples::origin_key;
 use wl_types::Memory;
 
 /// Each URL with the text of its origin, `opaque` where that has none, or what is wrong with it.
@@ -85,13 +85,13 @@ const ONE_ORIGIN: &[(&str, bool)] = &[
 
 /// Whether the key and its copy equal that of a URL.
 fn are_of(alloc: Global, first: &OriginKey, url: &str) -> Result<bool, Fail> {
-    let other = key(alloc, url)?;
+    let other = origin_key(alloc, url)?;
     Ok(*first == other && first.copy(alloc)? == other)
 }
 
 #[test]
 fn one_origin_has_one_key(rt: HostRuntime) -> Result<(), Fail> {
-    let first = key(rt.alloc(), "https://a.test/")?;
+    let first = origin_key(rt.alloc(), "https://a.test/")?;
     for (url, wanted) in ONE_ORIGIN {
         assert_eq!(rt; are_of(rt.alloc(), &first, url)?, *wanted, "{url}");
     }
@@ -111,8 +111,8 @@ const RISING: [(&str, &str); 8] = [
 ];
 
 fn is_rising(alloc: Global, before: &str, after: &str) -> Result<bool, Fail> {
-    let before = key(alloc, before)?;
-    let after = key(alloc, after)?;
+    let before = origin_key(alloc, before)?;
+    let after = origin_key(alloc, after)?;
     Ok(before < after && after > before)
 }
 

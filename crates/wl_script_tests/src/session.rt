@@ -21,6 +21,24 @@ all: release [] -> {"id":7,"notices":[],"ok":{"release":"released"}} []
 all: close [] -> {"id":7,"notices":[],"ok":{}} []
 "#;
 
+/// A notice has the code of its own request.
+const CODES_ARE_TOLD: &str = r#"client 1 [] -> {"id":7,"notices":[],"ok":{"client":"client-1"}} []
+request 1 [1 pending] -> {"id":7,"notices":[],"ok":{"request":1}} [(1, Pending)]
+request 2 [2 pending] -> {"id":7,"notices":[],"ok":{"request":2}} [(1, Pending), (2, Pending)]
+abort [1 aborted 0, 2 aborted 65535] -> {"id":7,"notices":[{"phase":"aborted","reason":0,"request":1},{"phase":"aborted","reason":65535,"request":2}],"ok":{"abort":"done"}} []
+poll [] -> {"id":7,"notices":[],"ok":{}} []
+aborted 7 [] -> {"error":{"name":"AbortCode","reason":7,"rule":"signal-aborted"},"id":7,"notices":[]} []
+"#;
+
+#[test]
+fn an_agent_is_told_the_codes_of_aborts(rt: HostRuntime) -> Result<(), Fail> {
+    assert_eq!(rt;
+        finish_all(rt.alloc(), CODES_ARE_TOLD)?.as_str(),
+        CODES_ARE_TOLD
+    );
+    Ok(())
+}
+
 #[test]
 fn an_agent_is_told_each_phase_once(rt: HostRuntime) -> Result<(), Fail> {
     assert_eq!(rt;

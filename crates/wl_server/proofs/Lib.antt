@@ -1,4 +1,5 @@
 mod Talks
+mod Answering
 mod Looks
 mod Parts
 mod Sockets

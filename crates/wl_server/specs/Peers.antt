@@ -18,8 +18,9 @@ use Rattle.wl_session.specs.declared.plan.Plan.{Plan}
 -- an outcome of the operation itself, or a refusal that a reply can tell
 abbrev pub IsOutcomeOf : Body → Outcome → Type 0
 IsOutcomeOf b (outcome.Refused r) = r ≢ refusal.Memory
-IsOutcomeOf (body.Enter url kind) (outcome.Client number) = Unit {0}
-IsOutcomeOf (body.Enter url kind) outcome.BadUrl = Unit {0}
+IsOutcomeOf (body.Enter url kind bucket) (outcome.Client number) = Unit {0}
+IsOutcomeOf (body.Enter url kind bucket) outcome.BadUrl = Unit {0}
+IsOutcomeOf (body.Enter url kind bucket) outcome.BadBucket = Unit {0}
 IsOutcomeOf body.Signal (outcome.Signal number) = Unit {0}
 IsOutcomeOf (body.Request ask) (outcome.Request number) = Unit {0}
 IsOutcomeOf (body.Release number) (outcome.Release answer) = Unit {0}

@@ -12,7 +12,7 @@ use std::sync::Wait;
 use wl_codec::{Body, Outcome};
 use wl_service::{Client, OpenFault, Service};
 use wl_session::Action;
-use wl_types::{Ask, Kind, Memory, Refusal, ReleaseAnswer};
+use wl_types::{Ask, Kind, Memory, Refusal, ReleaseAnswer, Text};
 
 /// The outcome of a refused operation. No reply tells of want of memory.
 fn refused(refusal: Refusal) -> Result<Outcome, Memory>
@@ -29,11 +29,12 @@ fn enter<R: Wait>(
     service: &Service,
     entered: &mut Option<Entered>,
     url: &str,
+    bucket: Text,
     kind: Kind,
 ) -> Result<Outcome, Memory>
-    ensures { IfOk result (λ outcome. (text : List ℕ) → IsOutcomeOf (Enter text kind) outcome) }
+    ensures { IfOk result (λ outcome. (text name : List ℕ) → IsOutcomeOf (Enter text kind name) outcome) }
 {
-    match service.open(rt, url, kind) {
+    match service.open_in_text(rt, url, bucket, kind) {
         Ok(opened) => {
             let number = opened.client();
             // An open session opens no second agent. If it did, its first would end.
@@ -43,6 +44,7 @@ fn enter<R: Wait>(
             Ok(Outcome::Client(number))
         }
         Err(OpenFault::BadUrl) => Ok(Outcome::BadUrl),
+        Err(OpenFault::BadBucket) => Ok(Outcome::BadBucket),
         Err(OpenFault::TooManyAgents) => Ok(Outcome::Refused(Refusal::TooManyAgents)),
         Err(OpenFault::NumbersSpent) => Ok(Outcome::Refused(Refusal::NumbersSpent)),
         Err(OpenFault::Memory) => Err(Memory),
@@ -126,7 +128,9 @@ fn act<R: Wait>(
     ensures { IfOk result (λ outcome. IsOutcomeOf body outcome) }
 {
     match body {
-        Body::Enter { url, kind } => enter(rt, service, entered, url.as_str(), kind),
+        Body::Enter { url, kind, bucket } => {
+            enter(rt, service, entered, url.as_str(), bucket, kind)
+        }
         Body::Close => {
             if let Some(leaving) = entered.take() {
                 let _ = leaving.end(rt);

@@ -1,12 +1,13 @@
 //! A service with its clients and their tickets, and the calls of lists that are theirs.
 //!
 //! Clients and tickets are called by their places, from 1 in the order in which they came; those behind a client that
-//! ends move up. The calls are `open KIND URL`, which answers the client's number, and `fill COUNT URL`, which opens that
-//! many workers and answers the last one's; `request CLIENT NAME SIGNAL`, which answers the request's number, and
+//! ends move up. The calls are `open KIND URL`, which answers the client's number; `open_in KIND BUCKET URL` and
+//! `enter KIND BUCKET URL`, which answer it too, and lend their bucket or hand it over; `fill COUNT URL`, which opens
+//! that many workers and answers the last one's; `request CLIENT NAME SIGNAL`, which answers the request's number, and
 //! `look TICKET`; `release CLIENT TICKET`; `signal CLIENT` and `abort CLIENT SIGNAL REASON`; `set CLIENT active`;
-//! `query CLIENT`, which answers how many entries were seen and how many locks are held; `terminate CLIENT`, which answers
-//! whether it left something; and `visit URL`, which answers whether the visitor was called, and how many entries it was
-//! shown.
+//! `query CLIENT`, which answers how many entries were seen and how many locks are held; `terminate CLIENT`, which
+//! answers whether it left something; and `visit URL BUCKET`, which answers whether the visitor was called, and how many
+//! entries it was shown. One that names no bucket visits that of `default`.
 
 use crate::lists::{number, rest, show, word};
 use std::alloc::Global;
@@ -14,9 +15,9 @@ use std::sync::Wait;
 use std::test::Fail;
 use wl_journal::{Entry, Sight};
 use wl_manager::Visitor;
-use wl_samples::{ask, key};
+use wl_samples::{ask, key_in};
 use wl_service::{Client, OpenFault, Service, Ticket};
-use wl_types::{Ask, Kind, Memory, Mode, Phase, Reason, Refusal, ReleaseAnswer};
+use wl_types::{Ask, Kind, Memory, Mode, Phase, Reason, Refusal, ReleaseAnswer, Text};
 
 #[derive(Drop)]
 pub struct Scene {
@@ -48,9 +49,11 @@ fn kind(word: &str) -> Kind {
 
 fn reason(word: &str) -> Reason {
     if word == "TimeoutError" {
-        Reason::TimeoutError
-    } else {
-        Reason::AbortError
+        return Reason::TimeoutError;
+    }
+    match word.parse::<u16>() {
+        Ok(code) => Reason::Code(code),
+        Err(_) => Reason::AbortError,
     }
 }
 
@@ -98,8 +101,13 @@ impl Scene {
         let place = number(call, 1);
         match word(call, 0) {
             "open" => show(came, Some(self.open(rt, kind(word(call, 1)), rest(call)))),
+            "open_in" => show(
+                came,
+                Some(self.open_in(rt, kind(word(call, 1)), rest(call))),
+            ),
+            "enter" => show(came, Some(self.enter(rt, kind(word(call, 1)), rest(call)))),
             "fill" => show(came, Some(self.fill(rt, place, rest(call)))),
-            "visit" => self.visit(rt, word(call, 1), came),
+            "visit" => self.visit(rt, call, came),
             "request" => self.request(rt, place, call, came),
             "look" => show(came, self.look(place)),
             "release" => show(came, self.release(rt, place, number(call, 2))),
@@ -113,6 +121,26 @@ impl Scene {
 
     fn open<R: Wait>(&mut self, rt: &R, kind: Kind, url: &str) -> Result<Option<u64>, OpenFault> {
         let client = self.service.open(rt, url, kind)?;
+        self.seat(client)
+    }
+
+    /// In a bucket, which stands before the URL.
+    fn open_in<R: Wait>(&mut self, rt: &R, kind: Kind, at: &str) -> Result<Option<u64>, OpenFault> {
+        let (bucket, url) = at.split_once(' ').unwrap_or((at, ""));
+        let client = self.service.open_in(rt, url, bucket, kind)?;
+        self.seat(client)
+    }
+
+    /// The same, with a text of the bucket's own.
+    fn enter<R: Wait>(&mut self, rt: &R, kind: Kind, at: &str) -> Result<Option<u64>, OpenFault> {
+        let (bucket, url) = at.split_once(' ').unwrap_or((at, ""));
+        let bucket = Text::of(self.alloc, bucket).map_err(|_| OpenFault::Memory)?;
+        let client = self.service.open_in_text(rt, url, bucket, kind)?;
+        self.seat(client)
+    }
+
+    /// Answers the client's number.
+    fn seat(&mut self, client: Client) -> Result<Option<u64>, OpenFault> {
         let number = client.client();
         match self.clients.push(client) {
             Ok(()) => Ok(number),
@@ -179,8 +207,12 @@ impl Scene {
         }
     }
 
-    fn visit<R: Wait>(&self, rt: &R, url: &str, came: &mut String) -> Result<(), Fail> {
-        let key = key(self.alloc, url)?;
+    fn visit<R: Wait>(&self, rt: &R, call: &str, came: &mut String) -> Result<(), Fail> {
+        let bucket = match rest(call) {
+            "" => "default",
+            bucket => bucket,
+        };
+        let key = key_in(self.alloc, word(call, 1), bucket)?;
         let mut shown = Shown { entries: None };
         let visited = self.service.visit(rt, &key, &mut shown);
         show(came, Some((visited, shown.entries)))

@@ -1,13 +1,14 @@
--- What is kept for each origin (own).
+-- What is kept for each manager's key (own).
 use Rattle.std.specs.Prelude.{◌≡◌, List, Option}
 use Rattle.std.specs.BTreeMap.{insert_entry}
 use Rattle.wl_core.specs.Realm.{at_key}
-use Rattle.wl_origin.specs.Origin.{Tuple, tuple_cmp}
+use Rattle.wl_origin.specs.Manager.{manager_cmp}
+use Rattle.wl_origin.specs.declared.manager_key.ManagerKey.{ManagerKey}
 
--- what is kept for an origin
-abbrev pub kept_for : {X : Type 0} → List (Tuple × X) → Tuple → Option X
-kept_for entries key = at_key tuple_cmp entries key
+-- what is kept for a key
+abbrev pub kept_for : {X : Type 0} → List (ManagerKey × X) → ManagerKey → Option X
+kept_for entries key = at_key manager_cmp entries key
 
--- one thing more is kept, for that origin
-abbrev pub Adds : {X : Type 0} → List (Tuple × X) → List (Tuple × X) → Tuple → Type 0
-Adds {X} old new key = (kept : X) × (new ≡ insert_entry tuple_cmp old key kept)
+-- one thing more is kept, for that key
+abbrev pub Adds : {X : Type 0} → List (ManagerKey × X) → List (ManagerKey × X) → ManagerKey → Type 0
+Adds {X} old new key = (kept : X) × (new ≡ insert_entry manager_cmp old key kept)

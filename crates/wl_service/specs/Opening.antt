@@ -1,30 +1,32 @@
--- Which client an opened URL gives, and why it gives none.
+-- Which client a URL and a bucket give that are opened, and why they give none.
 use Rattle.std.specs.Prelude.{◌≡◌, true, Option, Some, None, Result, Ok, Err}
 use Rattle.wl_types.specs.declared.words.Kind.{Kind}
 use Rattle.wl_types.specs.declared.refusal.Refusal.{Refusal}
 use Rattle.wl_types.specs.declared.refusal.Refusal.TheVariants as refusal
-use Rattle.wl_origin.specs.Origin.{Tuple}
-use Rattle.wl_origin.specs.declared.standing.KeyFault.{KeyFault}
-use Rattle.wl_origin.specs.declared.standing.KeyFault.TheVariants as key
+use Rattle.wl_origin.specs.declared.manager_key.ManagerKey.{ManagerKey}
+use Rattle.wl_origin.specs.declared.opening.ManagerFault.{ManagerFault}
+use Rattle.wl_origin.specs.declared.opening.ManagerFault.TheVariants as key
 use Rattle.wl_service.specs.Clients.{Who, Managed, Opaque}
 use Rattle.wl_service.specs.declared.fault.OpenFault.{OpenFault}
-use Rattle.wl_service.specs.declared.fault.OpenFault.TheVariants.{BadUrl, TooManyAgents, NumbersSpent, Memory}
+use Rattle.wl_service.specs.declared.fault.OpenFault.TheVariants.{BadUrl, BadBucket, TooManyAgents, NumbersSpent, Memory}
 
--- the origin is a tuple, so it has a manager
-abbrev pub HasManager : Result (Option Tuple) KeyFault → Type 0
+-- the URL and the bucket have a manager
+abbrev pub HasManager : Result (Option ManagerKey) ManagerFault → Type 0
 HasManager (Ok (Some key)) = Unit
 HasManager (Ok None) = ⊥
 HasManager (Err fault) = ⊥
 
--- A text that spells no URL is refused; an opaque origin gives an active client of that kind, which is never refused; another
--- one gives an agent of its manager, or what that refuses. Memory may be wanting for each.
-abbrev pub Opens : Result (Option Tuple) KeyFault → Kind → Result Who OpenFault → Type 0
-Opens origin kind (Ok (Managed n)) = HasManager origin
-Opens origin kind (Ok (Opaque k active)) = (origin ≡ Ok None) × (k ≡ kind) × (active ≡ true)
-Opens origin kind (Err BadUrl) = origin ≡ Err key.BadUrl
-Opens origin kind (Err TooManyAgents) = HasManager origin
-Opens origin kind (Err NumbersSpent) = HasManager origin
-Opens origin kind (Err Memory) = Unit
+-- A text that spells no URL is refused, and then one that is no bucket; an opaque origin gives an active client of that kind,
+-- which is never refused; another one gives an agent of its bucket's manager, or what that refuses. Memory may be wanting for
+-- each.
+abbrev pub Opens : Result (Option ManagerKey) ManagerFault → Kind → Result Who OpenFault → Type 0
+Opens manager kind (Ok (Managed n)) = HasManager manager
+Opens manager kind (Ok (Opaque k active)) = (manager ≡ Ok None) × (k ≡ kind) × (active ≡ true)
+Opens manager kind (Err BadUrl) = manager ≡ Err key.BadUrl
+Opens manager kind (Err BadBucket) = manager ≡ Err key.BadBucket
+Opens manager kind (Err TooManyAgents) = HasManager manager
+Opens manager kind (Err NumbersSpent) = HasManager manager
+Opens manager kind (Err Memory) = Unit
 
 -- a manager's refusal of an agent, by the service's name; it has no third one but memory
 abbrev pub fault_of : Refusal → OpenFault

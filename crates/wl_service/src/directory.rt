@@ -1,8 +1,8 @@
-//! The managers by origin.
+//! The managers by their keys.
 
 ghost use Rattle.std.specs.Prelude.{◌≡◌, ◌≢◌, [], None, IfErr, OnErr, OnOk};
 ghost use Rattle.std.specs.Option.{option_copied};
-ghost use Rattle.wl_service.specs.declared.fault.OpenFault.TheVariants.{BadUrl};
+ghost use Rattle.wl_service.specs.declared.fault.OpenFault.TheVariants.{BadUrl, BadBucket};
 ghost use Rattle.wl_service.specs.Directory.{Adds, kept_for};
 ghost use Rattle.wl_service.specs.Opening.{fault_of};
 
@@ -12,7 +12,7 @@ use std::collections::BTreeMap;
 use std::sync::{Arc, Wait};
 use wl_index::IndexCore;
 use wl_manager::{Agent, Manager, Recent};
-use wl_origin::OriginKey;
+use wl_origin::ManagerKey;
 use wl_types::{Kind, Refusal};
 
 /// The core of every manager.
@@ -21,11 +21,11 @@ pub type Core = IndexCore;
 /// A manager as the directory and its agents hold it.
 pub(crate) type Shared = Arc<Manager<Core, Recent>, Global>;
 
-/// A manager for each origin at which somebody opened, in the order of their keys. It stays for the life of the
-/// service.
+/// A manager for each bucket of an origin at which somebody opened, in the order of their keys. It stays for the life
+/// of the service.
 #[derive(Drop)]
 pub(crate) struct Directory {
-    managers: BTreeMap<OriginKey, Shared>,
+    managers: BTreeMap<ManagerKey, Shared>,
 }
 
 /// Why a manager that refuses an agent opens no client. It refuses for no other cause.
@@ -49,7 +49,7 @@ impl Directory {
     }
 
     /// The manager of the key, if it has one.
-    pub(crate) fn kept(&self, key: &OriginKey) -> Option<&Shared>
+    pub(crate) fn kept(&self, key: &ManagerKey) -> Option<&Shared>
         ensures { option_copied result ≡ kept_for self.now.managers.entries key.now }
     {
         self.managers.get(key)
@@ -60,13 +60,13 @@ impl Directory {
         &mut self,
         rt: &R,
         alloc: Global,
-        key: OriginKey,
+        key: ManagerKey,
         kind: Kind,
     ) -> Result<Agent<Core, Recent>, OpenFault>
         requires { kept_for self.old.managers.entries key ≡ None }
         ensures ok { OnOk result (Adds self.old.managers.entries self.new.managers.entries key) }
         ensures err { OnErr result (self.new.managers.entries ≡ self.old.managers.entries) }
-        ensures fault { IfErr result (λ fault. fault ≢ BadUrl) }
+        ensures fault { IfErr result (λ fault. (fault ≢ BadUrl) × (fault ≢ BadBucket)) }
     {
         let manager = Manager::new(rt, alloc, (), (), ()).map_err(|_| OpenFault::Memory)?;
         let agent = Manager::open(&manager, rt, kind).map_err(fault_of)?;

@@ -8,10 +8,13 @@ pub enum OpenFault {
     /// The text is no absolute URL.
     #[error("not a URL")]
     BadUrl,
-    /// 4,096 agents of the origin's manager are live.
+    /// The text is a URL, and the bucket is no name of one.
+    #[error("not the name of a bucket")]
+    BadBucket,
+    /// 4,096 agents of the bucket's manager are live.
     #[error("too many agents")]
     TooManyAgents,
-    /// The origin's next agent number would be 2^53.
+    /// The manager's next agent number would be 2^53.
     #[error("numbers spent")]
     NumbersSpent,
     /// A growth was refused, or the URL would be longer than 4,294,967,295 bytes.

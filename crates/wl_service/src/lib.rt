@@ -1,6 +1,7 @@
-//! A lock service: the managers of all origins, each under a lock of its own, in a directory under another.
+//! A lock service: the managers of all buckets of all origins, each under a lock of its own, in a directory under
+//! another.
 //!
-//! A client is an agent of its origin's manager, or, where the origin is opaque and so has none, an agent that is
+//! A client is an agent of its bucket's manager, or, where the origin is opaque and so has none, an agent that is
 //! refused. No call of a client that is open takes the directory's lock.
 #![tactic(auto)]
 

@@ -1,7 +1,9 @@
 //! The service.
 
-ghost use Rattle.std.specs.Prelude.{◌≡◌, ◌≢◌, true, Some, Ok};
-ghost use Rattle.wl_origin.specs.Standing.{standing_of};
+ghost use Rattle.std.specs.Prelude.{◌≡◌, ◌≢◌, true, IfErr, Some, Ok};
+ghost use Rattle.wl_origin.specs.Bucket.{default_bucket};
+ghost use Rattle.wl_origin.specs.Opening.{manager_of};
+ghost use Rattle.wl_service.specs.declared.fault.OpenFault.TheVariants.{BadBucket};
 ghost use Rattle.wl_service.specs.Opening.{Opens};
 
 use crate::client::Client;
@@ -10,11 +12,11 @@ use crate::fault::OpenFault;
 use std::alloc::Global;
 use std::sync::{Arc, Mutex, Wait};
 use wl_manager::{Manager, Recent, Visitor};
-use wl_origin::{KeyFault, OriginKey, Standing, key_of};
-use wl_types::{Kind, Memory};
+use wl_origin::{ManagerFault, ManagerKey, manager_of, manager_of_text};
+use wl_types::{Kind, Memory, Text};
 
-/// The managers of all origins. A manager is made when the first client of its origin opens, and stays for the life
-/// of the service.
+/// The managers of all buckets of all origins. A manager is made when the first client of its bucket opens, and stays
+/// for the life of the service.
 #[derive(Drop)]
 pub struct Service {
     directory: Mutex<Directory>,
@@ -30,21 +32,62 @@ impl Service {
         })
     }
 
-    /// Opens a window or worker at a URL: an agent of its origin's manager, or, where the origin is opaque, a client
-    /// that is refused. A manager that is there opens its agent under its own lock alone; a new one opens its first
-    /// under the directory's, so that two who open a new origin at once get one manager.
+    /// Opens a window or worker at a URL, in the bucket `default`: as `open_in`, but never `BadBucket`.
     pub fn open<R: Wait>(&self, rt: &R, url: &str, kind: Kind) -> Result<Client, OpenFault>
-        ensures { Opens (standing_of url.now) kind result }
+        ensures opens { Opens (manager_of url.now default_bucket) kind result }
+        ensures fault { IfErr result (λ fault. fault ≢ BadBucket) }
     {
-        match key_of(self.alloc, url) {
-            Err(KeyFault::BadUrl) => Err(OpenFault::BadUrl),
-            Err(KeyFault::Memory) => Err(OpenFault::Memory),
-            Ok(Standing::Opaque) => Ok(Client::opaque(kind)),
-            Ok(Standing::Tuple(key)) => self.open_at(rt, key, kind),
+        self.open_in(rt, url, "default", kind)
+    }
+
+    /// Opens a window or worker at a URL, in a bucket of its origin: an agent of that bucket's manager, or, where the
+    /// origin is opaque, a client that is refused. A manager that is there opens its agent under its own lock alone; a
+    /// new one opens its first under the directory's, so that two who open a new bucket at once get one manager.
+    pub fn open_in<R: Wait>(
+        &self,
+        rt: &R,
+        url: &str,
+        bucket: &str,
+        kind: Kind,
+    ) -> Result<Client, OpenFault>
+        ensures { Opens (manager_of url.now bucket.now) kind result }
+    {
+        let found = manager_of(self.alloc, url, bucket);
+        self.open_found(rt, found, kind)
+    }
+
+    /// As `open_in`, but keeps the bucket's text, and so makes no copy of it.
+    pub fn open_in_text<R: Wait>(
+        &self,
+        rt: &R,
+        url: &str,
+        bucket: Text,
+        kind: Kind,
+    ) -> Result<Client, OpenFault>
+        ensures { Opens (manager_of url.now bucket) kind result }
+    {
+        let found = manager_of_text(self.alloc, url, bucket);
+        self.open_found(rt, found, kind)
+    }
+
+    fn open_found<R: Wait>(
+        &self,
+        rt: &R,
+        found: Result<Option<ManagerKey>, ManagerFault>,
+        kind: Kind,
+    ) -> Result<Client, OpenFault>
+        ensures { Opens found kind result }
+    {
+        match found {
+            Err(ManagerFault::BadUrl) => Err(OpenFault::BadUrl),
+            Err(ManagerFault::BadBucket) => Err(OpenFault::BadBucket),
+            Err(ManagerFault::Memory) => Err(OpenFault::Memory),
+            Ok(None) => Ok(Client::opaque(kind)),
+            Ok(Some(key)) => self.open_at(rt, key, kind),
         }
     }
 
-    fn open_at<R: Wait>(&self, rt: &R, key: OriginKey, kind: Kind) -> Result<Client, OpenFault>
+    fn open_at<R: Wait>(&self, rt: &R, key: ManagerKey, kind: Kind) -> Result<Client, OpenFault>
         ensures { Opens (Ok (Some key)) kind result }
     {
         let mut directory = self.directory.lock(rt);
@@ -64,7 +107,7 @@ impl Service {
     pub fn visit<R: Wait, V: Visitor>(
         &self,
         rt: &R,
-        key: &OriginKey,
+        key: &ManagerKey,
         visitor: &mut V,
     ) -> Result<bool, Memory>
         ensures { result ≢ Ok true → visitor.new ≡ visitor.old }

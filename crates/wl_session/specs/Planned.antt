@@ -11,8 +11,8 @@ use Rattle.wl_session.specs.declared.plan.Plan.{Plan}
 
 -- A session that is open can't be opened, and one that isn't can do nothing else.
 abbrev pub action_for : Bool → Body → Action
-action_for true (body.Enter url kind) = Answer AlreadyOpen
-action_for false (body.Enter url kind) = Act (body.Enter url kind)
+action_for true (body.Enter url kind bucket) = Answer AlreadyOpen
+action_for false (body.Enter url kind bucket) = Act (body.Enter url kind bucket)
 action_for true b = Act b
 action_for false b = Answer NotOpen
 

@@ -30,6 +30,7 @@ tells (outcome.Fault f) = false
 tells outcome.NotOpen = false
 tells outcome.AlreadyOpen = false
 tells outcome.BadUrl = false
+tells outcome.BadBucket = false
 
 abbrev pub notices : List Look → Outcome → List Look → List Notice
 notices told o looks = if tells o then news o told looks else []

@@ -25,7 +25,8 @@ pub fn tells(outcome: &Outcome) -> bool
         | Outcome::Fault(_)
         | Outcome::NotOpen
         | Outcome::AlreadyOpen
-        | Outcome::BadUrl => false,
+        | Outcome::BadUrl
+        | Outcome::BadBucket => false,
     }
 }
 

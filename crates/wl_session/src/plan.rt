@@ -26,11 +26,11 @@ fn action_for(is_open: bool, body: Body) -> Action
     ensures { result ≡ action_for is_open body }
 {
     match body {
-        Body::Enter { url, kind } => {
+        Body::Enter { url, kind, bucket } => {
             if is_open {
                 Action::Answer(Outcome::AlreadyOpen)
             } else {
-                Action::Act(Body::Enter { url, kind })
+                Action::Act(Body::Enter { url, kind, bucket })
             }
         }
         other => {

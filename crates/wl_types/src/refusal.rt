@@ -1,7 +1,7 @@
 //! Why a command is refused.
 
-ghost use Rattle.std.specs.Prelude.{◌≡◌};
-ghost use Rattle.wl_types.specs.Words.{refusal_name, refusal_number, refusal_rule};
+ghost use Rattle.std.specs.Prelude.{◌≡◌, Some};
+ghost use Rattle.wl_types.specs.Words.{refusal_code, refusal_name, refusal_number, refusal_rule, refusal_text};
 
 use crate::words::Reason;
 use std::error::Error;
@@ -45,19 +45,26 @@ pub enum Refusal {
     Memory,
 }
 
-/// The name and the rule, as `NotSupportedError/reserved-name`.
+/// The name and the rule, as `NotSupportedError/reserved-name`. The code of a reason stands behind the name, as
+/// `AbortCode 7/signal-aborted`.
 impl fmt::Display for Refusal {
+    ghost output = { λ refusal. Some (refusal_text refusal) };
+
     fn fmt<W: fmt::Write>(&self, f: &mut fmt::Formatter<W>) -> fmt::Result {
         let name = self.name();
         let rule = self.rule();
-        write!(f, "{name}/{rule}")
+        match self.code() {
+            Some(code) => write!(f, "{name} {code}/{rule}"),
+            None => write!(f, "{name}/{rule}"),
+        }
     }
 }
 
 impl Error for Refusal {}
 
 impl Refusal {
-    /// The `name` that a reply gives: the DOM exception of Web Locks where the standard has one.
+    /// The `name` that a reply gives: the DOM exception of Web Locks where the standard has one. `AbortCode` has a code
+    /// beside it.
     pub fn name(&self) -> &'static str
         ensures { result.now ≡ refusal_name self.now }
     {
@@ -68,7 +75,7 @@ impl Refusal {
             | Refusal::StealIfAvailable
             | Refusal::StealShared
             | Refusal::SignalCombined => "NotSupportedError",
-            Refusal::SignalAborted(reason) => reason.word(),
+            Refusal::SignalAborted(reason) => reason.name(),
             Refusal::NameTooLong
             | Refusal::TooManyRequests
             | Refusal::TooManySignals
@@ -101,6 +108,17 @@ impl Refusal {
             Refusal::NoSuchAgent => "agent",
             Refusal::NotAWindow => "active",
             Refusal::Memory => "memory",
+        }
+    }
+
+    /// The code with which the signal was aborted, where it was one: without it the name and the rule don't tell the
+    /// reason.
+    pub fn code(&self) -> Option<u16>
+        ensures { result ≡ refusal_code self.now }
+    {
+        match self {
+            Refusal::SignalAborted(Reason::Code(code)) => Some(*code),
+            _ => None,
         }
     }
 

@@ -1,7 +1,7 @@
 //! Modes, kinds and reasons.
 
 ghost use Rattle.std.specs.Prelude.{◌≡◌};
-ghost use Rattle.wl_types.specs.Words.{mode_word, reason_word};
+ghost use Rattle.wl_types.specs.Words.{mode_word, reason_name};
 
 /// Web Locks' `LockMode`.
 #[derive(Clone, Copy, Debug, PartialEq, Eq, Drop)]
@@ -22,6 +22,8 @@ pub enum Kind {
 pub enum Reason {
     AbortError,
     TimeoutError,
+    /// A number that means what whoever aborts has it mean. No two codes are one reason, and none is a named one.
+    Code(u16),
 }
 
 impl Mode {
@@ -37,13 +39,15 @@ impl Mode {
 }
 
 impl Reason {
-    /// The name of the DOM exception that stands for the reason.
-    pub fn word(&self) -> &'static str
-        ensures { result.now ≡ reason_word self.now }
+    /// The name of an error for this reason: that of the DOM exception which stands for it, or `AbortCode`, beside which
+    /// the code is told too.
+    pub fn name(&self) -> &'static str
+        ensures { result.now ≡ reason_name self.now }
     {
         match self {
             Reason::AbortError => "AbortError",
             Reason::TimeoutError => "TimeoutError",
+            Reason::Code(_) => "AbortCode",
         }
     }
 }

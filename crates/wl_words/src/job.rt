@@ -14,7 +14,7 @@ use std::alloc::Global;
 pub enum Job {
     /// Answer the script on standard input.
     Run,
-    /// Do the script on standard input, and audit the journal of each origin.
+    /// Do the script on standard input, and audit the journal of each manager.
     Audit,
     /// Serve on this port until so many clients have left.
     Serve { port: u16, clients: u32 },

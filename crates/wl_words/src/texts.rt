@@ -31,13 +31,14 @@ pub const RUN_ABOUT: &str = "Answer each line of standard input by one line on s
 pub const RUN_EXAMPLE: &str = script_example!("All messages and replies: docs/FORMATS.md.");
 
 pub const AUDIT_ABOUT: &str =
-    "Do each line of standard input, and say for each origin whether its journal is legal";
+    "Do each line of standard input, and say for each manager whether its journal is legal";
 
 pub const AUDIT_EXAMPLE: &str = "Example:
   weblocks audit < script.jsonl
 
-  A line for each origin:
+  A line for each manager, here those of two buckets:
   {\"entries\":4,\"legal\":true,\"origin\":\"https://a.test\"}
+  {\"bucket\":\"inbox\",\"entries\":3,\"legal\":true,\"origin\":\"https://a.test\"}
 
 Scripts and audits: docs/FORMATS.md.";
 

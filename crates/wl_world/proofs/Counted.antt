@@ -63,7 +63,7 @@ step_counted s c = go (refusal s c)
     go (Some r) = omega arith
 
 done_rising : (b : Body) (agent low high : ℕ) (requests : List Request) → low ≤ high → IsRising 0 low requests → IsRising 0 high (listed agent (outcome_of b reply.Done) requests)
-done_rising (body.Enter url kind) agent low high requests le r = higher 0 low high _ le (filtered (λ request. not (request.agent == agent)) 0 low requests r)
+done_rising (body.Enter url kind bucket) agent low high requests le r = higher 0 low high _ le (filtered (λ request. not (request.agent == agent)) 0 low requests r)
 done_rising body.Signal agent low high requests le r = higher 0 low high _ le (filtered (λ request. not (request.agent == agent)) 0 low requests r)
 done_rising (body.Request ask) agent low high requests le r = higher 0 low high _ le (filtered (λ request. not (request.agent == agent)) 0 low requests r)
 done_rising (body.Release n) agent low high requests le r = higher 0 low high _ le (filtered (λ request. not (request.agent == agent)) 0 low requests r)
@@ -94,7 +94,7 @@ stepped_in_order o agent b c r =
     (listed_rising (machine.step o.core.state c).reply b agent o.core.state.next.request (machine.step o.core.state c).state.next.request o.requests (step_counted o.core.state c) r)
 
 act_in_order : (o : Origin) (agent : ℕ) (b : Body) → InOrder o → InOrder (act o agent b).origin
-act_in_order o agent (body.Enter url kind) r = r
+act_in_order o agent (body.Enter url kind bucket) r = r
 act_in_order o agent body.Signal r = stepped_in_order o agent body.Signal _ r
 act_in_order o agent (body.Request ask) r = stepped_in_order o agent (body.Request ask) _ r
 act_in_order o agent (body.Release n) r = stepped_in_order o agent (body.Release n) _ r

@@ -4,11 +4,12 @@ use Rattle.std.specs.Ordering.{is_eq}
 use Rattle.wl_types.specs.declared.words.Kind.{Kind}
 use Rattle.wl_types.specs.declared.refusal.Refusal.TheVariants as refusal
 use Rattle.wl_types.specs.declared.answers.ReleaseAnswer.TheVariants.{NotHeld}
-use Rattle.wl_origin.specs.Origin.{Tuple, tuple_cmp}
-use Rattle.wl_origin.specs.Standing.{standing_of}
-use Rattle.wl_origin.specs.declared.standing.KeyFault.{KeyFault}
+use Rattle.wl_origin.specs.Manager.{manager_cmp}
+use Rattle.wl_origin.specs.declared.manager_key.ManagerKey.{ManagerKey}
+use Rattle.wl_origin.specs.Opening.{manager_of}
+use Rattle.wl_origin.specs.declared.opening.ManagerFault.{ManagerFault}
+use Rattle.wl_origin.specs.declared.opening.ManagerFault.TheVariants as fault
 use Rattle.wl_machine.specs.Refusals.{is_window, no_storage}
-use Rattle.wl_machine.specs.declared.command.Command.TheVariants as command
 use Rattle.wl_codec.specs.declared.message.Body.{Body}
 use Rattle.wl_codec.specs.declared.message.Body.TheVariants as body
 use Rattle.wl_codec.specs.declared.reply.Outcome.{Outcome}
@@ -17,7 +18,7 @@ use Rattle.wl_codec.specs.declared.reply.WireReply.{WireReply}
 use Rattle.wl_session.specs.Step as session
 use Rattle.wl_world.specs.declared.label.Label.{Label}
 use Rattle.wl_world.specs.declared.label.Label.TheVariants.{Agent, Opaque}
-use Rattle.wl_world.specs.Origins.{Origin, Acted, stepped}
+use Rattle.wl_world.specs.Origins.{Origin, Acted, admitted}
 use Rattle.wl_world.specs.Agents.{Served, served}
 
 abbrev pub closes : Outcome → Bool
@@ -35,14 +36,15 @@ closes (outcome.Fault f) = false
 closes outcome.NotOpen = false
 closes outcome.AlreadyOpen = false
 closes outcome.BadUrl = false
+closes outcome.BadBucket = false
 
--- the managers of all origins; one that nobody opened is unused
+-- the managers of all buckets of all origins; one that nobody opened is unused
 abbrev pub Realm : Type 0
-Realm = Tuple → Origin
+Realm = ManagerKey → Origin
 
 -- another manager at a key
-abbrev pub with_origin : Realm → Tuple → Origin → Realm
-with_origin realm key o = λ other. if is_eq (tuple_cmp key other) then o else realm other
+abbrev pub with_origin : Realm → ManagerKey → Origin → Realm
+with_origin realm key o = λ other. if is_eq (manager_cmp key other) then o else realm other
 
 -- what a label's line leaves, and its reply; no label is an unopened one
 pub record Stepped : Type 0 where
@@ -63,35 +65,40 @@ abbrev pub stays_unopened : Realm → ℕ → Outcome → Stepped
 stays_unopened realm id o = record { realm = realm; label = None; reply = plain (Some id) o }
 
 -- an agent that was accepted has its number, and was told nothing
-abbrev pub entered : Tuple → Outcome → Option Label
+abbrev pub entered : ManagerKey → Outcome → Option Label
 entered key (outcome.Client (Some n)) = Some (Agent key n (record { is_open = true; told = [] }))
 entered key o = None
 
-abbrev pub entering : Realm → ℕ → Tuple → Acted → Stepped
+abbrev pub entering : Realm → ℕ → ManagerKey → Acted → Stepped
 entering realm id key a = record { realm = with_origin realm key a.origin; label = entered key a.outcome; reply = plain (Some id) a.outcome }
 
--- The machine numbers the new agent, so 0 stands in for it.
-abbrev pub opened : Realm → ℕ → Body → Kind → Result (Option Tuple) KeyFault → Stepped
-opened realm id b kind (Err fault) = stays_unopened realm id outcome.BadUrl
-opened realm id b kind (Ok None) = record { realm = realm; label = Some (Opaque kind true); reply = plain (Some id) (outcome.Client None) }
-opened realm id b kind (Ok (Some key)) = entering realm id key (stepped (realm key) 0 b (command.Enter kind))
+-- a text gives no third fault
+abbrev pub fault_outcome : ManagerFault → Outcome
+fault_outcome fault.BadUrl = outcome.BadUrl
+fault_outcome fault.BadBucket = outcome.BadBucket
+fault_outcome fault.Memory = outcome.BadUrl
+
+abbrev pub opened : Realm → ℕ → Kind → Result (Option ManagerKey) ManagerFault → Stepped
+opened realm id kind (Err wrong) = stays_unopened realm id (fault_outcome wrong)
+opened realm id kind (Ok None) = record { realm = realm; label = Some (Opaque kind true); reply = plain (Some id) (outcome.Client None) }
+opened realm id kind (Ok (Some key)) = entering realm id key (admitted (realm key) kind)
 
 abbrev pub from_unopened : Realm → ℕ → Body → Stepped
-from_unopened realm id (body.Enter url kind) = opened realm id (body.Enter url kind) kind (standing_of url)
+from_unopened realm id (body.Enter url kind bucket) = opened realm id kind (manager_of url bucket)
 from_unopened realm id b = stays_unopened realm id outcome.NotOpen
 
--- ---- agents of origins
+-- ---- agents of managers
 
-abbrev pub at_key : Realm → Tuple → ℕ → Served → Stepped
+abbrev pub at_key : Realm → ManagerKey → ℕ → Served → Stepped
 at_key realm key n x = record { realm = with_origin realm key x.origin; label = after_closing x.outcome (Agent key n x.session); reply = x.reply }
 
-abbrev pub from_agent : Realm → Tuple → ℕ → session.State → ℕ → Body → Stepped
+abbrev pub from_agent : Realm → ManagerKey → ℕ → session.State → ℕ → Body → Stepped
 from_agent realm key n s id b = at_key realm key n (served (realm key) n s id b)
 
 -- ---- agents of opaque origins
 
 abbrev pub opaque_outcome : Kind → Bool → Body → Outcome
-opaque_outcome kind active (body.Enter url other) = outcome.AlreadyOpen
+opaque_outcome kind active (body.Enter url other bucket) = outcome.AlreadyOpen
 opaque_outcome kind active body.Signal = outcome.Refused refusal.Security
 opaque_outcome kind active (body.Request ask) = outcome.Refused (no_storage kind active)
 opaque_outcome kind active (body.Release n) = outcome.Release NotHeld

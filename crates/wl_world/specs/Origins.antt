@@ -1,7 +1,8 @@
--- The manager of one origin, and what an agent's operation makes of it (own; the operations are Web Locks').
+-- The manager of one bucket of an origin, and what an agent's operation makes of it (own; the operations are Web Locks').
 use Rattle.std.specs.Prelude.{ℕ, List, [], Option, Some, if◌then◌else◌, Bool, true, false}
 use Rattle.std.specs.List.{fold}
 use Rattle.wl_types.specs.declared.phases.Numbers.{Numbers}
+use Rattle.wl_types.specs.declared.words.Kind.{Kind}
 use Rattle.wl_types.specs.declared.phases.Phase.{Phase}
 use Rattle.wl_types.specs.declared.phases.Phase.TheVariants.{Pending, Granted, Taken, Unavailable, Aborted, Released, Stolen}
 use Rattle.wl_machine.specs.State.{State, opening}
@@ -72,9 +73,14 @@ noting o agent b gives = record {
 unfoldable pub stepped : Origin → ℕ → Body → Command → Acted
 stepped o agent b c = noting o agent b (machine.step o.core.state c)
 
+-- A new agent. The machine numbers it, so 0 stands in for its number, and sees nothing of what it opened, so empty texts stand
+-- in for that.
+abbrev pub admitted : Origin → Kind → Acted
+admitted o kind = stepped o 0 (body.Enter [] kind []) (command.Enter kind)
+
 -- what an agent's operation makes of its origin; `poll` has no step
 abbrev pub act : Origin → ℕ → Body → Acted
-act o agent (body.Enter url kind) = record { origin = o; outcome = outcome.AlreadyOpen }
+act o agent (body.Enter url kind bucket) = record { origin = o; outcome = outcome.AlreadyOpen }
 act o agent body.Signal = stepped o agent body.Signal (command.NewSignal agent)
 act o agent (body.Request ask) = stepped o agent (body.Request ask) (command.Request agent ask)
 act o agent (body.Release number) = stepped o agent (body.Release number) (command.Release agent number)

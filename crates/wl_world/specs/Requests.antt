@@ -1,4 +1,4 @@
--- The requests of an origin whose ends their agents were not told, each with what its agent is to learn of it (own).
+-- The requests of a manager whose ends their agents were not told, each with what its agent is to learn of it (own).
 use Rattle.std.specs.Prelude.{ℕ, Bool, false, not, ◌&&◌, ◌==◌, ◌≤◌, ◌<◌, ◌+◌, List, [], ◌∷◌, ◌++◌, map, filter, Option, Some, None, if◌then◌else◌}
 use Rattle.std.specs.List.{fold, flat_map}
 use Rattle.wl_types.specs.declared.phases.Phase.{Phase}
@@ -42,6 +42,7 @@ listed agent (outcome.Fault fault) requests = requests
 listed agent outcome.NotOpen requests = requests
 listed agent outcome.AlreadyOpen requests = requests
 listed agent outcome.BadUrl requests = requests
+listed agent outcome.BadBucket requests = requests
 
 -- what one request has come to, if that is news
 abbrev pub look_of : ℕ → Option Phase → List Look

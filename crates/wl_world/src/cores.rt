@@ -1,26 +1,26 @@
-//! The cores of all origins, in the end.
+//! The cores of all managers, in the end.
 
 ghost use Rattle.std.specs.Prelude.{◌≡◌, IfOk, OnOk, map};
 ghost use Rattle.std.specs.List.{IsDistinct};
 ghost use Rattle.std.specs.List.Sorted.{IsPermutation, IsSortedByKey, IsStrictlySortedBy};
 ghost use Rattle.std.specs.Map.{keys_of};
 ghost use Rattle.std.specs.Ordering.{eq_by_cmp};
-ghost use Rattle.wl_origin.specs.Origin.{tuple_cmp};
+ghost use Rattle.wl_origin.specs.Manager.{manager_cmp};
 ghost use Rattle.wl_world.specs.Cores.{listed};
 
 use crate::origin::Origin;
 use std::alloc::Global;
 use std::collections::HashMap;
 use wl_core::LockCore;
-use wl_origin::OriginKey;
+use wl_origin::ManagerKey;
 use wl_types::Memory;
 
 /// The cores in any order.
 fn list_cores<C: LockCore>(
     alloc: Global,
-    realm: HashMap<OriginKey, Origin<C>>,
-) -> Result<Vec<(OriginKey, C)>, Memory>
-    ensures distinct { OnOk result (IsDistinct (eq_by_cmp tuple_cmp) (keys_of realm.entries)) }
+    realm: HashMap<ManagerKey, Origin<C>>,
+) -> Result<Vec<(ManagerKey, C)>, Memory>
+    ensures distinct { OnOk result (IsDistinct (eq_by_cmp manager_cmp) (keys_of realm.entries)) }
     ensures cores { IfOk result (λ cores. listed C.state C.entries cores.items ≡ map (λ entry. (entry.0, entry.1.core)) realm.entries) }
 {
     let mut cores = Vec::with_capacity(alloc, realm.len())?;
@@ -31,9 +31,9 @@ fn list_cores<C: LockCore>(
 }
 
 /// Puts cores in the order of their keys.
-fn sort_cores<C: LockCore>(cores: &mut Vec<(OriginKey, C)>)
+fn sort_cores<C: LockCore>(cores: &mut Vec<(ManagerKey, C)>)
     ensures permutation { IsPermutation cores.old.items cores.new.items }
-    ensures sorted { IsSortedByKey (λ entry. entry.0) tuple_cmp cores.new.items }
+    ensures sorted { IsSortedByKey (λ entry. entry.0) manager_cmp cores.new.items }
 {
     cores.sort_unstable_by(|one, other| one.0.cmp(&other.0));
 }
@@ -41,10 +41,10 @@ fn sort_cores<C: LockCore>(cores: &mut Vec<(OriginKey, C)>)
 /// The cores in the order of their keys.
 pub(crate) fn take_cores<C: LockCore>(
     alloc: Global,
-    realm: HashMap<OriginKey, Origin<C>>,
-) -> Result<Vec<(OriginKey, C)>, Memory>
-    ensures distinct { OnOk result (IsDistinct (eq_by_cmp tuple_cmp) (keys_of realm.entries)) }
-    ensures in_order { IfOk result (λ cores. IsStrictlySortedBy tuple_cmp (keys_of (listed C.state C.entries cores.items))) }
+    realm: HashMap<ManagerKey, Origin<C>>,
+) -> Result<Vec<(ManagerKey, C)>, Memory>
+    ensures distinct { OnOk result (IsDistinct (eq_by_cmp manager_cmp) (keys_of realm.entries)) }
+    ensures in_order { IfOk result (λ cores. IsStrictlySortedBy manager_cmp (keys_of (listed C.state C.entries cores.items))) }
     ensures cores { IfOk result (λ cores. IsPermutation (map (λ entry. (entry.0, entry.1.core)) realm.entries) (listed C.state C.entries cores.items)) }
 {
     let mut cores = list_cores(alloc, realm)?;

@@ -12,17 +12,17 @@ use crate::origin::Origin;
 use crate::serve_label::plain_text;
 use std::alloc::Global;
 use std::collections::HashMap;
-use wl_codec::{Line, Outcome, Scratch, read_line_with};
+use wl_codec::{Line, Message, Outcome, Scratch, read_line_with};
 use wl_core::LockCore;
-use wl_origin::OriginKey;
+use wl_origin::ManagerKey;
 use wl_types::Memory;
 
-/// The managers of all origins, over cores of any kind, and the labels that are open. Contracts see the world
-/// that these stand for.
+/// The managers of all buckets of all origins, over cores of any kind, and the labels that are open. Contracts see the
+/// world that these stand for.
 #[derive(Drop)]
 pub struct Engine<C: LockCore> {
     alloc: Global,
-    realm: HashMap<OriginKey, Origin<C>>,
+    realm: HashMap<ManagerKey, Origin<C>>,
     labels: HashMap<String, Label>,
     // Lent to the reading of each line.
     scratch: Scratch,
@@ -50,19 +50,22 @@ impl<C: LockCore<Seed = ()>> Engine<C> {
     {
         match read_line_with(self.alloc, line, &mut self.scratch)? {
             Line::Bad(id, fault) => plain_text(self.alloc, id, Outcome::Fault(fault)),
-            Line::Good(name, message) => serve_named(
-                self.alloc,
-                &mut self.realm,
-                &mut self.labels,
-                name.as_str(),
-                message.id,
-                &message.body,
-            ),
+            Line::Good(name, message) => {
+                let Message { id, body } = message;
+                serve_named(
+                    self.alloc,
+                    &mut self.realm,
+                    &mut self.labels,
+                    name.as_str(),
+                    id,
+                    body,
+                )
+            }
         }
     }
 
-    /// The cores of the origins that agents entered, in the order of their keys.
-    pub fn into_cores(self) -> Result<Vec<(OriginKey, C)>, Memory>
+    /// The cores of the managers that agents entered, in the order of their keys.
+    pub fn into_cores(self) -> Result<Vec<(ManagerKey, C)>, Memory>
         ensures { IfOk result (λ cores. AreCoresOf C.no_entries (world_of C.no_entries self) (listed C.state C.entries cores.items)) }
     {
         take_cores(self.alloc, self.realm)

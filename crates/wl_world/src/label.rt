@@ -1,12 +1,12 @@
 //! What an opened label is.
 
-use wl_origin::OriginKey;
+use wl_origin::ManagerKey;
 use wl_session::{InTime, SessionOf};
 use wl_types::Kind;
 
-/// The agent of an opened label: one of an origin, with what it was told, or an opaque one, and whether it is active.
+/// The agent of an opened label: one of a manager, with what it was told, or an opaque one, and whether it is active.
 #[derive(Drop)]
 pub(crate) enum Label {
-    Agent(OriginKey, u64, SessionOf<InTime>),
+    Agent(ManagerKey, u64, SessionOf<InTime>),
     Opaque(Kind, bool),
 }

@@ -1,4 +1,4 @@
-//! The world of a script: the managers of all origins, and what each label is.
+//! The world of a script: the managers of all buckets of all origins, and what each label is.
 #![tactic(auto)]
 
 mod cores;

@@ -2,7 +2,7 @@
 
 ghost use Rattle.std.specs.Prelude.{◌≡◌, IfOk, OnOk, string_bytes, Some, None};
 ghost use Rattle.wl_codec.specs.Replies.{reply_text};
-ghost use Rattle.wl_origin.specs.Standing.{standing_of};
+ghost use Rattle.wl_origin.specs.Opening.{manager_of};
 ghost use Rattle.wl_world.specs.Labels.{entered, from_unopened, opened, plain};
 ghost use Rattle.wl_world.specs.Realms.{realm_of};
 
@@ -14,9 +14,9 @@ use std::alloc::Global;
 use std::collections::HashMap;
 use wl_codec::{Body, Outcome};
 use wl_core::LockCore;
-use wl_origin::{KeyFault, OriginKey, Standing, key_of};
+use wl_origin::{ManagerFault, ManagerKey, manager_of_text};
 use wl_session::{InTime, SessionOf};
-use wl_types::{Kind, Memory};
+use wl_types::{Kind, Memory, Text};
 
 /// What a line is answered, and the label that it opened.
 #[derive(Drop)]
@@ -26,7 +26,7 @@ pub(crate) struct Opening {
 }
 
 /// The label of a new agent.
-fn entered(alloc: Global, key: OriginKey, id: u64, outcome: Outcome) -> Result<Opening, Memory>
+fn entered(alloc: Global, key: ManagerKey, id: u64, outcome: Outcome) -> Result<Opening, Memory>
     ensures text { IfOk result (λ opening. string_bytes opening.text ≡ reply_text (plain (Some id) outcome)) }
     ensures label { IfOk result (λ opening. opening.label ≡ entered key outcome) }
 {
@@ -45,52 +45,58 @@ fn entered(alloc: Global, key: OriginKey, id: u64, outcome: Outcome) -> Result<O
 
 fn open_label<C: LockCore<Seed = ()>>(
     alloc: Global,
-    realm: &mut HashMap<OriginKey, Origin<C>>,
+    realm: &mut HashMap<ManagerKey, Origin<C>>,
     id: u64,
     url: &str,
     kind: Kind,
-    body: &Body,
+    bucket: Text,
 ) -> Result<Opening, Memory>
     ensures text { IfOk result (λ opening. string_bytes opening.text
-        ≡ reply_text (opened (realm_of C.no_entries realm.old) id body.now kind (standing_of url.now)).reply) }
+        ≡ reply_text (opened (realm_of C.no_entries realm.old) id kind (manager_of url.now bucket)).reply) }
     ensures label { IfOk result (λ opening. opening.label
-        ≡ (opened (realm_of C.no_entries realm.old) id body.now kind (standing_of url.now)).label) }
+        ≡ (opened (realm_of C.no_entries realm.old) id kind (manager_of url.now bucket)).label) }
     ensures realm { OnOk result (realm_of C.no_entries realm.new
-        ≡ (opened (realm_of C.no_entries realm.old) id body.now kind (standing_of url.now)).realm) }
+        ≡ (opened (realm_of C.no_entries realm.old) id kind (manager_of url.now bucket)).realm) }
 {
-    match key_of(alloc, url) {
-        Ok(Standing::Tuple(key)) => {
-            let outcome = enter_at(alloc, realm, &key, kind, body)?;
+    match manager_of_text(alloc, url, bucket) {
+        Ok(Some(key)) => {
+            let outcome = enter_at(alloc, realm, &key, kind)?;
             entered(alloc, key, id, outcome)
         }
-        Ok(Standing::Opaque) => {
+        Ok(None) => {
             let text = plain_text(alloc, Some(id), Outcome::Client(None))?;
             let label = Some(Label::Opaque(kind, true));
             Ok(Opening { text, label })
         }
-        Err(KeyFault::BadUrl) => {
+        Err(ManagerFault::BadUrl) => {
             let text = plain_text(alloc, Some(id), Outcome::BadUrl)?;
             Ok(Opening { text, label: None })
         }
-        Err(KeyFault::Memory) => Err(Memory),
+        Err(ManagerFault::BadBucket) => {
+            let text = plain_text(alloc, Some(id), Outcome::BadBucket)?;
+            Ok(Opening { text, label: None })
+        }
+        Err(ManagerFault::Memory) => Err(Memory),
     }
 }
 
 pub(crate) fn serve_unopened<C: LockCore<Seed = ()>>(
     alloc: Global,
-    realm: &mut HashMap<OriginKey, Origin<C>>,
+    realm: &mut HashMap<ManagerKey, Origin<C>>,
     id: u64,
-    body: &Body,
+    body: Body,
 ) -> Result<Opening, Memory>
     ensures text { IfOk result (λ opening. string_bytes opening.text
-        ≡ reply_text (from_unopened (realm_of C.no_entries realm.old) id body.now).reply) }
+        ≡ reply_text (from_unopened (realm_of C.no_entries realm.old) id body).reply) }
     ensures label { IfOk result (λ opening. opening.label
-        ≡ (from_unopened (realm_of C.no_entries realm.old) id body.now).label) }
+        ≡ (from_unopened (realm_of C.no_entries realm.old) id body).label) }
     ensures realm { OnOk result (realm_of C.no_entries realm.new
-        ≡ (from_unopened (realm_of C.no_entries realm.old) id body.now).realm) }
+        ≡ (from_unopened (realm_of C.no_entries realm.old) id body).realm) }
 {
     match body {
-        Body::Enter { url, kind } => open_label(alloc, realm, id, url.as_str(), *kind, body),
+        Body::Enter { url, kind, bucket } => {
+            open_label(alloc, realm, id, url.as_str(), kind, bucket)
+        }
         _ => {
             let text = plain_text(alloc, Some(id), Outcome::NotOpen)?;
             Ok(Opening { text, label: None })

@@ -1,10 +1,9 @@
-//! The manager of one origin.
+//! The manager of one bucket of an origin.
 
 ghost use Rattle.std.specs.Prelude.{◌≡◌, IfOk, OnOk, map};
 ghost use Rattle.std.specs.List.{fold};
-ghost use Rattle.wl_machine.specs.declared.command.Command.TheVariants as command;
 ghost use Rattle.wl_session.specs.Told.{IsByNumber};
-ghost use Rattle.wl_world.specs.Origins.{act, as_taken, is_granted, stepped, take_look, telling, unused};
+ghost use Rattle.wl_world.specs.Origins.{act, admitted, as_taken, is_granted, take_look, telling, unused};
 ghost use Rattle.wl_world.specs.Requests.{news_of};
 ghost use Rattle.wl_world.specs.Views.{core as seen, made_of};
 
@@ -60,10 +59,10 @@ impl<C: LockCore> Origin<C> {
     }
 
     /// A new agent, which the machine numbers.
-    pub(crate) fn enter(&mut self, kind: Kind, body: &Body) -> Result<Outcome, Memory>
-        ensures { IfOk result (λ outcome. made_of self.new outcome ≡ stepped self.old 0 body.now (command.Enter kind)) }
+    pub(crate) fn enter(&mut self, kind: Kind) -> Result<Outcome, Memory>
+        ensures { IfOk result (λ outcome. made_of self.new outcome ≡ admitted self.old kind) }
     {
-        let result = enter(&mut self.core, &mut self.requests, kind, body);
+        let result = enter(&mut self.core, &mut self.requests, kind);
         if result.is_err() {
             self.requests.clear();
         }

@@ -1,11 +1,10 @@
-//! The managers of all origins.
+//! The managers of all buckets of all origins.
 
 ghost use Rattle.std.specs.Prelude.{◌≡◌, IfOk, OnOk, string_bytes};
 ghost use Rattle.wl_codec.specs.Replies.{reply_text};
-ghost use Rattle.wl_machine.specs.declared.command.Command.TheVariants as command;
 ghost use Rattle.wl_world.specs.Agents.{served};
 ghost use Rattle.wl_world.specs.Labels.{closes, with_origin};
-ghost use Rattle.wl_world.specs.Origins.{stepped};
+ghost use Rattle.wl_world.specs.Origins.{admitted};
 ghost use Rattle.wl_world.specs.Realms.{realm_of};
 
 use crate::origin::Origin;
@@ -14,15 +13,15 @@ use std::alloc::Global;
 use std::collections::HashMap;
 use wl_codec::{Body, Outcome};
 use wl_core::LockCore;
-use wl_origin::OriginKey;
+use wl_origin::ManagerKey;
 use wl_session::{InTime, SessionOf};
 use wl_types::{Kind, Memory};
 
 /// Gives a manager to a key that has none.
 fn seat<C: LockCore>(
     alloc: Global,
-    realm: &mut HashMap<OriginKey, Origin<C>>,
-    key: &OriginKey,
+    realm: &mut HashMap<ManagerKey, Origin<C>>,
+    key: &ManagerKey,
     origin: Origin<C>,
 ) -> Result<(), Memory>
     ensures { OnOk result (realm_of C.no_entries realm.new ≡ with_origin (realm_of C.no_entries realm.old) key.now origin) }
@@ -32,11 +31,11 @@ fn seat<C: LockCore>(
     Ok(())
 }
 
-/// A line of an agent of this origin.
+/// A line of an agent of this manager.
 pub(crate) fn serve_at<C: LockCore<Seed = ()>>(
     alloc: Global,
-    realm: &mut HashMap<OriginKey, Origin<C>>,
-    key: &OriginKey,
+    realm: &mut HashMap<ManagerKey, Origin<C>>,
+    key: &ManagerKey,
     agent: u64,
     session: &mut SessionOf<InTime>,
     id: u64,
@@ -60,23 +59,22 @@ pub(crate) fn serve_at<C: LockCore<Seed = ()>>(
     Ok(answer)
 }
 
-/// A new agent of this origin.
+/// A new agent of this manager.
 pub(crate) fn enter_at<C: LockCore<Seed = ()>>(
     alloc: Global,
-    realm: &mut HashMap<OriginKey, Origin<C>>,
-    key: &OriginKey,
+    realm: &mut HashMap<ManagerKey, Origin<C>>,
+    key: &ManagerKey,
     kind: Kind,
-    body: &Body,
 ) -> Result<Outcome, Memory>
-    ensures outcome { IfOk result (λ outcome. outcome ≡ (stepped (realm_of C.no_entries realm.old key.now) 0 body.now (command.Enter kind)).outcome) }
+    ensures outcome { IfOk result (λ outcome. outcome ≡ (admitted (realm_of C.no_entries realm.old key.now) kind).outcome) }
     ensures realm { OnOk result (realm_of C.no_entries realm.new ≡ with_origin (realm_of C.no_entries realm.old) key.now
-        (stepped (realm_of C.no_entries realm.old key.now) 0 body.now (command.Enter kind)).origin) }
+        (admitted (realm_of C.no_entries realm.old key.now) kind).origin) }
 {
     if let Some(origin) = realm.get_mut(key) {
-        return origin.enter(kind, body);
+        return origin.enter(kind);
     }
     let mut origin = Origin::new(alloc);
-    let outcome = origin.enter(kind, body)?;
+    let outcome = origin.enter(kind)?;
     seat(alloc, realm, key, origin)?;
     Ok(outcome)
 }

@@ -1,4 +1,4 @@
-//! The requests of an origin whose ends their agents were not told, each with what its agent is to learn of it.
+//! The requests of a manager whose ends their agents were not told, each with what its agent is to learn of it.
 
 ghost use Rattle.std.specs.Prelude.{◌≡◌, ◌++◌, ◌∷◌, [], IfOk, OnOk, OnErr};
 ghost use Rattle.wl_world.specs.Requests.{IsRising, news_of, noted, told, waiting, without};

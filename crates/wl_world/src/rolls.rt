@@ -1,4 +1,4 @@
-//! The requests of an origin by number, and of each agent a roll of numbers that its requests are found by.
+//! The requests of a manager by number, and of each agent a roll of numbers that its requests are found by.
 
 ghost use Rattle.std.specs.Prelude.{◌≡◌, ◌∷◌, ◌++◌, [], map, filter, is_some, true, IfOk, IsSome, OnOk, Some, None, ℕ};
 ghost use Rattle.std.specs.List.{Contains, flat_map};

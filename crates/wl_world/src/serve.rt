@@ -1,4 +1,4 @@
-//! One line of an agent that is open at an origin.
+//! One line of an agent that is open.
 
 ghost use Rattle.std.specs.Prelude.{◌≡◌, IfOk, string_bytes};
 ghost use Rattle.wl_codec.specs.Replies.{reply_text};

@@ -2,7 +2,7 @@
 
 ghost use Rattle.std.specs.Prelude.{◌≡◌, IfOk};
 ghost use Rattle.wl_machine.specs.declared.command.Command.TheVariants as command;
-ghost use Rattle.wl_world.specs.Origins.{act, stepped};
+ghost use Rattle.wl_world.specs.Origins.{act, admitted, stepped};
 ghost use Rattle.wl_world.specs.Requests.{noted, listed, IsRising};
 ghost use Rattle.wl_world.specs.Rolls.{IsNewest};
 ghost use Rattle.wl_world.specs.Views.{core as seen, made, origin, Told};
@@ -140,10 +140,9 @@ pub(crate) fn enter<C: LockCore>(
     core: &mut C,
     requests: &mut Requests,
     kind: Kind,
-    body: &Body,
 ) -> Result<Outcome, Memory>
     ensures { IfOk result (λ outcome. made (seen (C.state core.new) (C.entries core.new)) requests.new outcome
-        ≡ stepped (origin (seen (C.state core.old) (C.entries core.old)) requests.old) 0 body.now (command.Enter kind)) }
+        ≡ admitted (origin (seen (C.state core.old) (C.entries core.old)) requests.old) kind) }
 {
     match core.open(kind) {
         Ok(agent) => accept(core, requests, 0, Outcome::Client(Some(agent))),

@@ -42,6 +42,31 @@ abort 1 1 TimeoutError -> Aborted(Done), 1 Aborted(TimeoutError)
 abort 1 1 AbortError -> Aborted(AlreadyAborted)
 ";
 
+/// The request that waits ends first, and then the lock that wasn't taken. A second code changes nothing.
+const AN_ABORT_WITH_A_CODE: &str = "\
+open window -> Agent(1)
+signal 1 -> Signal(1)
+signal 1 -> Signal(2)
+request 1 db signal=1 -> Request(1), 1 Granted
+request 1 db signal=1 -> Request(2)
+request 1 db signal=2 -> Request(3)
+abort 1 1 7 -> Aborted(Done), 2 Aborted(Code(7)), 1 Aborted(Code(7)), 3 Granted
+abort 1 1 8 -> Aborted(AlreadyAborted)
+abort 1 1 AbortError -> Aborted(AlreadyAborted)
+request 1 db signal=1 -> AbortCode 7/signal-aborted
+may request 1 db signal=1 -> AbortCode 7/signal-aborted
+abort 1 2 0 -> Aborted(Done), 3 Aborted(Code(0))
+request 1 db signal=2 -> AbortCode 0/signal-aborted
+signal 1 -> Signal(3)
+request 1 db signal=3 -> Request(4), 4 Granted
+take 4 -> Took(Taken)
+abort 1 3 65535 -> Aborted(Done)
+abort 1 3 0 -> Aborted(AlreadyAborted)
+request 1 db signal=3 -> AbortCode 65535/signal-aborted
+request 1 db -> Request(5)
+terminate 1 -> Done, 5 Aborted(AbortError), 4 Released
+";
+
 /// The second is granted once the first is released, and so after the third; the fourth is granted last.
 const GRANTED_OUT_OF_ORDER: &str = "\
 open worker -> Agent(1)
@@ -98,10 +123,11 @@ release 2 2 -> Released(Released), 2 Released, 3 Granted
 take 3 -> Took(Taken)
 ";
 
-pub const LISTS: [&str; 7] = [
+pub const LISTS: [&str; 8] = [
     AGENTS_COME_AND_GO,
     ONE_LOCK,
     AN_ABORT,
+    AN_ABORT_WITH_A_CODE,
     GRANTED_OUT_OF_ORDER,
     HELD_AND_WAITED_FOR,
     NOT_AVAILABLE_AND_STOLEN,

@@ -14,7 +14,7 @@ const SEEDS: u64 = 40;
 
 /// The calls that are made, each as often as it stands here. A, R and S stand for numbers of agents, requests and
 /// signals, of which most were given.
-const KINDS: [&str; 32] = [
+const KINDS: [&str; 35] = [
     "open window",
     "open window",
     "open worker",
@@ -32,6 +32,9 @@ const KINDS: [&str; 32] = [
     "release A R",
     "release A R",
     "abort A S TimeoutError",
+    "abort A S AbortError",
+    "abort A S 0",
+    "abort A S 65535",
     "terminate A",
     "query A",
     "request A a",
@@ -70,7 +73,7 @@ impl Dice {
     }
 
     fn kind(&mut self) -> &'static str {
-        KINDS.get(self.roll(32) as usize).copied().unwrap_or("")
+        KINDS.get(self.roll(35) as usize).copied().unwrap_or("")
     }
 }
 

@@ -15,18 +15,27 @@ type Outcome = (bool, Taking, Phase);
 
 const TAKE_WON: Outcome = (false, Taking::Taken, Phase::Taken);
 
-const ABORTED: Phase = Phase::Aborted(Reason::AbortError);
+/// Why it is aborted, each for a thousand races.
+const REASONS: [Reason; 4] = [
+    Reason::AbortError,
+    Reason::TimeoutError,
+    Reason::Code(0),
+    Reason::Code(65535),
+];
 
-const ABORT_WON: Outcome = (true, Taking::Before(ABORTED), ABORTED);
+fn abort_won(reason: Reason) -> Outcome {
+    let aborted = Phase::Aborted(reason);
+    (true, Taking::Before(aborted), aborted)
+}
 
-fn race<R: Threads + Sync>(rt: &R, keeper: Keeper, owner: Owner) -> Outcome
+fn race<R: Threads + Sync>(rt: &R, keeper: Keeper, owner: Owner, reason: Reason) -> Outcome
     requires { keeper.phase ≡ Granted }
 {
     let mut keeper = keeper;
     let mut owner = owner;
     let abort = move || -> bool
         requires { keeper.phase ≡ Granted }
-    { keeper.try_abort(Reason::AbortError) };
+    { keeper.try_abort(reason) };
     let take = move || -> (Taking, Owner) {
         let taking = owner.take();
         (taking, owner)
@@ -35,17 +44,31 @@ fn race<R: Threads + Sync>(rt: &R, keeper: Keeper, owner: Owner) -> Outcome
     (aborted, taking, owner.look())
 }
 
-fn race_anew<R: Threads + Sync>(rt: &R, alloc: Global) -> Result<Outcome, Memory> {
+fn race_anew<R: Threads + Sync>(rt: &R, alloc: Global, reason: Reason) -> Result<Outcome, Memory> {
     let (mut keeper, owner) = cell(alloc)?;
     keeper.settle(Phase::Granted);
-    Ok(race(rt, keeper, owner))
+    Ok(race(rt, keeper, owner, reason))
+}
+
+/// The first outcome of a thousand that is neither the take's nor the abort's.
+fn first_wrong<R: Threads + Sync>(
+    rt: &R,
+    alloc: Global,
+    reason: Reason,
+) -> Result<Option<Outcome>, Memory> {
+    for _ in 0..1000 {
+        let outcome = race_anew(rt, alloc, reason)?;
+        if outcome != TAKE_WON && outcome != abort_won(reason) {
+            return Ok(Some(outcome));
+        }
+    }
+    Ok(None)
 }
 
 #[test]
 fn a_take_and_an_abort_race_a_thousand_times(rt: HostRuntime) -> Result<(), Fail> {
-    for _ in 0..1000 {
-        let outcome = race_anew(&rt, rt.alloc())?;
-        assert!(rt; outcome == TAKE_WON || outcome == ABORT_WON, "{outcome:?}");
+    for reason in REASONS {
+        assert_eq!(rt; first_wrong(&rt, rt.alloc(), reason)?, None);
     }
     Ok(())
 }

@@ -8,7 +8,7 @@ use super::desk::Manner::Signalled;
 use super::desk::Use::{Look, Take};
 use std::test::Fail;
 use wl_types::Kind::Window;
-use wl_types::Reason::TimeoutError;
+use wl_types::Reason::{Code, TimeoutError};
 
 /// The second is granted once the first is released, and so after the third. The third is taken before the second. The
 /// fourth alone ends.
@@ -35,4 +35,28 @@ const TAKEN_OUT_OF_ORDER: [(Call, &str); 17] = [
 #[test]
 fn takes_are_entered_in_the_order_of_their_numbers(rt: HostRuntime) -> Result<(), Fail> {
     Ok(assert_calls(&rt, rt.alloc(), TAKEN_OUT_OF_ORDER.as_slice())?)
+}
+
+/// The first code stays: a second is told of it, and leaves no entry. The third request is refused for it.
+const ABORTED_WITH_A_CODE: [(Call, &str); 12] = [
+    (Open(Window), "Ok(1)"),
+    (Agent(1, Signal), "Ok(1)"),
+    (Agent(1, Request("a", Signalled(1))), "Ok(1)"),
+    (Agent(1, Request("a", Signalled(1))), "Ok(2)"),
+    (Agent(1, Abort(1, Code(65535))), "Ok(Done)"),
+    (Agent(1, Abort(1, Code(0))), "Ok(AlreadyAborted)"),
+    (Ticket(1, Look), "Aborted(Code(65535))"),
+    (Ticket(1, Take), "Before(Aborted(Code(65535)))"),
+    (Ticket(2, Look), "Aborted(Code(65535))"),
+    (
+        Agent(1, Request("a", Signalled(1))),
+        "Err(SignalAborted(Code(65535)))",
+    ),
+    (Entries, "5"),
+    (Entry(5), "Abort(1, 1, Code(65535)), Aborted(Done)"),
+];
+
+#[test]
+fn the_first_code_of_an_abort_stays(rt: HostRuntime) -> Result<(), Fail> {
+    Ok(assert_calls(&rt, rt.alloc(), ABORTED_WITH_A_CODE.as_slice())?)
 }

@@ -106,6 +106,11 @@ true -> NotAnObject/json
 {"id":1,"op":"open","kind":"page"} -> 1 TypeError/url
 {"id":1,"op":"open","url":"https://a.test/","kind":"page"} -> 1 TypeError/kind
 {"id":1,"op":"open","url":"https://a.test/","kind":null} -> 1 TypeError/kind
+{"id":1,"op":"open","url":"https://a.test/","kind":"page","bucket":7} -> 1 TypeError/kind
+{"id":1,"op":"open","url":7,"bucket":7} -> 1 TypeError/url
+{"id":1,"op":"open","url":"https://a.test/","bucket":7} -> 1 TypeError/bucket
+{"id":1,"op":"open","url":"https://a.test/","bucket":null} -> 1 TypeError/bucket
+{"id":1,"op":"open","url":"https://a.test/","bucket":["inbox"]} -> 1 TypeError/bucket
 {"id":1,"name":7,"op":"request","options":7} -> 1 TypeError/name
 {"id":1,"name":"n","op":"request","options":[]} -> 1 TypeError/options
 {"id":1,"name":"n","op":"request","options":{"mode":"x","ifAvailable":1}} -> 1 TypeError/ifAvailable
@@ -119,7 +124,21 @@ true -> NotAnObject/json
 {"id":1,"op":"release","request":9007199254740992} -> 1 TypeError/request
 {"id":1,"op":"abort","reason":"x"} -> 1 TypeError/signal
 {"id":1,"op":"abort","signal":1,"reason":"aborterror"} -> 1 TypeError/reason
+{"id":1,"op":"abort","signal":1,"reason":"AbortCode"} -> 1 TypeError/reason
 {"id":1,"op":"abort","signal":1,"reason":null} -> 1 TypeError/reason
+{"id":1,"op":"abort","reason":65536,"signal":1} -> 1 TypeError/reason
+{"id":1,"op":"abort","signal":1,"reason":65543} -> 1 TypeError/reason
+{"id":1,"op":"abort","signal":1,"reason":9007199254740991} -> 1 TypeError/reason
+{"id":1,"op":"abort","signal":1,"reason":18446744073709551623} -> 1 TypeError/reason
+{"id":1,"op":"abort","signal":1,"reason":-1} -> 1 TypeError/reason
+{"id":1,"op":"abort","signal":1,"reason":-0} -> 1 TypeError/reason
+{"id":1,"op":"abort","signal":1,"reason":7.0} -> 1 TypeError/reason
+{"id":1,"op":"abort","signal":1,"reason":7e0} -> 1 TypeError/reason
+{"id":1,"op":"abort","signal":1,"reason":"7"} -> 1 TypeError/reason
+{"id":1,"op":"abort","signal":1,"reason":true} -> 1 TypeError/reason
+{"id":1,"op":"abort","signal":1,"reason":[7]} -> 1 TypeError/reason
+{"id":1,"op":"abort","signal":1,"reason":7,"reason":"7"} -> 1 TypeError/reason
+{"id":1,"op":"abort","reason":65536} -> 1 TypeError/signal
 {"id":1,"op":"active"} -> 1 TypeError/active
 {"id":1,"op":"active","active":1} -> 1 TypeError/active
 "#;
@@ -168,7 +187,7 @@ fn a_line_names_its_agent(rt: HostRuntime) -> Result<(), Fail> {
     Ok(())
 }
 
-const RULES: [(CodecFault, &str); 16] = [
+const RULES: [(CodecFault, &str); 17] = [
     (CodecFault::BadJson, "BadJson/json"),
     (CodecFault::NotAnObject, "NotAnObject/json"),
     (CodecFault::BadId, "BadId/id"),
@@ -176,6 +195,7 @@ const RULES: [(CodecFault, &str); 16] = [
     (CodecFault::TypeError(Member::Agent), "TypeError/agent"),
     (CodecFault::TypeError(Member::Url), "TypeError/url"),
     (CodecFault::TypeError(Member::Kind), "TypeError/kind"),
+    (CodecFault::TypeError(Member::Bucket), "TypeError/bucket"),
     (CodecFault::TypeError(Member::Name), "TypeError/name"),
     (CodecFault::TypeError(Member::Options), "TypeError/options"),
     (

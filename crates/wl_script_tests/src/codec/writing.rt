@@ -81,28 +81,43 @@ fn each_outcome_has_its_text(rt: HostRuntime) -> Result<(), Fail> {
     Ok(())
 }
 
-const ERRORS: [&str; 8] = [
+const ERRORS: [&str; 13] = [
     r#"{"name":"InvalidStateError","rule":"inactive"}"#,
+    r#"{"name":"AbortError","rule":"signal-aborted"}"#,
     r#"{"name":"TimeoutError","rule":"signal-aborted"}"#,
+    r#"{"name":"AbortCode","reason":0,"rule":"signal-aborted"}"#,
+    r#"{"name":"AbortCode","reason":7,"rule":"signal-aborted"}"#,
+    r#"{"name":"AbortCode","reason":65535,"rule":"signal-aborted"}"#,
     r#"{"name":"Limit","rule":"name-length"}"#,
     r#"{"name":"BadJson","rule":"json"}"#,
     r#"{"name":"TypeError","rule":"ifAvailable"}"#,
     r#"{"name":"NotOpen","rule":"session"}"#,
     r#"{"name":"AlreadyOpen","rule":"session"}"#,
     r#"{"name":"BadUrl","rule":"url"}"#,
+    r#"{"name":"BadBucket","rule":"bucket"}"#,
 ];
+
+/// What a request is answered whose signal was aborted for this reason.
+fn aborted(reason: Reason) -> Outcome {
+    Outcome::Refused(Refusal::SignalAborted(reason))
+}
 
 /// The outcomes of these errors, by their place.
 fn error(place: usize) -> Outcome {
     match place {
         0 => Outcome::Refused(Refusal::InvalidState),
-        1 => Outcome::Refused(Refusal::SignalAborted(Reason::TimeoutError)),
-        2 => Outcome::Refused(Refusal::NameTooLong),
-        3 => Outcome::Fault(CodecFault::BadJson),
-        4 => Outcome::Fault(CodecFault::TypeError(Member::IfAvailable)),
-        5 => Outcome::NotOpen,
-        6 => Outcome::AlreadyOpen,
-        _ => Outcome::BadUrl,
+        1 => aborted(Reason::AbortError),
+        2 => aborted(Reason::TimeoutError),
+        3 => aborted(Reason::Code(0)),
+        4 => aborted(Reason::Code(7)),
+        5 => aborted(Reason::Code(65535)),
+        6 => Outcome::Refused(Refusal::NameTooLong),
+        7 => Outcome::Fault(CodecFault::BadJson),
+        8 => Outcome::Fault(CodecFault::TypeError(Member::IfAvailable)),
+        9 => Outcome::NotOpen,
+        10 => Outcome::AlreadyOpen,
+        11 => Outcome::BadUrl,
+        _ => Outcome::BadBucket,
     }
 }
 
@@ -117,7 +132,7 @@ fn each_error_has_its_name_and_rule(rt: HostRuntime) -> Result<(), Fail> {
 }
 
 const NEWS_TOLD: &str =
-    r#"{"id":2,"notices":[{"phase":"granted","request":3},{"phase":"unavailable","request":1},{"phase":"aborted","reason":"AbortError","request":4},{"phase":"stolen","request":5}],"ok":{}}"#;
+    r#"{"id":2,"notices":[{"phase":"granted","request":3},{"phase":"unavailable","request":1},{"phase":"aborted","reason":"AbortError","request":4},{"phase":"aborted","reason":0,"request":6},{"phase":"aborted","reason":65535,"request":2},{"phase":"stolen","request":5}],"ok":{}}"#;
 
 fn news(alloc: Global) -> Result<Notices, Memory>
     ensures { IfOk result (λ notices. All (λ n. IsTold n.phase) notices) }
@@ -136,6 +151,14 @@ fn news(alloc: Global) -> Result<Notices, Memory>
         phase: Phase::Aborted(Reason::AbortError),
     })?;
     notices.push(Notice {
+        request: 6,
+        phase: Phase::Aborted(Reason::Code(0)),
+    })?;
+    notices.push(Notice {
+        request: 2,
+        phase: Phase::Aborted(Reason::Code(65535)),
+    })?;
+    notices.push(Notice {
         request: 5,
         phase: Phase::Stolen,
     })?;
@@ -149,7 +172,7 @@ fn notices_keep_their_order(rt: HostRuntime) -> Result<(), Fail> {
         notices: news(rt.alloc())?,
         outcome: Outcome::Polled,
     };
-    assert_eq!(rt; reply.notices.as_slice().len(), 4);
+    assert_eq!(rt; reply.notices.as_slice().len(), 6);
     assert_eq!(rt; write_reply(rt.alloc(), &reply)?.as_str(), NEWS_TOLD);
     Ok(())
 }

@@ -10,7 +10,7 @@ use wl_types::{AbortAnswer, Memory, Phase, Reason, Refusal, ReleaseAnswer};
 
 /// Does the steps of a list with a new session, a step a line, and gives the list as it came out. A line is an outcome,
 /// what is found of at most two requests in brackets, an arrow, the reply, and then the told list: `release [1 released,
-/// 4 granted] -> ..`. With `all: ` before it, all requests are looked at. `plan` and a message is what is planned.
+/// 4 granted] -> ..`. `aborted` may have a code behind it. With `all: ` before it, all requests are looked at. `plan` and a message is what is planned.
 pub fn finish_all(alloc: Global, list: &str) -> Result<String, Memory> {
     let mut session = Session::new(alloc);
     let mut came = String::new(alloc);
@@ -84,8 +84,8 @@ fn tell_two<U: Upkeep>(
 }
 
 fn outcome(text: &str) -> Outcome {
-    let (word, number) = text.split_once(' ').unwrap_or((text, ""));
-    let number = number.parse::<u64>().ok();
+    let (word, behind) = text.split_once(' ').unwrap_or((text, ""));
+    let number = behind.parse::<u64>().ok();
     match word {
         "client" => Outcome::Client(number),
         "request" => Outcome::Request(number.unwrap_or(0)),
@@ -94,20 +94,30 @@ fn outcome(text: &str) -> Outcome {
         "fault" => Outcome::Fault(CodecFault::BadOp),
         "refusal" => Outcome::Refused(Refusal::NoSuchSignal),
         "close" => Outcome::Closed,
+        "aborted" => Outcome::Refused(Refusal::SignalAborted(reason(behind))),
         _ => Outcome::Polled,
     }
 }
 
 /// A number and a phase; a granted lock is taken before it is looked at.
 fn look(text: &str) -> (u64, Phase) {
-    let (number, word) = text.split_once(' ').unwrap_or((text, ""));
+    let (number, words) = text.split_once(' ').unwrap_or((text, ""));
+    let (word, behind) = words.split_once(' ').unwrap_or((words, ""));
     let phase = match word {
         "granted" => Phase::Taken,
         "unavailable" => Phase::Unavailable,
-        "aborted" => Phase::Aborted(Reason::TimeoutError),
+        "aborted" => Phase::Aborted(reason(behind)),
         "released" => Phase::Released,
         "stolen" => Phase::Stolen,
         _ => Phase::Pending,
     };
     (number.parse::<u64>().unwrap_or(0), phase)
+}
+
+/// A timeout where there is no code.
+fn reason(code: &str) -> Reason {
+    match code.parse::<u16>() {
+        Ok(code) => Reason::Code(code),
+        Err(_) => Reason::TimeoutError,
+    }
 }

@@ -24,8 +24,11 @@ fn action_told(action: &Action) -> &'static str {
 
 fn act_told(body: &Body) -> &'static str {
     match body {
-        Body::Enter { url, kind } => {
-            if *kind == Kind::Window && url.as_str() == "https://a.test/" {
+        Body::Enter { url, kind, bucket } => {
+            if *kind == Kind::Window
+                && url.as_str() == "https://a.test/"
+                && bucket.as_str() == "default"
+            {
                 "opens a window of a.test"
             } else {
                 "opens something else"

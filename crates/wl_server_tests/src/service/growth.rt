@@ -8,20 +8,27 @@ use wl_service::{Client, OpenFault, Service};
 use wl_types::Kind;
 
 /// Opens a window. Refused memory, the service is as it was: who opens when it is asked again has this number.
-fn try_open<R: Wait>(rt: &R, service: &Service, url: &str, number: u64) -> Result<Client, Fail> {
-    let opened = service.open(rt, url, Kind::Window);
+fn try_open<R: Wait>(
+    rt: &R,
+    service: &Service,
+    url: &str,
+    bucket: &str,
+    number: u64,
+) -> Result<Client, Fail> {
+    let opened = service.open_in(rt, url, bucket, Kind::Window);
     let Err(OpenFault::Memory) = opened else {
         return Ok(opened?);
     };
-    let client = service.open(rt, url, Kind::Window)?;
+    let client = service.open_in(rt, url, bucket, Kind::Window)?;
     refused(client.client() == Some(number))?;
     Ok(client)
 }
 
 fn try_opens<R: Wait>(rt: &R, service: &Service) -> Result<(), Fail> {
     for number in 1..3 {
-        try_open(rt, service, HERE, number)?;
-        try_open(rt, service, ELSEWHERE, number)?;
+        try_open(rt, service, HERE, "default", number)?;
+        try_open(rt, service, ELSEWHERE, "default", number)?;
+        try_open(rt, service, HERE, "inbox", number)?;
     }
     Ok(())
 }

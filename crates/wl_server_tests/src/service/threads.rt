@@ -10,7 +10,7 @@ use std::thread;
 use std::thread::Threads;
 use wl_journal::Entry;
 use wl_manager::Visitor;
-use wl_origin::OriginKey;
+use wl_origin::ManagerKey;
 use wl_samples::{ask, key};
 use wl_service::Service;
 use wl_types::{Ask, Kind, Memory, Mode, Phase};
@@ -46,7 +46,7 @@ fn comes(flag: &AtomicBool) -> bool {
 fn visit_long<R: Wait>(
     rt: &R,
     service: &Service,
-    key: &OriginKey,
+    key: &ManagerKey,
     entered: &AtomicBool,
     answered: &AtomicBool,
 ) -> bool {
@@ -91,7 +91,7 @@ pub fn visit_and_ask<R: Threads + Wait + Sync>(
 fn visit_beside<R: Threads + Wait + Sync>(
     rt: &R,
     service: &Service,
-    key: &OriginKey,
+    key: &ManagerKey,
     asked: &Ask,
 ) -> (bool, Option<Phase>) {
     let entered = AtomicBool::new(false);

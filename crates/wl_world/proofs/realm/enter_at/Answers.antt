@@ -1,6 +1,5 @@
 use Rattle.std.proofs.Common.{rules}
-use Rattle.wl_machine.specs.declared.command.Command.TheVariants as command
-use Rattle.wl_world.specs.Origins.{stepped}
+use Rattle.wl_world.specs.Origins.{admitted}
 use Rattle.wl_world.proofs.Operations.{origin_in}
 use Rattle.wl_world.proofs.Realms.{written_through}
 use Rattle.wl_world.proofs.realm.enter_at.Goals as goal
@@ -9,5 +8,5 @@ pub returns-in-Some-clause-realm : goal.returns-in-Some-clause-realm
 returns-in-Some-clause-realm g c =
     let new = c.enter.new.self in
     written_through g.C.LockCore.no_entries c.enter.result c.args.realm.now (c.get_mut.follows.lender new) c.args.key.now c.in-Some.origin.now new
-    (λ o. (stepped o 0 c.args.body.now (command.Enter c.args.kind)).origin)
+    (λ o. (admitted o c.args.kind).origin)
     (search rules) ((c.get_mut.follows.holds new).3 (search rules)) (origin_in c.enter.result _ _ c.enter.ensures)
