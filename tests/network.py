@@ -29,14 +29,13 @@ def free_port():
 
 
 class Serving:
-    """The program as a server of so many clients, which listens."""
+    """The program as a server of so many clients, which listens; the words before it may run it otherwise."""
 
-    def __init__(self, program, clients):
+    def __init__(self, program, clients, before=()):
         self.port = free_port()
-        words = [program, "serve", "--port", str(self.port), "--clients", str(clients)]
+        words = [*before, program, "serve", "--port", str(self.port), "--clients", str(clients)]
         self.child = subprocess.Popen(words, stdout=subprocess.PIPE, stderr=subprocess.PIPE)
-        line = read_line(self.child.stdout.fileno(), time.monotonic() + SECONDS)
-        expect("its first line", line, b"listening %d\n" % self.port)
+        self.line = read_line(self.child.stdout.fileno(), time.monotonic() + SECONDS)
 
     def end(self):
         try:
@@ -46,6 +45,11 @@ class Serving:
         return Ended(self.child.returncode, out, err)
 
     def __enter__(self):
+        try:
+            expect("its first line", self.line, b"listening %d\n" % self.port)
+        except Wrong:
+            self.__exit__()
+            raise
         return self
 
     def __exit__(self, *_):
