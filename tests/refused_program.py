@@ -7,7 +7,13 @@ from network import Client, Serving
 from running import Ended, Wrong, expect, expect_end, run_whole, text
 
 SCRIPTS = Path(__file__).resolve().parent / "scripts"
-NAMES = ["a_stolen_lock_is_not_held", "closing_ends_locks_and_requests", "origins_share_nothing"]
+NAMES = [
+    "a_signal_may_be_aborted_with_a_code",
+    "a_stolen_lock_is_not_held",
+    "buckets_of_an_origin_share_nothing",
+    "closing_ends_locks_and_requests",
+    "origins_share_nothing",
+]
 SAID = b"a growth was refused\n"
 # More growths than any run has.
 MOST = 3000

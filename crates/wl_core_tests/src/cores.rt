@@ -4,6 +4,7 @@ mod growth;
 mod limits;
 mod lists;
 mod random;
+mod refusals;
 mod runs;
 
 pub use lists::{LISTS, came};

@@ -3,8 +3,10 @@
 use std::alloc::Global;
 use std::cmp::Ordering;
 use std::test::Fail;
-use wl_samples::ask;
-use wl_types::{Infos, Kind, LockInfo, Memory, Mode, Name, Phase, Reason, Refusal, client_text};
+use wl_samples::{ask, refused};
+use wl_types::{
+    Infos, Kind, LockInfo, Memory, Mode, Name, Phase, Reason, Refusal, Text, client_text,
+};
 
 /// How many bytes the name has that repeats a text so often, or what it is refused.
 fn name_length(alloc: Global, text: &str, times: usize) -> Result<Result<usize, Refusal>, Memory> {
@@ -260,4 +262,45 @@ fn ends_are_ends(rt: HostRuntime) {
     assert!(rt; Phase::Pending.is_pending() && !Phase::Granted.is_pending());
     assert_eq!(rt; Mode::Exclusive.word(), "exclusive");
     assert!(rt; Kind::Window != Kind::Worker);
+}
+
+/// A name, a text, a client and a list that are refused memory are told so, and are made when they are asked for again.
+fn try_words(alloc: Global) -> Result<(), Fail> {
+    match Name::of(alloc, "db") {
+        Ok(_) => {}
+        Err(refusal) => {
+            return refused(refusal == Refusal::Memory && Name::of(alloc, "db").is_ok());
+        }
+    }
+    if Text::of(alloc, "db").is_err() {
+        return refused(Text::of(alloc, "db").is_ok());
+    }
+    match client_text(alloc, 12) {
+        Ok(_) => Ok(()),
+        Err(Memory) => refused(client_text(alloc, 12)?.as_str() == "client-12"),
+    }
+}
+
+fn try_list(alloc: Global) -> Result<(), Fail> {
+    let mut infos = Infos::new(alloc);
+    if infos.push(info(alloc)?).is_ok() {
+        return Ok(());
+    }
+    let is_as_before = infos.as_slice().is_empty();
+    infos.push(info(alloc)?)?;
+    refused(is_as_before && infos.as_slice().len() == 1)
+}
+
+fn info(alloc: Global) -> Result<LockInfo, Fail> {
+    Ok(LockInfo {
+        name: Name::of(alloc, "db")?,
+        mode: Mode::Shared,
+        client: 1,
+    })
+}
+
+#[test]
+fn a_refused_growth_makes_no_word(rt: HostRuntime) -> Result<(), Fail> {
+    try_words(rt.alloc())?;
+    try_list(rt.alloc())
 }

@@ -26,9 +26,9 @@ pub use requesting::copy_ask;
 /// Beside its core's work each call does a bounded number of steps; only `cut` copies the state. Since a book grows
 /// until it is cut, one that lives long should be cut now and then.
 ///
-/// `open`, `set_active`, `new_signal` and `request` grow the journal first, and then call the core. They make room too
-/// for the entries that are to come without a growth: two for each live request, one for each unaborted signal and
-/// each agent. So `take`, `release`, `abort` and `terminate` need no memory.
+/// `open`, `set_active`, `new_signal` and `request` grow the journal before they call the core, unless the core refuses
+/// the call in any case. They make room too for the entries that are to come without a growth: two for each live
+/// request, one for each unaborted signal and each agent. So `take`, `release`, `abort` and `terminate` need no memory.
 #[derive(Drop)]
 pub struct Book<C: LockCore> {
     core: C,

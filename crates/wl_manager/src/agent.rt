@@ -8,18 +8,17 @@ ghost use Rattle.wl_machine.specs.declared.command.Command.TheVariants as comman
 ghost use Rattle.wl_manager.specs.Agents.{MayRefuse, is_released, entries_of_abort};
 
 use crate::count::Count;
+use crate::inbox::Inbox;
 use crate::locked::{Asking, Leaving};
 use crate::manager::Manager;
-use crate::news::News;
 use crate::ticket::Ticket;
-use std::alloc::Global;
 use std::sync::{Arc, Wait};
 use wl_core::LockCore;
 use wl_journal::Sight;
 use wl_types::{AbortAnswer, Ask, Change, Reason, Refusal, ReleaseAnswer};
 
-/// A window or worker that opened. Each call but `client` and `changed` takes the manager's
-/// lock, and is one event of the machine.
+/// A window or worker that opened. Each call but `client`, `changed` and `is_rung` takes the manager's lock, and is one
+/// event of the machine.
 ///
 /// Where shares are counted, an agent's share has as many entries as its calls recorded. An agent should end by
 /// `terminate`: one that is dropped stays in the manager, with its locks.
@@ -28,7 +27,7 @@ pub struct Agent<C: LockCore, T: Count> {
     pub(crate) manager: Arc<Manager<C, T>>,
     pub(crate) number: u64,
     pub(crate) share: T::Share,
-    pub(crate) news: Arc<News, Global>,
+    pub(crate) inbox: Arc<Inbox>,
     ghost one: { T.COUNTS ≡ true → T.parts share ≡ 1 },
 }
 
@@ -44,7 +43,12 @@ impl<C: LockCore, T: Count> Agent<C, T> {
     /// no order and some more than once. Answers whether these are all: else any request may have changed. It takes no
     /// lock of the manager, and waits for nobody.
     pub fn changed(&self, numbers: &mut Vec<u64>) -> bool {
-        self.news.collect(numbers)
+        self.inbox.collect(numbers)
+    }
+
+    /// Whether a request changed since `changed` was last called. A bell that the agent was opened with was rung then.
+    pub fn is_rung(&self) -> bool {
+        self.inbox.is_rung()
     }
 
     /// Asks for a lock. The ticket tells what becomes of it. Refused: as `LockCore::request`.
@@ -55,10 +59,10 @@ impl<C: LockCore, T: Count> Agent<C, T> {
         ensures client { self.new.number ≡ self.old.number }
     {
         let Ok(manager) = Arc::try_clone(&self.manager) else {
-            return Err(Refusal::Memory);
+            return Err(self.manager.lock(rt).without_memory(self.number, ask));
         };
         // Made before the lock is taken, so that others wait for less.
-        let asking = Asking::new(self.manager.alloc, ask, &self.news);
+        let asking = Asking::new(self.manager.alloc, ask, &self.inbox);
         let mut locked = self.manager.lock(rt);
         let (number, owner) = match locked.request_made(self.number, ask, asking, &mut self.share) {
             Ok(made) => made,
@@ -164,7 +168,7 @@ impl<C: LockCore, T: Count> Agent<C, T> {
             manager,
             number,
             share,
-            news: _news,
+            inbox: _inbox,
         } = self;
         let mut share = share;
         let mut locked = manager.lock(rt);

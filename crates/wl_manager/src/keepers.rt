@@ -1,4 +1,4 @@
-//! The keepers of a manager, by the numbers of their requests, and who is told of their changes.
+//! The keepers of a manager, by the numbers of their requests, and the inboxes that their changes go to.
 
 ghost use Rattle.std.specs.Prelude.{◌≡◌, ◌==◌, ◌⊎◌, ℕ, IsTrue, [], ◌∷◌, Some, None, OnOk, OnErr, if◌then◌else◌};
 ghost use Rattle.std.specs.Bool.{OnTrue, OnFalse};
@@ -7,7 +7,7 @@ ghost use Rattle.wl_machine.specs.Laws.{phases_of};
 ghost use Rattle.wl_cell.specs.Seats.{may_settle};
 ghost use Rattle.wl_manager.specs.Keepers.{seat_at, phases_at, cells_at, ends_request, MayBring, MaySettle, after};
 
-use crate::news::News;
+use crate::inbox::Inbox;
 use std::alloc::Global;
 use std::collections::BTreeMap;
 use std::marker::Model;
@@ -15,11 +15,11 @@ use std::sync::Arc;
 use wl_cell::Keeper;
 use wl_types::{Change, Memory, Phase, Reason};
 
-/// A keeper, and the news of its request's agent. Contracts see the keeper.
+/// A keeper, and the inbox of its request's agent. Contracts see the keeper.
 #[derive(Drop)]
 struct Place {
     keeper: Keeper,
-    news: Arc<News, Global>,
+    inbox: Arc<Inbox>,
 }
 
 impl Model for Place {
@@ -31,7 +31,7 @@ impl Model for Place {
 }
 
 impl Place {
-    /// Settles the cell, if it isn't at the phase, and tells the agent.
+    /// Settles the cell, if it isn't at the phase, and then adds the request to the agent's inbox.
     fn bring(&mut self, id: u64, phase: Phase)
         requires { (self.old.phase ≡ phase) ⊎ IsTrue (may_settle self.old.phase phase) }
         ensures { self.new ≡ record self.old { phase = phase } }
@@ -39,7 +39,7 @@ impl Place {
         if self.keeper.phase() != phase {
             self.keeper.settle(phase);
         }
-        self.news.note(id);
+        self.inbox.add(id);
     }
 
     /// As the keeper's.
@@ -75,17 +75,12 @@ impl Keepers {
         }
     }
 
-    /// Keeps this keeper under this number, and tells these news of its changes.
-    pub(crate) fn put(
-        &mut self,
-        id: u64,
-        keeper: Keeper,
-        news: Arc<News, Global>,
-    ) -> Result<(), Memory>
+    /// Keeps this keeper under this number, and the inbox that its changes go to.
+    pub(crate) fn put(&mut self, id: u64, keeper: Keeper, inbox: Arc<Inbox>) -> Result<(), Memory>
         ensures put { OnOk result ((other : ℕ) → seat_at other self.new ≡ (if other == id then Some keeper else seat_at other self.old)) }
         ensures err { OnErr result (self.new ≡ self.old) }
     {
-        self.kept.insert(id, Place { keeper, news })?;
+        self.kept.insert(id, Place { keeper, inbox })?;
         Ok(())
     }
 
@@ -109,7 +104,7 @@ impl Keepers {
         }
     }
 
-    /// Settles the cell of this number, if it isn't at the phase, and tells its agent.
+    /// Settles the cell of this number, if it isn't at the phase, and adds it to its agent's inbox.
     pub(crate) fn bring(&mut self, id: u64, phase: Phase)
         requires { MayBring (phases_at id self.old) phase }
         ensures phases { (other : ℕ) → phases_at other self.new ≡ (if other == id then phase ∷ [] else phases_at other self.old) }

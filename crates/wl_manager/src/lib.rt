@@ -9,15 +9,17 @@
 
 mod agent;
 mod count;
+mod inbox;
 mod keepers;
 mod locked;
 mod manager;
-mod news;
+mod ring;
 mod ticket;
 
 pub use crate::agent::Agent;
 pub use crate::count::{Count, Ledgered, Loose, Recent, Uncounted};
+pub use crate::inbox::Inbox;
 pub use crate::locked::{Leaving, Locked, TallyFault};
 pub use crate::manager::{Manager, Visitor};
-pub use crate::news::News;
+pub use crate::ring::{Bell, Ring};
 pub use crate::ticket::Ticket;

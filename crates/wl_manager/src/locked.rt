@@ -94,6 +94,16 @@ impl<C: LockCore, T: Count> Locked<C, T> {
         Ok((agent, share))
     }
 
+    /// Why an agent can't open for which memory was refused.
+    pub(crate) fn open_without_memory(&self, kind: Kind) -> Refusal
+        ensures { result ≡ refused_or_memory (refusal self.now.book.state (Command.Enter kind)) }
+    {
+        match self.book.may_open() {
+            Ok(()) => Refusal::Memory,
+            Err(refusal) => refusal,
+        }
+    }
+
     /// What an agent sees, after how many entries: no fewer than its share has. Nothing is recorded.
     pub fn query(&mut self, agent: u64, share: &mut T::Share) -> Result<Sight, Refusal>
         ensures total { IfOk result (λ sight. sight.seen ≡ self.old.book.total) }

@@ -2,12 +2,15 @@
 
 ghost use Rattle.std.specs.Prelude.{◌≡◌, ◌≤◌, ◌^◌, true, IfOk, IfErr};
 ghost use Rattle.wl_journal.specs.History.{IsLegal};
+ghost use Rattle.wl_machine.specs.declared.command.Command.TheVariants as command;
+ghost use Rattle.wl_manager.specs.Agents.{MayRefuse};
 ghost use Rattle.wl_manager.specs.Locked.{WasCut, first};
 
 use crate::agent::Agent;
 use crate::count::Count;
+use crate::inbox::Inbox;
 use crate::locked::{Leaving, Locked, TallyFault};
-use crate::news::News;
+use crate::ring::Bell;
 use std::alloc::Global;
 use std::sync::{Arc, Condvar, Mutex, MutexGuard, Wait};
 use std::thread::yield_now;
@@ -72,13 +75,28 @@ impl<C: LockCore, T: Count> Manager<C, T> {
         rt: &R,
         kind: Kind,
     ) -> Result<Agent<C, T>, Refusal>
-        ensures { IfOk result (λ agent. T.COUNTS ≡ true → T.amount agent.share ≡ 1) }
+        ensures counted { IfOk result (λ agent. T.COUNTS ≡ true → T.amount agent.share ≡ 1) }
+        ensures refused { IfErr result (MayRefuse (command.Enter kind)) }
     {
-        let Ok(manager) = Arc::try_clone(this) else {
-            return Err(Refusal::Memory);
-        };
-        let Ok(news) = Arc::new(this.alloc, News::new(this.alloc)) else {
-            return Err(Refusal::Memory);
+        Manager::open_heard(this, rt, kind, None)
+    }
+
+    /// `open` of an agent that rings this bell when its requests change.
+    pub fn open_heard<R: Wait>(
+        this: &Arc<Manager<C, T>>,
+        rt: &R,
+        kind: Kind,
+        bell: Option<Bell>,
+    ) -> Result<Agent<C, T>, Refusal>
+        ensures counted { IfOk result (λ agent. T.COUNTS ≡ true → T.amount agent.share ≡ 1) }
+        ensures refused { IfErr result (MayRefuse (command.Enter kind)) }
+    {
+        // Made before the lock is taken, so that others wait for less.
+        let (Ok(manager), Ok(inbox)) = (
+            Arc::try_clone(this),
+            Arc::new(this.alloc, Inbox::new(this.alloc, bell)),
+        ) else {
+            return Err(this.lock(rt).open_without_memory(kind));
         };
         let mut locked = this.lock(rt);
         let (number, share) = locked.open(kind)?;
@@ -89,7 +107,7 @@ impl<C: LockCore, T: Count> Manager<C, T> {
             manager,
             number,
             share,
-            news,
+            inbox,
         })
     }
 

@@ -5,6 +5,8 @@ mod aborts;
 mod agents;
 mod desk;
 mod growth;
+mod inboxes;
+mod refusals;
 mod threads;
 
 use crate::rows::assert_rows;
@@ -36,7 +38,7 @@ fn assert_calls<R: Wait + Abort>(
     alloc: Global,
     rows: &[(Call, &str)],
 ) -> Result<(), Memory> {
-    let mut desk = Desk::new(alloc, plain(rt, alloc)?);
+    let mut desk = Desk::new(alloc, plain(rt, alloc)?)?;
     assert_rows(rt, &mut desk, rows)
 }
 

@@ -1,6 +1,6 @@
 -- Lines are answered as soon as they were read.
 use Rattle.std.proofs.Common.{◌≡◌, ℕ, List, [], ◌∷◌, ◌++◌, ◌<◌, ◌≤◌, ◌+◌, ◌∙◌, refl, sym, ap, subst, arith, length, append-nil, length-append, length-take, cond, Bool, Option, All}
-use Rattle.std.proofs.lemmas.List.Elements.{All-head, All-tail}
+use Rattle.std.proofs.lemmas.List.Elements.{All-nil, All-head, All-tail}
 use Rattle.std.proofs.lemmas.List.Sums.{sum_by-cons, sum_by-append}
 use Rattle.std.specs.Io.KnownBytes.{Consumes, IsAtEnd}
 use Rattle.std.proofs.KnownBytes.{Consumes-trans}
@@ -38,35 +38,45 @@ feeds_of_lines (line ∷ ended) whole =
       feeds_of_lines ended (All-tail HasNoLf line ended whole),
     )
 
--- as many lines were answered as LFs were read
-pub feeds_fed : (limit : ℕ) (world : World) (old : Option (List ℕ)) (bytes : List ℕ) (now : Moment) → Fed limit (moment [] 0 world old) bytes now → line_feeds bytes ≡ now.count
-feeds_fed limit world old bytes now fed =
+-- as many more lines were answered as LFs were read
+feeds_counted : (limit : ℕ) (start : Moment) (bytes : List ℕ) (now : Moment) → HasNoLf start.unfinished → Fed limit start bytes now → now.count ≡ start.count + line_feeds bytes
+feeds_counted limit start bytes now no_lf fed =
     omega (
       arith,
       ap line_feeds fed.split,
+      line_feeds-append start.unfinished bytes,
+      no_feeds start.unfinished no_lf,
       line_feeds-append (with_lfs fed.ended) now.unfinished,
       feeds_of_lines fed.ended fed.whole,
       no_feeds now.unfinished fed.open_end,
       fed.count,
     )
 
+-- and at first there are none
+feeds_fed : (limit : ℕ) (world : World) (old : Option (List ℕ)) (bytes : List ℕ) (now : Moment) → Fed limit (moment [] 0 world old) bytes now → now.count ≡ line_feeds bytes
+feeds_fed limit world old bytes now fed = omega (arith, feeds_counted limit (moment [] 0 world old) bytes now (All-nil (λ byte. is_lf byte ≡ false)) fed)
+
 at_once : (limit : ℕ) (world : World) (a b c : Option (List ℕ)) (old : Option (List ℕ)) (bytes last : List ℕ) (now : Moment) (fault : ScriptFault) → Consumes a b bytes → Consumes b c last
-    → Fed limit (moment [] 0 world old) bytes now → now.count ≤ answered fault → length last ≤ unanswered_bytes fault → AnswersAtOnce fault a c
-at_once limit world a b c old bytes last now fault p q fed few short =
-    (bytes, last, Consumes-trans a b c bytes last p q, omega (arith, few, feeds_fed limit world old bytes now fed), short)
+    → Fed limit (moment [] 0 world old) bytes now → now.count ≤ answered fault → answered fault ≤ now.count + line_feeds last → length last ≤ unanswered_bytes fault → AnswersAtOnce fault a c
+at_once limit world a b c old bytes last now fault p q fed few most short =
+    let counted = feeds_fed limit world old bytes now fed in
+    (bytes, last, Consumes-trans a b c bytes last p q, omega (arith, few, counted), omega (arith, most, counted, line_feeds-append bytes last), short)
 
 -- a fault came in a piece
 pub at_once_in_piece : (limit : ℕ) (world : World) (a b c : Option (List ℕ)) (old new : Option (List ℕ)) (bytes piece : List ℕ) (now : Moment) (fault : ScriptFault)
     → Consumes a b bytes → Consumes b c piece → Fed limit (moment [] 0 world old) bytes now → Breaks limit now piece fault new → length piece ≤ 65536 → AnswersAtOnce fault a c
 at_once_in_piece limit world a b c old new bytes piece now fault p q fed broken short =
-    at_once limit world a b c old bytes piece now fault p q fed (no_fewer fault broken.now broken.back broken.stops (omega (arith, broken.fed.count))) (in_read fault broken.now broken.back broken.stops)
+    let count = counts fault broken.now broken.back broken.stops in
+    let more = feeds_counted limit now broken.front broken.now fed.open_end broken.fed in
+    let pieces = ap line_feeds broken.split ∙ line_feeds-append broken.front broken.back in
+    at_once limit world a b c old bytes piece now fault p q fed (omega (arith, count, more)) (omega (arith, count, more, pieces)) (in_read fault broken.now broken.back broken.stops)
   where
-    no_fewer : (fault : ScriptFault) (then : Moment) (back : List ℕ) → Stops limit then back fault new → now.count ≤ then.count → now.count ≤ answered fault
-    no_fewer (Memory n) then back s few = omega (arith, s.0, few)
-    no_fewer (Write n) then back s few = omega (arith, s.0, few)
-    no_fewer (LineTooLong n) then back s few = omega (arith, s.0, few)
-    no_fewer (Read n) then back s few = absurd s
-    no_fewer (TooManyTurns n) then back s few = absurd s
+    counts : (fault : ScriptFault) (then : Moment) (back : List ℕ) → Stops limit then back fault new → answered fault ≡ then.count
+    counts (Memory n) then back s = s.0
+    counts (Write n) then back s = s.0
+    counts (LineTooLong n) then back s = s.0
+    counts (Read n) then back s = absurd s
+    counts (TooManyTurns n) then back s = absurd s
 
     in_read : (fault : ScriptFault) (then : Moment) (back : List ℕ) → Stops limit then back fault new → length piece ≤ unanswered_bytes fault
     in_read (Memory n) then back s = short
@@ -79,7 +89,8 @@ at_once_in_piece limit world a b c old new bytes piece now fault p q fed broken 
 pub at_once_between : (limit : ℕ) (world : World) (a b : Option (List ℕ)) (old : Option (List ℕ)) (bytes : List ℕ) (now : Moment) (fault : ScriptFault)
     → Consumes a b bytes → Fed limit (moment [] 0 world old) bytes now → answered fault ≡ now.count → AnswersAtOnce fault a b
 at_once_between limit world a b old bytes now fault p fed same =
-    (bytes, [], subst (Consumes a b) (sym (append-nil bytes)) p, omega (arith, same, feeds_fed limit world old bytes now fed), omega arith)
+    let counted = feeds_fed limit world old bytes now fed in
+    (bytes, [], subst (Consumes a b) (sym (append-nil bytes)) p, omega (arith, same, counted), omega (arith, same, counted, ap line_feeds (append-nil bytes)), omega arith)
 
 pub at_once_at_end : (limit : ℕ) (world : World) (a b : Option (List ℕ)) (old new : Option (List ℕ)) (bytes : List ℕ) (now : Moment) (fault : ScriptFault)
     → Consumes a b bytes × IsAtEnd b → Fed limit (moment [] 0 world old) bytes now → BreaksAtEnd now fault new → AnswersAtOnce fault a b

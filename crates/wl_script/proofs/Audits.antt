@@ -1,8 +1,8 @@
 -- The lines of origins, one after another.
-use Rattle.std.proofs.Common.{◌≡◌, ℕ, List, [], ◌∷◌, ◌++◌, ◌+◌, ◌<◌, ◌≤◌, ◌∙◌, refl, sym, ap, subst, arith, Bool, true, false, length, take, drop, suc, Option, Some, None, All, filter, not, inr}
+use Rattle.std.proofs.Common.{◌≡◌, ℕ, List, [], ◌∷◌, ◌++◌, ◌+◌, ◌<◌, ◌≤◌, ◌∙◌, sym, ap, subst, arith, Bool, true, false, length, take, drop, suc, Option, Some, None, All, not, inl, inr}
 use Rattle.std.specs.Prelude.{◌==◌, if◌then◌else◌, Result, Ok, Err, IfOk, IfErr, IfSome}
 use Rattle.std.specs.List.{flat_map}
-use Rattle.std.specs.Io.KnownBytes.{Appends, Keeps}
+use Rattle.std.specs.Io.KnownBytes.{Appends}
 use Rattle.std.proofs.KnownBytes.{Appends-trans, Appends-kept}
 use Rattle.std.proofs.lemmas.Grind.{flat_map-append}
 use Rattle.std.proofs.lemmas.List.{map-append, length-append}
@@ -18,7 +18,7 @@ use Rattle.wl_world.specs.World.{World}
 use Rattle.wl_script.specs.Leaves.{Answered}
 use Rattle.wl_script.specs.Lines.{lines}
 use Rattle.wl_script.specs.Transcript.{after}
-use Rattle.wl_script.specs.Audits.{Audited, IsUnwritten, LeavesAudit, LeavesOrigins, WritesNext, WritesOrigins, recording, all_seen, audit_line, audit_text, audited, entries_of, seen}
+use Rattle.wl_script.specs.Audits.{Audited, CountsDone, IsUnwritten, LeavesAudit, LeavesOrigins, WritesNext, WritesOrigins, recording, all_seen, audit_line, audit_text, audited, entries_of, seen}
 use Rattle.wl_script.specs.declared.fault.ScriptFault.{ScriptFault}
 use Rattle.wl_script.specs.declared.fault.ScriptFault.TheVariants.{Memory, Read, Write, LineTooLong, TooManyTurns}
 
@@ -134,8 +134,26 @@ pub audit_breaks : (rest : Option (List ℕ)) (start world : World) (listed book
 audit_breaks rest start world listed books done (Ok n) old new from answered led are same wrote = tt
 audit_breaks None start world listed books done (Err fault) old new from answered led are same wrote = tt
 audit_breaks (Some input) start world listed books done (Err (Memory n)) old new from (count, answered) led are same (all, wrote) =
-    (omega (arith, all, count), inr (all_seen books, origins_are _ _ _ _ (led ∙ ap (λ w. after w (lines input)) from) are same, wrote))
+    inr (all ∙ count, (all_seen books, origins_are _ _ _ _ (led ∙ ap (λ w. after w (lines input)) from) are same, wrote))
 audit_breaks (Some input) start world listed books done (Err (Write n)) old new from answered led are same wrote = (all_seen books, origins_are _ _ _ _ (led ∙ ap (λ w. after w (lines input)) from) are same, wrote)
 audit_breaks (Some input) start world listed books done (Err (Read n)) old new from answered led are same wrote = absurd wrote
 audit_breaks (Some input) start world listed books done (Err (LineTooLong n)) old new from answered led are same wrote = absurd wrote
 audit_breaks (Some input) start world listed books done (Err (TooManyTurns n)) old new from answered led are same wrote = absurd wrote
+
+-- what a fault behind the script counts
+counts_behind : (lines : List (List ℕ)) (done : ℕ) (cores : List (ManagerKey × Core)) (fault : ScriptFault) (held_old held_new old new : Option (List ℕ)) → done ≡ length lines
+    → LeavesOrigins done cores fault held_old held_new → CountsDone lines fault old new
+counts_behind lines done cores (Memory n) held_old held_new old new count (all, wrote) = inl (all ∙ count)
+counts_behind lines done cores (Write n) held_old held_new old new count wrote = tt
+counts_behind lines done cores (Read n) held_old held_new old new count wrote = absurd wrote
+counts_behind lines done cores (LineTooLong n) held_old held_new old new count wrote = absurd wrote
+counts_behind lines done cores (TooManyTurns n) held_old held_new old new count wrote = absurd wrote
+
+pub audit_counts : (rest : Option (List ℕ)) (start : World) (done : ℕ) (cores : List (ManagerKey × Core)) (result : Result ℕ ScriptFault) (held_old held_new new : Option (List ℕ))
+    → IfSome rest (λ input. (done ≡ length (lines input)) × Answered 65536 start (lines input) None None)
+    → IfErr result (λ fault. LeavesOrigins done cores fault held_old held_new)
+    → IfErr result (λ fault. IfSome rest (λ input. CountsDone (lines input) fault rest new))
+audit_counts rest start done cores (Ok n) held_old held_new new answered wrote = tt
+audit_counts None start done cores (Err fault) held_old held_new new answered wrote = tt
+audit_counts (Some input) start done cores (Err fault) held_old held_new new (count, answered) wrote =
+    counts_behind (lines input) done cores fault held_old held_new (Some input) new count wrote

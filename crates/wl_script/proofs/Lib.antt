@@ -2,4 +2,5 @@ pub mod Pieces
 pub mod Ends
 pub mod AtOnce
 pub mod Scripts
+pub mod Replies
 pub mod Audits

@@ -1,6 +1,6 @@
 -- What an audit writes (own): a line for each manager whose journal has an entry. Below, "origin" stands for the bucket of an
 -- origin that it is the manager of.
-use Rattle.std.specs.Prelude.{ℕ, ◌+◌, ◌≡◌, ◌==◌, ◌≤◌, ◌<◌, ◌++◌, ◌∷◌, ◌⊎◌, [], List, Bool, true, not, codes, filter, length, map, Option, Some, if◌then◌else◌}
+use Rattle.std.specs.Prelude.{ℕ, ◌+◌, ◌≡◌, ◌==◌, ◌≤◌, ◌<◌, ◌++◌, ◌∷◌, ◌⊎◌, [], List, Bool, true, not, codes, filter, length, map, take, All, Option, Some, if◌then◌else◌}
 use Rattle.std.specs.List.{flat_map}
 use Rattle.std.specs.Option.{unwrap_or}
 use Rattle.std.specs.Io.KnownBytes.{Appends, Keeps}
@@ -13,7 +13,7 @@ use Rattle.wl_journal.specs.Books.{Book}
 use Rattle.wl_world.specs.Cores.{AreCoresOf}
 use Rattle.wl_world.specs.Origins.{Core}
 use Rattle.wl_world.specs.World.{World, opening_with}
-use Rattle.wl_script.specs.Leaves.{IsTooLong}
+use Rattle.wl_script.specs.Leaves.{IsTooLong, AnswersAtOnce}
 use Rattle.wl_script.specs.Transcript.{after}
 use Rattle.wl_script.specs.declared.fault.ScriptFault.{ScriptFault}
 use Rattle.wl_script.specs.declared.fault.ScriptFault.TheVariants.{Memory, Read, Write, LineTooLong, TooManyTurns}
@@ -89,13 +89,26 @@ LeavesOrigins lines cores (Read n) old new = ⊥
 LeavesOrigins lines cores (TooManyTurns n) old new = ⊥
 LeavesOrigins lines cores (LineTooLong n) old new = ⊥
 
+-- the first n of the lines were done: there are so many, and none of them is longer than the limit
+abbrev pub DoneFirst : ℕ → List (List ℕ) → ℕ → Type 0
+DoneFirst limit lines n = (n ≤ length lines) × All (λ line. length line ≤ limit) (take n lines)
+
 -- What a fault leaves. Before the end of the script nothing is written.
 abbrev pub LeavesAudit : ℕ → List (List ℕ) → ScriptFault → Option (List ℕ) → Option (List ℕ) → Type 0
-LeavesAudit limit lines (Memory n) old new = (n ≤ length lines) × (Keeps old new ⊎ OfWorld (after recording lines) (λ cores. WritesFirst cores old new))
+LeavesAudit limit lines (Memory n) old new = (DoneFirst limit lines n × Keeps old new) ⊎ ((n ≡ length lines) × OfWorld (after recording lines) (λ cores. WritesFirst cores old new))
 LeavesAudit limit lines (Write n) old new = OfWorld (after recording lines) (λ cores. WritesWithin cores n old new)
-LeavesAudit limit lines (Read n) old new = (n ≤ length lines) × Keeps old new
-LeavesAudit limit lines (TooManyTurns n) old new = (n ≤ length lines) × Keeps old new
-LeavesAudit limit lines (LineTooLong n) old new = (n ≤ length lines) × Keeps old new × IsTooLong limit lines n
+LeavesAudit limit lines (Read n) old new = DoneFirst limit lines n × Keeps old new
+LeavesAudit limit lines (TooManyTurns n) old new = DoneFirst limit lines n × Keeps old new
+LeavesAudit limit lines (LineTooLong n) old new = DoneFirst limit lines n × Keeps old new × IsTooLong limit lines n
+
+-- A fault's number is that of the lines that were done: of those that were read all but some of the last read, as in a run; or
+-- all of the script, where memory was refused behind its end. `Write` counts origins
+abbrev pub CountsDone : List (List ℕ) → ScriptFault → Option (List ℕ) → Option (List ℕ) → Type 0
+CountsDone lines (Memory n) old new = (n ≡ length lines) ⊎ AnswersAtOnce (Memory n) old new
+CountsDone lines (Write n) old new = Unit {0}
+CountsDone lines (Read n) old new = AnswersAtOnce (Read n) old new
+CountsDone lines (TooManyTurns n) old new = AnswersAtOnce (TooManyTurns n) old new
+CountsDone lines (LineTooLong n) old new = AnswersAtOnce (LineTooLong n) old new
 
 -- of one more origin the line was written, if it has one, and with it n were
 pub record WritesNext (before : ℕ) (origin : ManagerKey × Core) (n : ℕ) (old new : Option (List ℕ)) : Type 0 where

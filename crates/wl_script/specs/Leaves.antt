@@ -42,10 +42,11 @@ Leaves limit world lines (TooManyTurns n) old new = AnsweredFirst limit world li
 Leaves limit world lines (LineTooLong n) old new = AnsweredFirst limit world lines n old new × IsTooLong limit lines n
 Leaves limit world lines (Write n) old new = AnsweredWithin limit world lines n old new
 
--- every line that was read was answered, but for those that ended in the last read. Between reads there are none of these
+-- Every line that was read was answered, but for those that ended in the last read, and no other line was. Between reads there
+-- are none of these, so that just those were answered that were read
 abbrev pub AnswersAtOnce : ScriptFault → Option (List ℕ) → Option (List ℕ) → Type 0
 AnswersAtOnce fault old new = (earlier last : List ℕ) × Consumes old new (earlier ++ last)
-    × (line_feeds earlier ≤ answered fault) × (length last ≤ unanswered_bytes fault)
+    × (line_feeds earlier ≤ answered fault) × (answered fault ≤ line_feeds (earlier ++ last)) × (length last ≤ unanswered_bytes fault)
 
 -- each of n reads gave a byte
 abbrev pub GaveBytes : Option (List ℕ) → Option (List ℕ) → ℕ → Type 0

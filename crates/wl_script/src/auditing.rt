@@ -4,7 +4,7 @@ ghost use Rattle.std.specs.Prelude.{◌≡◌, ◌+◌, ◌<◌, ◌≤◌, ◌^
 ghost use Rattle.serde_json.specs.Data.{member, object, string};
 ghost use Rattle.serde_json.specs.View.{view};
 ghost use Rattle.wl_origin.specs.Origin.{tuple_text};
-ghost use Rattle.wl_script.specs.Audits.{Audited, LeavesAudit, LeavesOrigins, IsUnwritten, WritesNext, WritesOrigins, all_seen, audit_line, audit_members, audit_value, recording, seen};
+ghost use Rattle.wl_script.specs.Audits.{Audited, CountsDone, LeavesAudit, LeavesOrigins, IsUnwritten, WritesNext, WritesOrigins, all_seen, audit_line, audit_members, audit_value, recording, seen};
 ghost use Rattle.wl_script.specs.Faults.{is_read, is_write, IsTooManyTurns};
 ghost use Rattle.wl_script.specs.Leaves.{GaveBytes};
 ghost use Rattle.wl_script.specs.Lines.{lines};
@@ -160,6 +160,8 @@ pub fn audit<R: Input, W: Output>(
         × Audited (after recording (lines input)) n (W.held writer.old) (W.held writer.new))) }
     ensures err { IfErr result (λ fault. IfSome (R.rest reader.old) (λ input.
         LeavesAudit 65536 (lines input) fault (W.held writer.old) (W.held writer.new))) }
+    ensures at_once { IfErr result (λ fault. IfSome (R.rest reader.old) (λ input.
+        CountsDone (lines input) fault (R.rest reader.old) (R.rest reader.new))) }
     ensures read { Counts (R.failures reader.old) (R.failures reader.new) (is_read result) }
     ensures write { Counts (W.failures writer.old) (W.failures writer.new) (is_write result) }
     ensures reads { GrewAtMostBy (R.reads reader.old) (R.reads reader.new) 4294967296 }

@@ -1,6 +1,6 @@
 //! Laws of scripts. Each is the contract of a function without a body.
 
-ghost use Rattle.wl_script.specs.Laws.{LinesAreAnsweredInTurn, ScriptsAreLines, ScriptsMayBeCut, TranscriptsAreReplies};
+ghost use Rattle.wl_script.specs.Laws.{LinesAreAnsweredInTurn, RunsAreIsolated, ScriptsAreLines, ScriptsMayBeCut, TranscriptsAreReplies};
 
 /// A script is its lines, each with its LF, and then a last one without LF, if that has a byte.
 pub fn scripts_are_lines()
@@ -22,4 +22,10 @@ pub fn scripts_may_be_cut()
 /// lines is said of what a run writes.
 pub fn transcripts_are_replies()
     ensures { TranscriptsAreReplies }
+{}
+
+/// Two runs over inputs that have the same lines of a bucket of an origin wrote the same replies to them: so what other
+/// origins and other buckets are told to do plays no part in the bytes that answer these lines.
+pub fn runs_are_isolated()
+    ensures { RunsAreIsolated }
 {}

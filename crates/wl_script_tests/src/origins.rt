@@ -2,8 +2,9 @@
 
 use std::alloc::Global;
 use std::test::Fail;
+use wl_core::{PlainCore, Realm};
 use wl_origin::{KeyFault, OriginKey, Standing, key_of};
-use wl_samples::origin_key;
+use wl_samples::{key, origin_key, refused};
 use wl_types::Memory;
 
 /// Each URL with the text of its origin, `opaque` where that has none, or what is wrong with it.
@@ -122,4 +123,38 @@ fn keys_are_ordered_by_scheme_then_host_then_port(rt: HostRuntime) -> Result<(),
         assert!(rt; is_rising(rt.alloc(), before, after)?, "{before} {after}");
     }
     Ok(())
+}
+
+/// A URL whose reading is refused memory isn't a bad one.
+fn try_key(alloc: Global) -> Result<(), Fail> {
+    match key_of(alloc, "https://a.test/") {
+        Ok(Standing::Tuple(_)) => Ok(()),
+        Ok(Standing::Opaque) | Err(KeyFault::BadUrl) => refused(false),
+        Err(KeyFault::Memory) => refused(key_of(alloc, "https://a.test/").is_ok()),
+    }
+}
+
+fn try_text(alloc: Global, key: &OriginKey) -> Result<(), Fail> {
+    match key.text(alloc) {
+        Ok(_) => Ok(()),
+        Err(Memory) => refused(key.text(alloc)?.as_str() == "https://a.test"),
+    }
+}
+
+/// A core that is refused memory isn't there, and is when it is added again.
+fn try_core(alloc: Global) -> Result<(), Fail> {
+    let mut realm: Realm<PlainCore> = Realm::new(alloc);
+    if realm.add(key(alloc, "https://a.test/")?, ()).is_ok() {
+        return Ok(());
+    }
+    let is_as_before = realm.is_empty();
+    realm.add(key(alloc, "https://a.test/")?, ())?;
+    refused(is_as_before && realm.len() == 1)
+}
+
+#[test]
+fn a_refused_growth_is_no_bad_url(rt: HostRuntime) -> Result<(), Fail> {
+    try_key(rt.alloc())?;
+    try_text(rt.alloc(), &origin_key(rt.alloc(), "https://a.test/")?)?;
+    try_core(rt.alloc())
 }

@@ -8,7 +8,7 @@ use Rattle.wl_codec.specs.declared.message.Reading.{Reading}
 use Rattle.wl_codec.specs.declared.reply.Outcome.{Outcome}
 use Rattle.wl_session.specs.Planned.{plan_for}
 use Rattle.wl_session.specs.Step.{State, reply, after}
-use Rattle.wl_session.specs.Told.{Look, IsByNumber}
+use Rattle.wl_session.specs.Told.{Look, IsByNumber, Fits}
 use Rattle.wl_session.specs.declared.plan.Plan.{Plan}
 use Rattle.wl_server.specs.Peers.{Answers, IsOutcome, plan_of}
 
@@ -19,13 +19,14 @@ planned old message reading plan read is = subst (λ r. plan ≡ plan_for old.is
 
 pub answers : (old : State) (message text : List ℕ) (new : State) (reading : Reading) (plan : Plan) (outcome : Outcome) (looks : List Look)
     → reading ≡ message_reading message → plan ≡ plan_for old.is_open reading → IsOutcome plan.action outcome
-    → IsByNumber looks → All (λ look. look.1 ≢ Granted) looks
+    → IsByNumber looks → All (Fits outcome old.told) looks → All (λ look. look.1 ≢ Granted) looks
     → text ≡ reply_text (reply old plan.id outcome looks) → new ≡ after old outcome looks → Answers old message text new
-answers old message text new reading plan outcome looks read is fits by_number taken told left = record {
+answers old message text new reading plan outcome looks read is fits by_number fit taken told left = record {
   outcome = outcome;
   looks = looks;
   fits = subst (λ p. IsOutcome p.action outcome) (planned old message reading plan read is) fits;
   by_number = by_number;
+  fit = fit;
   taken = taken;
   told = subst (λ p. text ≡ reply_text (reply old p.id outcome looks)) (planned old message reading plan read is) told;
   left = left;

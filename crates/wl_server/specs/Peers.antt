@@ -10,7 +10,7 @@ use Rattle.wl_codec.specs.declared.reply.Outcome.{Outcome}
 use Rattle.wl_codec.specs.declared.reply.Outcome.TheVariants as outcome
 use Rattle.wl_session.specs.Planned.{plan_for}
 use Rattle.wl_session.specs.Step.{State, reply, after}
-use Rattle.wl_session.specs.Told.{Look, IsByNumber}
+use Rattle.wl_session.specs.Told.{Look, IsByNumber, Fits}
 use Rattle.wl_session.specs.declared.plan.Action.{Action}
 use Rattle.wl_session.specs.declared.plan.Action.TheVariants.{Act, Answer}
 use Rattle.wl_session.specs.declared.plan.Plan.{Plan}
@@ -39,12 +39,14 @@ IsOutcome (Act b) o = IsOutcomeOf b o
 abbrev pub plan_of : State → List ℕ → Plan
 plan_of s message = plan_for s.is_open (message_reading message)
 
--- The text is the session's reply to the message, by its id, an outcome of its own, and what was found of the requests: grants were taken first.
+-- The text is the session's reply to the message, by its id, an outcome of its own, and what was found of the requests, which fits
+-- what they were told of: grants were taken first.
 pub record Answers (old : State) (message text : List ℕ) (new : State) : Type 0 where
   pub outcome : Outcome
   pub looks : List Look
   pub fits : IsOutcome (plan_of old message).action outcome
   pub by_number : IsByNumber looks
+  pub fit : All (Fits outcome old.told) looks
   pub taken : All (λ look. look.1 ≢ Granted) looks
   pub told : text ≡ reply_text (reply old (plan_of old message).id outcome looks)
   pub left : new ≡ after old outcome looks

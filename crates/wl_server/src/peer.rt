@@ -88,7 +88,9 @@ impl Peer {
             &mut self.requests,
             action,
         )?;
-        let looks = self.requests.looks(self.entered.as_ref(), &outcome)?;
+        let looks = self
+            .requests
+            .looks(self.entered.as_ref(), &self.session, &outcome)?;
         let text = self.session.finish_changed(id, outcome, &looks)?;
         self.requests.tell(&looks);
         Ok(text)

@@ -2,7 +2,7 @@
 
 ghost use Rattle.std.specs.Prelude.{◌≢◌, All, IfOk, IfSome};
 ghost use Rattle.wl_types.specs.declared.phases.Phase.TheVariants.{Granted};
-ghost use Rattle.wl_session.specs.Told.{IsByNumber};
+ghost use Rattle.wl_session.specs.Told.{Fits, IsByNumber};
 
 use crate::entered::Entered;
 use std::alloc::Global;
@@ -10,7 +10,7 @@ use std::collections::BTreeMap;
 use wl_cell::Taking;
 use wl_codec::Outcome;
 use wl_service::{Client, Ticket};
-use wl_session::tells;
+use wl_session::{Session, tells};
 use wl_types::{Memory, Phase};
 
 /// A request, and the phase that was told last. Of a new one nothing was told.
@@ -18,6 +18,21 @@ use wl_types::{Memory, Phase};
 pub struct Request {
     pub ticket: Ticket,
     told: Option<Phase>,
+}
+
+impl Request {
+    /// The phase, if it is another than the one told, after a grant was taken. What doesn't fit what the session was
+    /// told isn't news: no cell gives such a phase, but no contract can say so of calls behind a lock that others share.
+    fn news(&mut self, session: &Session, outcome: &Outcome, number: u64) -> Option<Phase>
+        ensures { IfSome result (λ phase. Fits outcome.now session.now.told (number, phase) × (phase ≢ Granted)) }
+    {
+        let phase = found(&mut self.ticket);
+        let is_told = self.told == Some(phase);
+        if is_told || !session.fits(outcome, (number, phase)) {
+            return None;
+        }
+        Some(phase)
+    }
 }
 
 /// The requests by number.
@@ -44,24 +59,28 @@ fn found(ticket: &mut Ticket) -> Phase
 }
 
 /// The phase of the request of this number, if it is another than the one told, after a grant was taken.
-fn news_of(requests: &mut BTreeMap<u64, Request>, number: u64) -> Option<Phase>
-    ensures { IfSome result (λ phase. phase ≢ Granted) }
+fn news_of(
+    requests: &mut BTreeMap<u64, Request>,
+    session: &Session,
+    outcome: &Outcome,
+    number: u64,
+) -> Option<Phase>
+    ensures { IfSome result (λ phase. Fits outcome.now session.now.told (number, phase) × (phase ≢ Granted)) }
 {
     let request = requests.get_mut(&number)?;
-    let phase = found(&mut request.ticket);
-    if request.told == Some(phase) {
-        return None;
-    }
-    Some(phase)
+    request.news(session, outcome, number)
 }
 
 /// The news of the requests of these numbers, which rise. One that comes again is passed over.
 fn changed_of(
     alloc: Global,
     requests: &mut BTreeMap<u64, Request>,
+    session: &Session,
+    outcome: &Outcome,
     numbers: &[u64],
 ) -> Result<Vec<(u64, Phase)>, Memory>
     ensures by_number { IfOk result (λ looks. IsByNumber looks.items) }
+    ensures fit { IfOk result (λ looks. All (Fits outcome.now session.now.told) looks.items) }
     ensures taken { IfOk result (λ looks. All (λ look. look.1 ≢ Granted) looks.items) }
 {
     let mut looks = Vec::new(alloc);
@@ -71,7 +90,7 @@ fn changed_of(
         if *number < least || *number == u64::MAX {
             continue;
         }
-        if let Some(phase) = news_of(requests, *number) {
+        if let Some(phase) = news_of(requests, session, outcome, *number) {
             looks.push((*number, phase))?;
         }
         least = *number + 1;
@@ -107,42 +126,60 @@ impl Requests {
     pub fn looks(
         &mut self,
         entered: Option<&Entered>,
+        session: &Session,
         outcome: &Outcome,
     ) -> Result<Vec<(u64, Phase)>, Memory>
         ensures by_number { IfOk result (λ looks. IsByNumber looks.items) }
+        ensures fit { IfOk result (λ looks. All (Fits outcome.now session.now.told) looks.items) }
         ensures taken { IfOk result (λ looks. All (λ look. look.1 ≢ Granted) looks.items) }
     {
         match entered {
-            Some(entered) if tells(outcome) => self.changed(entered.client(), outcome),
+            Some(entered) if tells(outcome) => self.changed(entered.client(), session, outcome),
             _ => Ok(Vec::new(self.alloc)),
         }
     }
 
     /// The requests whose phase is another than the one told, by number, after each grant was taken. It looks at those
     /// that the client says have changed, and at a new one; at all of them where the client can't say.
-    fn changed(&mut self, client: &Client, outcome: &Outcome) -> Result<Vec<(u64, Phase)>, Memory>
+    fn changed(
+        &mut self,
+        client: &Client,
+        session: &Session,
+        outcome: &Outcome,
+    ) -> Result<Vec<(u64, Phase)>, Memory>
         ensures by_number { IfOk result (λ looks. IsByNumber looks.items) }
+        ensures fit { IfOk result (λ looks. All (Fits outcome.now session.now.told) looks.items) }
         ensures taken { IfOk result (λ looks. All (λ look. look.1 ≢ Granted) looks.items) }
     {
         if !client.changed(&mut self.numbers) {
-            return self.changed_of_all();
+            return self.changed_of_all(session, outcome);
         }
         if let Outcome::Request(number) = outcome {
             self.numbers.push(*number)?;
         }
         self.numbers.sort_unstable();
-        changed_of(self.alloc, &mut self.by_number, &self.numbers)
+        changed_of(
+            self.alloc,
+            &mut self.by_number,
+            session,
+            outcome,
+            &self.numbers,
+        )
     }
 
     /// The same, by a look at each request.
-    fn changed_of_all(&mut self) -> Result<Vec<(u64, Phase)>, Memory>
+    fn changed_of_all(
+        &mut self,
+        session: &Session,
+        outcome: &Outcome,
+    ) -> Result<Vec<(u64, Phase)>, Memory>
         ensures by_number { IfOk result (λ looks. IsByNumber looks.items) }
+        ensures fit { IfOk result (λ looks. All (Fits outcome.now session.now.told) looks.items) }
         ensures taken { IfOk result (λ looks. All (λ look. look.1 ≢ Granted) looks.items) }
     {
         let mut looks = Vec::new(self.alloc);
         for (number, request) in self.by_number.iter_mut() {
-            let phase = found(&mut request.ticket);
-            if request.told != Some(phase) {
+            if let Some(phase) = request.news(session, outcome, *number) {
                 looks.push((*number, phase))?;
             }
         }

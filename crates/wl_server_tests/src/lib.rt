@@ -5,6 +5,8 @@
 #![tactic(auto)]
 
 #[cfg(test)]
+mod flags;
+#[cfg(test)]
 mod lists;
 #[cfg(test)]
 mod scene;

@@ -7,11 +7,13 @@
 //! - `serve STREAM FRAME ..`: a connection over a stream in memory (`server::streams`);
 //! - `relay MANNER PIECE ..`: relaying to a server over loopback, with the replies (`server::loopback`);
 //! - `relay_to HOST` and `relay_to_nobody`: relaying to what is no such server (`server::hosts`);
-//! - `serve_gated`: what a gate is told of two connections (`server::gates`);
+//! - `serve_gated` and `serve_waiting`: what a gate is told of two connections, and whether the one goes on while the
+//!   other waits (`server::gates`);
+//! - `serve_dropped`: a connection whose stream ends while somebody waits for its lock (`server::dropped`);
 //! - `serve_crowd COUNT` and `serve_nobody COUNT`: that many connections, or none of them (`server::crowds`).
 
 use crate::scene::Scene;
-use crate::server::{crowds, gates, hosts, loopback, streams};
+use crate::server::{crowds, dropped, gates, hosts, loopback, streams};
 use crate::service::threads;
 use std::alloc::{AllocError, Global};
 use std::fmt::Debug;
@@ -74,6 +76,8 @@ where
         "relay_to" => hosts::relay_to(rt, alloc, call, came),
         "relay_to_nobody" => hosts::relay_to_nobody(rt, alloc, came),
         "serve_gated" => gates::serve_gated(rt, alloc, service, came),
+        "serve_waiting" => gates::serve_waiting(rt, alloc, service, came),
+        "serve_dropped" => dropped::serve_dropped(rt, alloc, service, came),
         "serve_crowd" => crowds::serve_crowd(rt, alloc, service, call, came),
         "serve_nobody" => crowds::serve_nobody(rt, alloc, service, call, came),
         "visit_and_ask" => threads::visit_and_ask(rt, alloc, service, came),

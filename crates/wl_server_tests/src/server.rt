@@ -1,9 +1,11 @@
 //! What the contracts can't show: that connections over streams in memory and over loopback go as they should.
 
 pub mod crowds;
+pub mod dropped;
 mod endings;
 mod frames;
 pub mod gates;
+mod growth;
 pub mod hosts;
 pub mod loopback;
 mod relays;

@@ -27,6 +27,7 @@ at_behind l ls n at lt p =
       in_range = omega (arith, p.in_range);
       lower = rw is.0 (ap (λ (xs : List Look). l ∷ xs) p.lower);
       higher = let next : suc at + 1 ≡ suc (at + 1) = omega arith in rw (next, is.1) p.higher;
+      number = λ d. p.number d;
       phase = λ d. rw is.2 (p.phase d);
     }
 
@@ -41,6 +42,7 @@ found_at (l ∷ ls) low n zero h lt same =
       in_range = lt;
       lower = rw (not_before, b.none_before) refl;
       higher = rw (not_beyond, b.all_beyond) refl;
+      number = λ d. same;
       phase = λ d. rw here refl;
     }
 found_at (l ∷ ls) low n (suc at) h lt same =

@@ -8,6 +8,7 @@ pub record IsAt (ls : List Look) (n at : ℕ) : Type 0 where
   pub in_range : at < length ls
   pub lower : take at ls ≡ before n ls
   pub higher : drop (at + 1) ls ≡ beyond n ls
+  pub number : (d : Look) → (slice_index_or ls at d).0 ≡ n
   pub phase : (d : Look) → (slice_index_or ls at d).1 ≡ phase_in ls n
 
 -- it is not there, and would go to that place

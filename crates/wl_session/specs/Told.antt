@@ -1,8 +1,8 @@
 -- What an agent was told of its requests, and what is news to it (own; Web Locks runs a request's callback and settles its promise).
-use Rattle.std.specs.Prelude.{◌≡◌, ℕ, ◌+◌, ◌≤◌, List, [], ◌∷◌, ◌++◌, ◌==◌, nat_lt, Bool, true, false, not, map, filter, fold, All, if◌then◌else◌}
+use Rattle.std.specs.Prelude.{◌≡◌, ◌⊎◌, ℕ, ◌+◌, ◌≤◌, List, [], ◌∷◌, ◌++◌, ◌==◌, nat_lt, Bool, true, false, not, map, filter, fold, All, Any, if◌then◌else◌}
 use Rattle.wl_types.specs.declared.phases.Phase.{Phase}
 use Rattle.wl_types.specs.declared.phases.Phase.TheVariants.{Pending, Granted, Taken, Unavailable, Aborted, Released, Stolen}
-use Rattle.wl_types.specs.Phases.{is_end}
+use Rattle.wl_types.specs.Phases.{is_end, Reaches}
 use Rattle.wl_codec.specs.declared.reply.Notice.{Notice}
 use Rattle.wl_codec.specs.declared.reply.Outcome.{Outcome}
 use Rattle.wl_codec.specs.declared.reply.Outcome.TheVariants as outcome
@@ -55,6 +55,12 @@ is_new o n = false
 -- A request that is answered now starts anew.
 abbrev pub phase_told : Outcome → List Look → ℕ → Phase
 phase_told o told n = if is_new o n then Pending else phase_in told n
+
+-- What a caller found of a request fits what was told: it is a request of the told list, or the one that the reply answers, and
+-- moves, or none, lead from the phase that was told to the one found
+pub record Fits (o : Outcome) (told : List Look) (look : Look) : Type 0 where
+  pub known : (is_new o look.0 ≡ true) ⊎ Any (λ l. l.0 ≡ look.0) told
+  pub reached : Reaches (phase_told o told look.0) look.1
 
 -- ---- what is told
 

@@ -1,15 +1,15 @@
 //! A session of an agent.
 
-ghost use Rattle.std.specs.Prelude.{◌≡◌, ◌+◌, ◌≤◌, All, IfOk, OnOk, OnErr, filter, length, true, vec_len, vec_capacity, string_bytes};
+ghost use Rattle.std.specs.Prelude.{◌≡◌, ◌+◌, ◌≤◌, All, IfOk, OnOk, OnErr, IsTrue, filter, length, true, vec_len, vec_capacity, string_bytes};
 ghost use Rattle.wl_codec.specs.Replies.{reply_text};
 ghost use Rattle.wl_session.specs.Planned.{plan_for};
 ghost use Rattle.wl_session.specs.Step.{reply, after, told_after, notices, closed};
-ghost use Rattle.wl_session.specs.Told.{IsByNumber, is_live, completed};
+ghost use Rattle.wl_session.specs.Told.{Fits, IsByNumber, is_live, completed};
 ghost use Rattle.wl_session.specs.Upkeep.{IsKept};
 
 use crate::outcomes::{opens, tells};
 use crate::plan::{Plan, plan_for};
-use crate::told::{completed, news};
+use crate::told::{completed, fits, news};
 use crate::upkeep::{AtOnce, Upkeep, make_room, tell};
 use std::alloc::Global;
 use std::marker::{Model, PhantomData};
@@ -88,6 +88,14 @@ impl Session {
         ensures live { All (λ look. is_live look ≡ true) result.now }
     {
         &self.told
+    }
+
+    /// Whether what was found of a request fits what was told. `finish` and `finish_changed` take other looks too, and
+    /// tell them as they are; whoever finds what it looks at behind a lock leaves them out by this.
+    pub fn fits(&self, outcome: &Outcome, look: (u64, Phase)) -> bool
+        ensures { IsTrue result → Fits outcome.now self.now.told look }
+    {
+        fits(self.live(), outcome, look)
     }
 }
 

@@ -4,9 +4,10 @@
 //! that leaves from the middle moves those behind it. So a list may also keep ends in their places (`Upkeep` says
 //! which does): the told list is what is live in it.
 
-ghost use Rattle.std.specs.Prelude.{◌≡◌, ◌+◌, ◌<◌, ◌≤◌, length, filter, fold, map, vec_len, vec_capacity, IfOk, IfErr};
+ghost use Rattle.std.specs.Prelude.{◌≡◌, ◌+◌, ◌<◌, ◌≤◌, length, filter, fold, map, vec_len, vec_capacity, IfOk, IfErr, IsTrue};
+ghost use Rattle.wl_types.specs.Phases.{Reaches};
 ghost use Rattle.wl_session.specs.Places.{IsAt, IsGapFor};
-ghost use Rattle.wl_session.specs.Told.{IsByNumber, IsToldList, is_live, put, phase_in, phase_told, is_news, news, released, completed, still_told};
+ghost use Rattle.wl_session.specs.Told.{Fits, IsByNumber, IsToldList, is_live, put, phase_in, phase_told, is_news, news, released, completed, still_told};
 
 use crate::outcomes::is_new;
 use std::alloc::Global;
@@ -52,6 +53,33 @@ fn phase_told(outcome: &Outcome, told: &[(u64, Phase)], number: u64) -> Phase
         Phase::Pending
     } else {
         phase_in(told, number)
+    }
+}
+
+/// Whether moves, or none, lead from one phase to the other.
+fn reaches(from: Phase, to: Phase) -> bool
+    ensures { IsTrue result → Reaches from to }
+{
+    match (from, to) {
+        (Phase::Pending, _) => true,
+        (Phase::Granted, Phase::Pending | Phase::Unavailable) => false,
+        (Phase::Granted, _) => true,
+        (Phase::Taken, Phase::Taken | Phase::Released | Phase::Stolen) => true,
+        _ => false,
+    }
+}
+
+/// Whether what was found of a request fits what was told. Of an end nothing comes after.
+pub(crate) fn fits(told: &[(u64, Phase)], outcome: &Outcome, look: (u64, Phase)) -> bool
+    requires { IsByNumber told.now }
+    ensures { IsTrue result → Fits outcome.now told.now look }
+{
+    if is_new(outcome, look.0) {
+        return true;
+    }
+    match place(told, look.0) {
+        Ok(at) => reaches(told[at].1, look.1),
+        Err(_) => false,
     }
 }
 

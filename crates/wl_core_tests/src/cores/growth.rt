@@ -2,10 +2,10 @@
 
 use std::alloc::Global;
 use std::test::Fail;
-use wl_core::{Command, LockCore, PlainCore, apply};
+use wl_core::{Command, LockCore, PlainCore, apply, run_commands};
 use wl_index::IndexCore;
-use wl_samples::{lacks_memory, opening, refused, signalled};
-use wl_types::{Kind, Memory};
+use wl_samples::{lacks_memory, opening, reader_behind_writer, refused, signalled};
+use wl_types::{Kind, Memory, Refusal};
 
 /// A command that is refused memory leaves the core as it was, and is done when it is asked again.
 fn try_command<C: LockCore>(core: &mut C, command: &Command) -> Result<(), Fail> {
@@ -26,20 +26,55 @@ fn command(alloc: Global, place: usize) -> Result<Command, Memory> {
     }
 }
 
-fn try_commands<C: LockCore<Seed = ()>>(alloc: Global) -> Result<(), Fail> {
+/// How many locks a snapshot has, if it is refused nothing but memory.
+fn locks<C: LockCore>(core: &C) -> Option<usize> {
+    match core.snapshot(1) {
+        Ok(snapshot) => Some(snapshot.held.as_slice().len()),
+        Err(Refusal::Memory) => None,
+        Err(_) => Some(usize::MAX),
+    }
+}
+
+/// A snapshot and a copy that are refused memory are whole when they are asked for again.
+fn try_sights<C: LockCore>(core: &C, before: &PlainCore) -> Result<(), Fail> {
+    if locks(core) != Some(1) {
+        return refused(locks(core) == Some(1));
+    }
+    match core.copy_plain() {
+        Ok(_) => Ok(()),
+        Err(Memory) => refused(core.copy_plain()? == *before),
+    }
+}
+
+/// A list of commands that is refused memory was done just so far as it says.
+fn try_list<C: LockCore<Seed = ()>>(alloc: Global) -> Result<(), Fail> {
+    let commands = reader_behind_writer(alloc)?;
+    let mut core: C = opening(alloc);
+    let Err(done) = run_commands(alloc, &mut core, &commands) else {
+        return Ok(());
+    };
+    let mut beside: PlainCore = opening(alloc);
+    for command in commands.iter().take(done as usize) {
+        let _ = apply(&mut beside, command);
+    }
+    refused(core.copy_plain()? == beside)
+}
+
+fn try_calls<C: LockCore<Seed = ()>>(alloc: Global) -> Result<(), Fail> {
     let mut core: C = opening(alloc);
     for place in 0..4 {
         try_command(&mut core, &command(alloc, place)?)?;
     }
-    Ok(())
+    try_sights(&core, &core.copy_plain()?)?;
+    try_list::<C>(alloc)
 }
 
 #[test]
 fn a_refused_growth_changes_nothing(rt: HostRuntime) -> Result<(), Fail> {
-    try_commands::<PlainCore>(rt.alloc())
+    try_calls::<PlainCore>(rt.alloc())
 }
 
 #[test]
 fn a_refused_growth_changes_no_table(rt: HostRuntime) -> Result<(), Fail> {
-    try_commands::<IndexCore>(rt.alloc())
+    try_calls::<IndexCore>(rt.alloc())
 }

@@ -3,9 +3,9 @@
 use std::alloc::Global;
 use std::test::Fail;
 use wl_core::{Command, LockCore, PlainCore, apply};
-use wl_journal::Book;
+use wl_journal::{AuditFault, Book, audit};
 use wl_samples::{ask, lacks_memory, opening, refused};
-use wl_types::{Kind, Memory, Mode};
+use wl_types::{Kind, Memory, Mode, Refusal};
 
 /// A command that is refused memory leaves the book as it was, and is done and recorded when it is asked again.
 fn try_command(book: &mut Book<PlainCore>, command: &Command) -> Result<(), Fail> {
@@ -14,10 +14,15 @@ fn try_command(book: &mut Book<PlainCore>, command: &Command) -> Result<(), Fail
     if !lacks_memory(&apply(book, command)) {
         return Ok(());
     }
-    let is_as_before = book.changes().is_empty() && book.len() == entries;
+    let has_no_more = book.len() == entries && book.total() == entries as u64;
+    let is_as_before = has_no_more && book.changes().is_empty() && is_opening(book.base());
     let is_same_state = book.copy_plain()? == before;
     let is_done_now = !lacks_memory(&apply(book, command)) && book.len() > entries;
     refused(is_as_before && is_same_state && is_done_now)
+}
+
+fn is_opening(core: &PlainCore) -> bool {
+    core.agents().is_empty()
 }
 
 fn command(alloc: Global, place: usize) -> Result<Command, Memory> {
@@ -38,10 +43,32 @@ fn try_cut(book: &mut Book<PlainCore>) -> Result<(), Fail> {
     refused(is_as_before && book.cut()?.len() == 4)
 }
 
+/// How many entries an agent sees, if it is refused nothing but memory.
+fn seen(book: &Book<PlainCore>) -> Option<u64> {
+    match book.sight(1) {
+        Ok(sight) => Some(sight.seen),
+        Err(Refusal::Memory) => None,
+        Err(_) => Some(0),
+    }
+}
+
+/// A sight and an audit that are refused memory are what they should be when they are asked for again.
+fn try_sights(book: &Book<PlainCore>) -> Result<(), Fail> {
+    if seen(book) != Some(4) {
+        return refused(seen(book) == Some(4));
+    }
+    match audit(book.base(), book.entries()) {
+        Err(AuditFault::Memory) => refused(audit(book.base(), book.entries()).is_ok()),
+        Ok(()) => Ok(()),
+        Err(AuditFault::Illegal(_)) => refused(false),
+    }
+}
+
 fn try_calls(alloc: Global, book: &mut Book<PlainCore>) -> Result<(), Fail> {
     for place in 0..4 {
         try_command(book, &command(alloc, place)?)?;
     }
+    try_sights(book)?;
     try_cut(book)
 }
 

@@ -1,5 +1,5 @@
-//! The book as a core. A call that may be refused for want of memory grows the journal, then calls the core, and records
-//! what the core accepted. Only where the growth is refused it asks whether the core would refuse the call otherwise.
+//! The book as a core. A call that may be refused for want of memory first asks the core whether it would refuse it
+//! otherwise; then it grows the journal, calls the core, and records what the core accepted.
 
 ghost use Rattle.std.specs.Prelude.{◌≡◌, [], IfOk, IfErr, OnErr, OnOk, Some};
 ghost use Rattle.wl_types.specs.Refusals.{refused_or_memory};
@@ -58,10 +58,8 @@ impl<C: LockCore> LockCore for Book<C> {
         ensures not_recorded { OnErr result (Some self.new.total ≡ Some self.old.total) }
     {
         self.is_quiet = true;
-        let Ok(()) = make_room(&mut self.entries, self.owed + 2) else {
-            self.core.may_open()?;
-            return Err(Refusal::Memory);
-        };
+        self.core.may_open()?;
+        make_room(&mut self.entries, self.owed + 2)?;
         let agent = self.core.open(kind)?;
         self.is_quiet = false;
         self.entries.push_reserved(Entry {
@@ -122,12 +120,12 @@ impl<C: LockCore> LockCore for Book<C> {
         ensures nothing_added { OnErr result (Appends self.old self.new []) }
         ensures not_recorded { OnErr result (Some self.new.total ≡ Some self.old.total) }
     {
-        let Ok(copy) = copy_ask(self.alloc, ask) else {
-            self.is_quiet = true;
-            self.core.may_request(agent, ask)?;
-            return Err(Refusal::Memory);
-        };
-        self.request_kept(agent, copy)
+        self.is_quiet = true;
+        self.core.may_request(agent, ask)?;
+        match copy_ask(self.alloc, ask) {
+            Ok(copy) => self.request_kept(agent, copy),
+            Err(Memory) => Err(Refusal::Memory),
+        }
     }
 
     fn set_active(&mut self, agent: u64, active: bool) -> Result<(), Refusal>
@@ -141,10 +139,8 @@ impl<C: LockCore> LockCore for Book<C> {
         ensures not_recorded { OnErr result (Some self.new.total ≡ Some self.old.total) }
     {
         self.is_quiet = true;
-        let Ok(()) = make_room(&mut self.entries, self.owed + 1) else {
-            self.core.may_set(agent)?;
-            return Err(Refusal::Memory);
-        };
+        self.core.may_set(agent)?;
+        make_room(&mut self.entries, self.owed + 1)?;
         self.core.set_active(agent, active)?;
         self.is_quiet = false;
         self.entries.push_reserved(Entry {
@@ -165,10 +161,8 @@ impl<C: LockCore> LockCore for Book<C> {
         ensures not_recorded { OnErr result (Some self.new.total ≡ Some self.old.total) }
     {
         self.is_quiet = true;
-        let Ok(()) = make_room(&mut self.entries, self.owed + 2) else {
-            self.core.may_signal(agent)?;
-            return Err(Refusal::Memory);
-        };
+        self.core.may_signal(agent)?;
+        make_room(&mut self.entries, self.owed + 2)?;
         let signal = self.core.new_signal(agent)?;
         self.is_quiet = false;
         self.entries.push_reserved(Entry {

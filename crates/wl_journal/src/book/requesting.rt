@@ -38,10 +38,8 @@ impl<C: LockCore> Book<C> {
         ensures nothing_added { OnErr result (Appends self.old self.new []) }
     {
         self.is_quiet = true;
-        let Ok(()) = make_room(&mut self.entries, self.owed + 3) else {
-            self.core.may_request(agent, &ask)?;
-            return Err(Refusal::Memory);
-        };
+        self.core.may_request(agent, &ask)?;
+        make_room(&mut self.entries, self.owed + 3)?;
         let id = self.core.request(agent, &ask)?;
         self.is_quiet = false;
         self.entries.push_reserved(Entry {

@@ -8,9 +8,8 @@ ghost use Rattle.wl_manager.specs.Keepers.{cells_at};
 ghost use Rattle.wl_manager.specs.Locked.{Does, Stays};
 
 use crate::count::Count;
+use crate::inbox::Inbox;
 use crate::locked::{Asking, Locked};
-use crate::news::News;
-use std::alloc::Global;
 use std::sync::Arc;
 use wl_cell::Owner;
 use wl_core::{Command, LockCore, ReleaseAnswer, Reply};
@@ -89,12 +88,12 @@ impl<C: LockCore, T: Count> Locked<C, T> {
     }
 
     /// Asks for a lock. The owner is of the cell whose keeper is kept under the number, also where the request is
-    /// unavailable at once. These news are told of its changes.
+    /// unavailable at once. Its changes go to this inbox.
     pub fn request(
         &mut self,
         agent: u64,
         ask: &Ask,
-        news: &Arc<News, Global>,
+        inbox: &Arc<Inbox>,
         share: &mut T::Share,
     ) -> Result<(u64, Owner), Refusal>
         requires { T.COUNTS ≡ true → 0 < T.parts share.old }
@@ -106,7 +105,7 @@ impl<C: LockCore, T: Count> Locked<C, T> {
         ensures refused { IfErr result (λ r. r ≡ refused_or_memory (refusal self.old.book.state (Command.Request agent ask.now))) }
         ensures unchanged { OnErr result (Stays self.old self.new × (share.new ≡ share.old)) }
     {
-        let asking = Asking::new(self.alloc, ask, news);
+        let asking = Asking::new(self.alloc, ask, inbox);
         self.request_made(agent, ask, asking, share)
     }
 
@@ -135,10 +134,11 @@ impl<C: LockCore, T: Count> Locked<C, T> {
             ask: kept,
             keeper,
             owner,
-            news,
+            inbox,
         } = asking;
-        let Ok(()) = self.keepers.put(self.next, keeper, news) else {
-            return Err(self.without_memory(agent, ask));
+        self.book.may_request(agent, ask)?;
+        let Ok(()) = self.keepers.put(self.next, keeper, inbox) else {
+            return Err(Refusal::Memory);
         };
         self.keepers.let_go(self.book.changes());
         let id = match self.book.request_kept(agent, kept) {
@@ -154,8 +154,8 @@ impl<C: LockCore, T: Count> Locked<C, T> {
         Ok((id, owner))
     }
 
-    // Why a request isn't admitted for which memory was refused.
-    fn without_memory(&self, agent: u64, ask: &Ask) -> Refusal
+    /// Why a request isn't admitted for which memory was refused.
+    pub(crate) fn without_memory(&self, agent: u64, ask: &Ask) -> Refusal
         ensures { result ≡ refused_or_memory (refusal self.now.book.state (Command.Request agent ask.now)) }
     {
         match self.book.may_request(agent, ask) {

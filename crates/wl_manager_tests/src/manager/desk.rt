@@ -7,7 +7,7 @@ use std::sync::{Arc, Wait};
 use wl_cell::Watch;
 use wl_core::{ReleaseAnswer, Reply};
 use wl_journal::{Entry, Sight};
-use wl_manager::{Manager, Visitor};
+use wl_manager::{Bell, Manager, Ring, Visitor};
 use wl_samples::ask;
 use wl_types::{Ask, Kind, Memory, Mode, Phase, Reason, Refusal};
 
@@ -16,12 +16,16 @@ use wl_types::{Ask, Kind, Memory, Mode, Phase, Reason, Refusal};
 pub enum Call {
     /// The new agent's number.
     Open(Kind),
+    /// The same, of an agent whose bell is at its place in the desk's ring.
+    OpenHeard(Kind),
     Agent(usize, Act),
     Ticket(usize, Use),
     /// The last ticket is dropped; its number.
     DropTicket,
     /// A look by a watch.
     LookOn(usize),
+    /// Whether a bell rang since the last such call, and the places of those that did.
+    Ring,
     /// How many there are.
     Entries,
     /// The command and the reply.
@@ -37,6 +41,9 @@ pub enum Act {
     Request(&'static str, Manner),
     /// How many entries the agent sees, and the locks.
     Query,
+    IsRung,
+    /// The numbers of the requests that changed, where these are all.
+    Changed,
     /// Of the ticket at this place.
     Release(usize),
     /// Of the signal of this number.
@@ -66,27 +73,50 @@ pub enum Manner {
 pub struct Desk {
     alloc: Global,
     manager: Arc<Plain>,
+    ring: Arc<Ring>,
     agents: Vec<PlainAgent>,
     tickets: Vec<PlainTicket>,
     watches: Vec<Watch>,
 }
 
 impl Desk {
-    pub fn new(alloc: Global, manager: Arc<Plain>) -> Desk {
-        Desk {
+    pub fn new(alloc: Global, manager: Arc<Plain>) -> Result<Desk, Memory> {
+        Ok(Desk {
             alloc,
             manager,
+            ring: Arc::new(alloc, Ring::new(alloc))?,
             agents: Vec::new(alloc),
             tickets: Vec::new(alloc),
             watches: Vec::new(alloc),
-        }
+        })
     }
 
     fn open<R: Wait>(&mut self, rt: &R, kind: Kind) -> Result<u64, Refusal> {
         let agent = Manager::open(&self.manager, rt, kind)?;
+        self.seat(agent)
+    }
+
+    fn open_heard<R: Wait>(&mut self, rt: &R, kind: Kind) -> Result<u64, Refusal> {
+        let place = (self.agents.len() as u64).wrapping_add(1);
+        let Ok(bell) = Bell::new(&self.ring, place) else {
+            return Err(Refusal::Memory);
+        };
+        let agent = Manager::open_heard(&self.manager, rt, kind, Some(bell))?;
+        self.seat(agent)
+    }
+
+    /// The agent's number.
+    fn seat(&mut self, agent: PlainAgent) -> Result<u64, Refusal> {
         let number = agent.client();
         keep(&mut self.agents, agent)?;
         Ok(number)
+    }
+
+    fn rung(&self) -> Result<String, Memory> {
+        let is_rung = self.ring.take_rung();
+        let mut places = Vec::new(self.alloc);
+        let is_all = self.ring.collect(&mut places);
+        shown_numbers(self.alloc, is_rung && is_all, places)
     }
 
     fn act<R: Wait>(&mut self, rt: &R, place: usize, act: Act) -> Result<String, Memory> {
@@ -131,10 +161,12 @@ impl Driver for Desk {
         let alloc = self.alloc;
         match *call {
             Call::Open(kind) => told(alloc, &self.open(rt, kind)),
+            Call::OpenHeard(kind) => told(alloc, &self.open_heard(rt, kind)),
             Call::Agent(place, act) => self.act(rt, place, act),
             Call::Ticket(place, used) => self.use_ticket(place, used),
             Call::DropTicket => told(alloc, &self.drop_last()),
             Call::LookOn(place) => told(alloc, &self.look_on(place)),
+            Call::Ring => self.rung(),
             Call::Entries => told(alloc, &summed(rt, &self.manager).entries),
             Call::Entry(number) => Ok(self.entry(rt, number)),
         }
@@ -171,6 +203,8 @@ fn act_by<R: Wait>(
             told(alloc, &request(rt, agent, tickets, &asked))
         }
         Act::Query => seen(alloc, agent.query(rt)),
+        Act::IsRung => told(alloc, &agent.is_rung()),
+        Act::Changed => changed(alloc, agent),
         Act::Release(place) => told(alloc, &release(rt, agent, tickets, place)),
         Act::Abort(signal, reason) => told(alloc, &agent.abort(rt, signal, reason)),
     }
@@ -197,6 +231,24 @@ fn release<R: Wait>(
 ) -> Option<ReleaseAnswer> {
     let ticket = at(tickets, place)?;
     Some(agent.release(rt, ticket))
+}
+
+fn changed(alloc: Global, agent: &PlainAgent) -> Result<String, Memory> {
+    let mut numbers = Vec::new(alloc);
+    let is_all = agent.changed(&mut numbers);
+    shown_numbers(alloc, is_all, numbers)
+}
+
+/// Numbers in order, where they are all.
+fn shown_numbers(alloc: Global, are_all: bool, numbers: Vec<u64>) -> Result<String, Memory> {
+    let mut numbers = numbers;
+    numbers.sort_unstable();
+    let all = if are_all {
+        Some(numbers.as_slice())
+    } else {
+        None
+    };
+    told(alloc, &all)
 }
 
 fn use_of(

@@ -1,12 +1,13 @@
 //! Each growth refused in turn.
 
-use super::{Plain, PlainAgent, plain, summed};
+use super::{Plain, PlainAgent, PlainTicket, plain, summed};
 use std::alloc::Global;
 use std::sync::{Arc, Wait};
 use std::test::Fail;
+use wl_cell::cell;
 use wl_manager::Manager;
 use wl_samples::{ask, refused};
-use wl_types::{Ask, Kind, Mode};
+use wl_types::{AbortAnswer, Ask, Kind, Mode, Phase, Reason};
 
 fn try_open<R: Wait>(rt: &R, manager: &Arc<Plain, Global>) -> Result<PlainAgent, Fail> {
     if let Ok(agent) = Manager::open(manager, rt, Kind::Window) {
@@ -41,15 +42,139 @@ fn try_request<R: Wait>(
     refused(has_no_request && number == 1 && summed(rt, manager).entries == 3)
 }
 
-fn try_calls<R: Wait>(rt: &R, alloc: Global) -> Result<(), Fail> {
+fn try_active<R: Wait>(rt: &R, manager: &Plain, agent: &mut PlainAgent) -> Result<(), Fail> {
+    if agent.set_active(rt, true).is_ok() {
+        return Ok(());
+    }
+    let is_not_entered = summed(rt, manager).entries == 3;
+    agent.set_active(rt, true)?;
+    refused(is_not_entered && agent.query(rt)?.seen == 4)
+}
+
+fn try_query<R: Wait>(rt: &R, agent: &mut PlainAgent) -> Result<(), Fail> {
+    if agent.query(rt).is_ok() {
+        return Ok(());
+    }
+    refused(agent.query(rt)?.seen == 4)
+}
+
+fn try_manager<R: Wait>(rt: &R, alloc: Global) -> Result<Arc<Plain>, Fail> {
+    if let Ok(manager) = plain(rt, alloc) {
+        return Ok(manager);
+    }
     let manager = plain(rt, alloc)?;
+    refused(summed(rt, &manager).entries == 0)?;
+    Ok(manager)
+}
+
+fn try_cell(alloc: Global) -> Result<(), Fail> {
+    if cell(alloc).is_ok() {
+        return Ok(());
+    }
+    refused(cell(alloc).is_ok())
+}
+
+fn try_calls<R: Wait>(rt: &R, alloc: Global) -> Result<(), Fail> {
+    try_cell(alloc)?;
+    let manager = try_manager(rt, alloc)?;
     let mut agent = try_open(rt, &manager)?;
     try_signal(rt, &manager, &mut agent)?;
     let wanted = ask(alloc, "db", Mode::Exclusive)?;
-    try_request(rt, &manager, &mut agent, &wanted)
+    try_request(rt, &manager, &mut agent, &wanted)?;
+    try_active(rt, &manager, &mut agent)?;
+    try_query(rt, &mut agent)
+}
+
+/// Agents of one manager, and the tickets of their requests, in the order in which they were asked.
+#[derive(Drop)]
+struct Table {
+    alloc: Global,
+    agents: Vec<PlainAgent>,
+    tickets: Vec<PlainTicket>,
+}
+
+impl Table {
+    /// With three agents.
+    fn new<R: Wait>(rt: &R, alloc: Global) -> Result<Table, Fail> {
+        let manager = plain(rt, alloc)?;
+        let mut agents = Vec::new(alloc);
+        for _ in 0..3 {
+            agents.push(Manager::open(&manager, rt, Kind::Window)?)?;
+        }
+        let tickets = Vec::new(alloc);
+        Ok(Table {
+            alloc,
+            agents,
+            tickets,
+        })
+    }
+
+    fn agent(&mut self, place: usize) -> Result<&mut PlainAgent, Fail> {
+        match self.agents.get_mut(place) {
+            Some(agent) => Ok(agent),
+            None => Err(Fail::new("nobody is there")),
+        }
+    }
+
+    fn request<R: Wait>(
+        &mut self,
+        rt: &R,
+        place: usize,
+        name: &str,
+        mode: Mode,
+        signal: Option<u64>,
+    ) -> Result<(), Fail> {
+        let mut wanted = ask(self.alloc, name, mode)?;
+        wanted.signal = signal;
+        let ticket = self.agent(place)?.request(rt, &wanted)?;
+        Ok(self.tickets.push(ticket)?)
+    }
+
+    /// Whether the requests are at these phases, without memory.
+    fn looks(&mut self, wanted: &[Phase]) -> bool {
+        let mut places = 0..wanted.len();
+        places.all(|place| match self.tickets.get_mut(place) {
+            Some(ticket) => wanted.get(place) == Some(&ticket.look()),
+            None => false,
+        })
+    }
+}
+
+const ABORTED: Phase = Phase::Aborted(Reason::AbortError);
+
+/// An abort needs no memory, and ends the second and the third request; what waited behind them is granted.
+fn abort_ends_what_waits<R: Wait>(rt: &R, alloc: Global) -> Result<bool, Fail> {
+    let mut table = Table::new(rt, alloc)?;
+    table.request(rt, 0, "db", Mode::Shared, None)?;
+    let signal = table.agent(1)?.new_signal(rt)?;
+    table.request(rt, 1, "db", Mode::Exclusive, Some(signal))?;
+    table.request(rt, 1, "db", Mode::Shared, Some(signal))?;
+    table.request(rt, 2, "db", Mode::Shared, None)?;
+    let answer = table.agent(1)?.abort(rt, signal, Reason::AbortError);
+    let looks = [Phase::Granted, ABORTED, ABORTED, Phase::Granted];
+    Ok(answer == Ok(AbortAnswer::Done) && table.looks(&looks))
+}
+
+/// The end of the third agent needs no memory: its lock is released, its request aborted, and what waited is granted.
+fn an_end_ends_all<R: Wait>(rt: &R, alloc: Global) -> Result<bool, Fail> {
+    let mut table = Table::new(rt, alloc)?;
+    table.request(rt, 0, "p", Mode::Shared, None)?;
+    table.request(rt, 2, "q", Mode::Exclusive, None)?;
+    table.request(rt, 2, "p", Mode::Exclusive, None)?;
+    table.request(rt, 1, "p", Mode::Shared, None)?;
+    table.request(rt, 0, "q", Mode::Exclusive, None)?;
+    let Some(last) = table.agents.pop() else {
+        return Ok(false);
+    };
+    drop(last.terminate(rt));
+    let granted = Phase::Granted;
+    Ok(table.looks(&[granted, Phase::Released, ABORTED, granted, granted]))
 }
 
 #[test]
 fn a_refused_growth_is_not_entered(rt: HostRuntime) -> Result<(), Fail> {
-    try_calls(&rt, rt.alloc())
+    try_calls(&rt, rt.alloc())?;
+    assert!(rt; abort_ends_what_waits(&rt, rt.alloc())?);
+    assert!(rt; an_end_ends_all(&rt, rt.alloc())?);
+    Ok(())
 }

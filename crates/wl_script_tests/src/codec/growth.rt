@@ -5,7 +5,9 @@ ghost use Rattle.wl_codec.specs.Replies.{IsTold};
 
 use std::alloc::Global;
 use std::test::Fail;
-use wl_codec::{Body, Line, Notice, Notices, Outcome, WireReply, read_line, write_reply};
+use wl_codec::{
+    Body, Line, Notice, Notices, Outcome, Reading, WireReply, read_line, read_message, write_reply,
+};
 use wl_samples::refused;
 use wl_types::{Memory, Mode, Phase};
 
@@ -31,6 +33,15 @@ fn try_line(alloc: Global) -> Result<(), Fail> {
         Ok(line) if is_read(&line) => Ok(()),
         Ok(_) => refused(false),
         Err(Memory) => refused(is_read(&read_line(alloc, LINE)?)),
+    }
+}
+
+/// A message that is refused memory is no fault.
+fn try_message(alloc: Global) -> Result<(), Fail> {
+    match read_message(alloc, LINE) {
+        Ok(Reading::Good(_)) => Ok(()),
+        Ok(_) => refused(false),
+        Err(Memory) => refused(matches!(read_message(alloc, LINE)?, Reading::Good(_))),
     }
 }
 
@@ -64,5 +75,6 @@ fn try_reply(alloc: Global, reply: &WireReply) -> Result<(), Fail>
 #[test]
 fn a_refused_growth_is_no_fault(rt: HostRuntime) -> Result<(), Fail> {
     try_line(rt.alloc())?;
+    try_message(rt.alloc())?;
     try_reply(rt.alloc(), &granted(rt.alloc())?)
 }

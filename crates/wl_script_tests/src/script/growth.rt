@@ -29,7 +29,20 @@ fn try_run(alloc: Global) -> Result<(), Fail> {
     }
 }
 
+const AUDIT: &str = "{\"entries\":3,\"legal\":true,\"origin\":\"https://a.test\"}\n";
+
+/// An audit that is refused memory says how many lines were done, and nothing is written.
+fn try_audit(alloc: Global) -> Result<(), Fail> {
+    let ended = plain(SCRIPT, 100).audit_ends(alloc, AUDIT)?;
+    match ended.result {
+        Ok(1) if ended.written == Some(AUDIT.len()) => Ok(()),
+        Err(ScriptFault::Memory(lines)) => refused(ended.written == Some(0) && lines <= 2),
+        _ => refused(false),
+    }
+}
+
 #[test]
 fn a_refused_growth_says_what_was_answered(rt: HostRuntime) -> Result<(), Fail> {
-    try_run(rt.alloc())
+    try_run(rt.alloc())?;
+    try_audit(rt.alloc())
 }

@@ -9,9 +9,15 @@ use wl_samples::refused;
 use wl_session::{InTime, Session, SessionOf};
 use wl_types::Phase;
 
-fn is_told(session: &mut Session) -> bool {
+/// By a look at all requests, or at those that changed.
+fn is_told(session: &mut Session, at_all: bool) -> bool {
     let looks = [(1, Phase::Taken)];
-    let Ok(text) = session.finish_changed(Some(2), Outcome::Request(1), &looks) else {
+    let finished = if at_all {
+        session.finish(Some(2), Outcome::Request(1), &looks)
+    } else {
+        session.finish_changed(Some(2), Outcome::Request(1), &looks)
+    };
+    let Ok(text) = finished else {
         return false;
     };
     text.as_str()
@@ -20,17 +26,18 @@ fn is_told(session: &mut Session) -> bool {
 }
 
 /// A reply that is refused memory tells nothing, and is whole when it is asked again.
-fn try_reply(alloc: Global) -> Result<(), Fail> {
+fn try_reply(alloc: Global, at_all: bool) -> Result<(), Fail> {
     let mut session = Session::new(alloc);
-    if is_told(&mut session) {
+    if is_told(&mut session, at_all) {
         return Ok(());
     }
-    refused(session.live().is_empty() && is_told(&mut session))
+    refused(session.live().is_empty() && is_told(&mut session, at_all))
 }
 
 #[test]
 fn a_refused_growth_tells_nothing(rt: HostRuntime) -> Result<(), Fail> {
-    try_reply(rt.alloc())
+    try_reply(rt.alloc(), true)?;
+    try_reply(rt.alloc(), false)
 }
 
 /// A reply without notices, since the first request was told as granted and the other's phase is no news.

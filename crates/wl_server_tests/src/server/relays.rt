@@ -62,7 +62,17 @@ relay_to_nobody -> Err(Handshake)
 
 /// The gate hears of the first connection, of its replies 1 and 2, and then of the second and its reply.
 const A_GATE_HEARS_OF_EACH_CONNECTION_AND_OF_EACH_REPLY: &str = "\
-serve_gated -> (Ok(Served { connections: 2, failed: 0 }), (Ok(2), Ok(1)), 11112221)
+serve_gated -> (Ok(Served { connections: 2, failed: 0 }), (Ok(2), Ok(1)), [1, 1, 1, 1, 2, 2, 2, 1, 0])
+";
+
+/// The first connection waits behind its first reply until the second has its own.
+const A_CONNECTION_GOES_ON_WHILE_ANOTHER_WAITS: &str = "\
+serve_waiting -> (Ok(Served { connections: 2, failed: 0 }), (Ok(1), Ok(1)), true)
+";
+
+/// Somebody asks for the lock as soon as it is granted, and has it once the stream has ended.
+const A_STREAM_THAT_ENDS_HANDS_ITS_LOCK_ON: &str = "\
+serve_dropped -> (Ok(Served { connections: 1, failed: 1 }), Some(((2, Pending), Granted)))
 ";
 
 /// None of the 65 sends a close frame.
@@ -74,7 +84,7 @@ const A_LISTENER_THAT_ACCEPTS_NOTHING: &str = "\
 serve_nobody 3 -> Err(Accept(0))
 ";
 
-pub const LISTS: [&str; 13] = [
+pub const LISTS: [&str; 15] = [
     LINES_ARE_RELAYED_TO_A_SERVER,
     A_BROKEN_CONNECTION_ENDS_ALONE,
     AN_EMPTY_INPUT,
@@ -86,6 +96,8 @@ pub const LISTS: [&str; 13] = [
     A_WRITER_THAT_FAILS,
     OTHER_HOSTS,
     A_GATE_HEARS_OF_EACH_CONNECTION_AND_OF_EACH_REPLY,
+    A_CONNECTION_GOES_ON_WHILE_ANOTHER_WAITS,
+    A_STREAM_THAT_ENDS_HANDS_ITS_LOCK_ON,
     ONE_MORE_THAN_THERE_IS_ROOM_FOR_WAITS,
     A_LISTENER_THAT_ACCEPTS_NOTHING,
 ];

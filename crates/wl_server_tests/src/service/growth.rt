@@ -1,11 +1,12 @@
 //! Each growth refused in turn.
 
 use super::{ELSEWHERE, HERE};
+use std::alloc::Global;
 use std::sync::Wait;
 use std::test::Fail;
-use wl_samples::refused;
+use wl_samples::{ask, refused};
 use wl_service::{Client, OpenFault, Service};
-use wl_types::Kind;
+use wl_types::{Ask, Kind, Mode, Refusal};
 
 /// Opens a window. Refused memory, the service is as it was: who opens when it is asked again has this number.
 fn try_open<R: Wait>(
@@ -33,8 +34,46 @@ fn try_opens<R: Wait>(rt: &R, service: &Service) -> Result<(), Fail> {
     Ok(())
 }
 
+fn try_service<R>(rt: &R, alloc: Global) -> Result<Service, Fail> {
+    if let Ok(service) = Service::new(rt, alloc) {
+        return Ok(service);
+    }
+    let service = Service::new(rt, alloc)?;
+    refused(true)?;
+    Ok(service)
+}
+
+/// What a client asks for, by its place. Whether it was refused, and for want of memory.
+fn call<R: Wait>(rt: &R, client: &mut Client, wanted: &Ask, place: usize) -> Result<bool, Refusal> {
+    let answer = match place {
+        0 => client.request(rt, wanted).map(|_| ()),
+        1 => client.new_signal(rt).map(|_| ()),
+        2 => client.set_active(rt, true),
+        _ => client.query(rt).map(|_| ()),
+    };
+    match answer {
+        Ok(()) => Ok(false),
+        Err(Refusal::Memory) => Ok(true),
+        Err(refusal) => Err(refusal),
+    }
+}
+
+/// A client's call that is refused memory leaves no entry, and is done when it is asked again.
+fn try_client<R: Wait>(rt: &R, alloc: Global, client: &mut Client) -> Result<(), Fail> {
+    let wanted = ask(alloc, "db", Mode::Exclusive)?;
+    for place in 0..4 {
+        if call(rt, client, &wanted, place)? {
+            let is_as_before = client.query(rt)?.seen == (place as u64).wrapping_add(1);
+            refused(is_as_before && !call(rt, client, &wanted, place)?)?;
+        }
+    }
+    Ok(())
+}
+
 #[test]
 fn a_refused_growth_opens_nobody(rt: HostRuntime) -> Result<(), Fail> {
-    let service = Service::new(&rt, rt.alloc())?;
-    try_opens(&rt, &service)
+    let service = try_service(&rt, rt.alloc())?;
+    try_opens(&rt, &service)?;
+    let mut client = service.open(&rt, "https://b.test/", Kind::Window)?;
+    try_client(&rt, rt.alloc(), &mut client)
 }

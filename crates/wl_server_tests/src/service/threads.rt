@@ -1,6 +1,7 @@
 //! Managers that go on at once: the calls `visit_and_ask` and `open_pairs` of lists.
 
 use super::{ELSEWHERE, HERE};
+use crate::flags::comes;
 use crate::lists::show;
 use std::alloc::Global;
 use std::sync::Wait;
@@ -15,8 +16,6 @@ use wl_samples::{ask, key};
 use wl_service::Service;
 use wl_types::{Ask, Kind, Memory, Mode, Phase};
 
-const TURNS: u64 = 100_000_000;
-
 /// Waits under one manager's lock until a request of another one was answered.
 #[derive(Drop)]
 struct Waiting<'a> {
@@ -30,16 +29,6 @@ impl<'a> Visitor for Waiting<'a> {
         self.entered.store(true, Ordering::SeqCst);
         self.in_time = comes(self.answered);
     }
-}
-
-/// Whether the flag comes up in time.
-fn comes(flag: &AtomicBool) -> bool {
-    for _ in 0..TURNS {
-        if flag.load(Ordering::SeqCst) {
-            return true;
-        }
-    }
-    false
 }
 
 /// Visits the manager of the key, and tells whether it was waited for in time.

@@ -62,24 +62,27 @@ fn race_anew<R: Threads + Wait + Sync>(
     ))
 }
 
-/// Exactly one of the two wins, and a lock that was taken is given up.
+/// Exactly one of the two wins, and a lock that was taken is given up. Answers how often the take won.
 fn assert_one_wins<R: Threads + Wait + Abort + Sync>(
     rt: &R,
     agent: &mut PlainAgent,
     asked: &mut Ask,
     reason: Reason,
-) -> Result<(), Refusal> {
+) -> Result<usize, Refusal> {
+    let mut taken: usize = 0;
     for _ in 0..1000 {
         let outcome = race_anew(rt, agent, asked, reason)?;
-        assert!(rt;
-            outcome == TAKE_WON || outcome == abort_won(reason),
-            "{outcome:?}"
-        );
+        if outcome == TAKE_WON {
+            taken = taken.wrapping_add(1);
+        } else {
+            assert_eq!(rt; outcome, abort_won(reason));
+        }
     }
-    Ok(())
+    Ok(taken)
 }
 
-/// The same in a new manager, whose journal is legal then.
+/// The same in a new manager, whose journal is legal then. It has an entry of the opening; of each race those of the
+/// signal, the request and the abort; and of each take that won, its own and the release's.
 fn assert_legal_races<R: Threads + Wait + Abort + Sync>(
     rt: &R,
     alloc: Global,
@@ -88,9 +91,11 @@ fn assert_legal_races<R: Threads + Wait + Abort + Sync>(
     let manager = plain(rt, alloc)?;
     let mut agent = Manager::open(&manager, rt, Kind::Window)?;
     let mut asked = ask(alloc, "db", Mode::Exclusive)?;
-    assert_one_wins(rt, &mut agent, &mut asked, reason)?;
-    let (is_legal, _) = audited(rt, alloc, &manager);
-    assert!(rt; is_legal);
+    let taken = assert_one_wins(rt, &mut agent, &mut asked, reason)?;
+    assert_eq!(rt;
+        audited(rt, alloc, &manager),
+        (true, taken.wrapping_mul(2).wrapping_add(3001))
+    );
     Ok(())
 }
 

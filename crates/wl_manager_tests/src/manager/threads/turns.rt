@@ -17,9 +17,9 @@ use wl_manager::{Agent, Count, Leaving, Ledgered, Manager, TallyFault, Ticket};
 use wl_samples::ask;
 use wl_types::{Ask, Kind, Memory, Mode, Phase, Refusal};
 
-type Counted<L> = Manager<PlainCore, Ledgered<L>>;
+pub type Counted<L> = Manager<PlainCore, Ledgered<L>>;
 
-type CountedAgent<L> = Agent<PlainCore, Ledgered<L>>;
+pub type CountedAgent<L> = Agent<PlainCore, Ledgered<L>>;
 
 type Pair<L> = (Leaving<Ledgered<L>>, Leaving<Ledgered<L>>);
 

@@ -1,4 +1,6 @@
 use Rattle.std.proofs.Common.{arith, slice_index_or}
+use Rattle.std.proofs.lemmas.List.Elements.{All-push}
+use Rattle.wl_session.specs.Told.{Fits}
 use Rattle.wl_server.proofs.Looks.{one_more, none_more, taken_more}
 use Rattle.wl_server.proofs.requests.changed_of.Goals.{in-Some+in_ok-push, in_default}
 use Rattle.wl_server.proofs.requests.changed_of.Goals as goal
@@ -10,11 +12,13 @@ loop-number-preserved c = elim c.match-news_of.branch [
       record {
         by_number = rw (w.looks-is, w.in_ok-push.ensures.items) both.0;
         below = rw (w.looks-is, w.in_ok-push.ensures.items) both.1;
-        taken = rw (w.looks-is, w.in_ok-push.ensures.items) (taken_more c.loop-number.looks.items (slice_index_or c.args.numbers.now c.loop-number.number-index 0) w.in-Some.phase c.loop-number.invariant.taken w.in-Some.ensures);
+        fit = rw (w.looks-is, w.in_ok-push.ensures.items) (All-push (Fits c.args.outcome.now c.args.session.now.told) c.loop-number.looks.items (slice_index_or c.args.numbers.now c.loop-number.number-index 0, w.in-Some.phase) c.loop-number.invariant.fit w.in-Some.ensures.0);
+        taken = rw (w.looks-is, w.in_ok-push.ensures.items) (taken_more c.loop-number.looks.items (slice_index_or c.args.numbers.now c.loop-number.number-index 0) w.in-Some.phase c.loop-number.invariant.taken w.in-Some.ensures.1);
       })
   | in_default w ↦ record {
     by_number = rw w.looks-is c.loop-number.invariant.by_number;
     below = rw w.looks-is (none_more c.loop-number.looks.items c.loop-number.least (slice_index_or c.args.numbers.now c.loop-number.number-index 0) c.loop-number.invariant.below (omega arith));
+    fit = rw w.looks-is c.loop-number.invariant.fit;
     taken = rw w.looks-is c.loop-number.invariant.taken;
   }
 ]

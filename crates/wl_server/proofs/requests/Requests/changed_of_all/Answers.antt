@@ -1,5 +1,7 @@
 use Rattle.std.proofs.Common.{rules, ap, ◌∙◌}
-use Rattle.wl_server.proofs.Looks.{at_first, passed, looked}
+use Rattle.std.proofs.lemmas.List.Elements.{All-push}
+use Rattle.wl_session.specs.Told.{Fits}
+use Rattle.wl_server.proofs.Looks.{at_first, passed, looked, taken_more}
 use Rattle.std.specs.BTreeMap.IterMut.{iter_mut_rest}
 use Rattle.wl_server.proofs.requests.Requests.changed_of_all.Goals as goal
 
@@ -11,6 +13,7 @@ loop-number-init c =
       is_finite = search rules;
       by_number = search rules;
       to_come = rw (c.new-looks.ensures.items, is) (at_first c.args.self.now.by_number.entries c.iter_mut-number-items.ensures.ordered);
+      fit = search rules;
       taken = search rules;
     }
 
@@ -20,16 +23,20 @@ loop-number-preserved c = record {
   is_finite = search rules;
   by_number = search rules;
   to_come = passed _ (c.in-Some.number.now, c.in-Some.request.now) _ (rw c.in-Some.ensures.steps at c.loop-number.invariant.to_come);
+  fit = search rules;
   taken = search rules;
 }
 
 pub loop-number-preserved-in-Continue-1 : goal.loop-number-preserved-in-Continue-1
 loop-number-preserved-in-Continue-1 c =
-    let both = looked _ c.found-phase.result (c.in-Some.number.now, c.in-Some.request.now) _ c.loop-number.invariant.by_number (rw c.in-Some.ensures.steps at c.loop-number.invariant.to_come) in
+    let phase = c.in-Some-news.phase in
+    let items = c.in_ok-push.ensures.items in
+    let both = looked _ phase (c.in-Some.number.now, c.in-Some.request.now) _ c.loop-number.invariant.by_number (rw c.in-Some.ensures.steps at c.loop-number.invariant.to_come) in
     record {
       can_next = search rules;
       is_finite = search rules;
-      by_number = rw c.in_ok-push.ensures.items both.0;
-      to_come = rw c.in_ok-push.ensures.items both.1;
-      taken = search rules;
+      by_number = rw items both.0;
+      to_come = rw items both.1;
+      fit = rw items (All-push (Fits c.args.outcome.now c.args.session.now.told) c.loop-number.looks.items (c.in-Some.number.now, phase) c.loop-number.invariant.fit c.in-Some-news.ensures.0);
+      taken = rw items (taken_more c.loop-number.looks.items c.in-Some.number.now phase c.loop-number.invariant.taken c.in-Some-news.ensures.1);
     }

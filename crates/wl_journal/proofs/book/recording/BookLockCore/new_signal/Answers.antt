@@ -6,8 +6,8 @@ use Rattle.wl_journal.proofs.book.recording.BookLockCore.new_signal.Goals as goa
 
 pub invariant_of-self-2 : goal.invariant_of-self-2
 invariant_of-self-2 g c =
-    let room = c.in-Ok.ensures.room in
+    let room = c.in_ok-make_room.ensures.room in
     let len = c.self.inside.entries.ok.0 in
-    let same = c.in-Ok.ensures.len in
+    let same = c.in_ok-make_room.ensures.len in
     let capacity = c.push_reserved.ensures.capacity in
     grown _ _ _ c.self.inside.entries.items c.push_reserved.new.self.items _ _ _ _ _ 1 (command.NewSignal c.args.agent) (reply.Signal c.in_ok-signal.signal) _ c.self.invariant c.in_ok-signal.ensures.made refl refl (search rules) refl (omega (arith, room, len, same, capacity))

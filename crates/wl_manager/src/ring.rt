@@ -1,0 +1,106 @@
+//! Lists of what changed, which are added to without memory and without waiting.
+
+use std::alloc::Global;
+use std::hint::spin_loop;
+use std::sync::atomic::{AtomicBool, Ordering};
+use std::sync::{Arc, Mutex};
+use wl_types::Memory;
+
+/// How often a list that another thread uses is tried. It is used for a few instructions.
+const TRIES: u32 = 64;
+
+/// The numbers of what changed until somebody collects them: of an agent's requests, or of the agents of a loop.
+/// Whoever adds one waits for nobody and takes no memory: its place was reserved before. A number that finds no place is
+/// missed, and then anything may have changed.
+#[derive(Drop)]
+pub struct Ring {
+    changed: Mutex<Vec<u64>>,
+    missed: AtomicBool,
+    // A number was added since this was last taken.
+    rung: AtomicBool,
+}
+
+impl Ring {
+    pub fn new(alloc: Global) -> Ring {
+        Ring {
+            changed: Mutex::new(Vec::new(alloc)),
+            missed: AtomicBool::new(false),
+            rung: AtomicBool::new(false),
+        }
+    }
+
+    /// Makes room for this many numbers in all. Where another thread uses the list, that is left to a later call.
+    pub fn reserve(&self, places: usize) -> Result<(), Memory> {
+        if let Some(mut changed) = self.changed.try_lock() {
+            let more = places.saturating_sub(changed.len());
+            changed.reserve(more)?;
+        }
+        Ok(())
+    }
+
+    /// Adds a number, and answers whether nothing was added since `take_rung` was last called.
+    pub fn add(&self, number: u64) -> bool {
+        if !self.put(number) {
+            self.missed.store(true, Ordering::SeqCst);
+        }
+        !self.rung.swap(true, Ordering::SeqCst)
+    }
+
+    /// Puts a number with those that changed, and answers whether there was a place for it.
+    fn put(&self, number: u64) -> bool {
+        for _ in 0..TRIES {
+            if let Some(mut changed) = self.changed.try_lock() {
+                if changed.len() < changed.capacity() {
+                    changed.push_reserved(number);
+                    return true;
+                }
+                return false;
+            }
+            spin_loop();
+        }
+        false
+    }
+
+    /// Whether something was added since `take_rung` was last called.
+    pub fn is_rung(&self) -> bool {
+        self.rung.load(Ordering::SeqCst)
+    }
+
+    /// The same, and from now on nothing was.
+    pub fn take_rung(&self) -> bool {
+        self.is_rung() && self.rung.swap(false, Ordering::SeqCst)
+    }
+
+    /// Puts the numbers that were added in place of those that the list has, in no order and some more than once, and
+    /// answers whether these are all. They are copied, so that the places stay reserved.
+    pub fn collect(&self, numbers: &mut Vec<u64>) -> bool {
+        numbers.clear();
+        let Some(mut changed) = self.changed.try_lock() else {
+            return false;
+        };
+        let is_copied = numbers.extend_from_slice(&changed).is_ok();
+        changed.clear();
+        drop(changed);
+        !self.missed.swap(false, Ordering::SeqCst) && is_copied
+    }
+}
+
+/// An agent's place in the ring of a loop: rung once when the agent has changed requests, until it collects them.
+#[derive(Drop)]
+pub struct Bell {
+    ring: Arc<Ring>,
+    place: u64,
+}
+
+impl Bell {
+    /// A bell that adds this place to the ring, which has room for one place of each bell.
+    pub fn new(ring: &Arc<Ring>, place: u64) -> Result<Bell, Memory> {
+        let ring = Arc::try_clone(ring)?;
+        ring.reserve(Arc::strong_count(&ring))?;
+        Ok(Bell { ring, place })
+    }
+
+    pub(crate) fn ring(&self) {
+        self.ring.add(self.place);
+    }
+}

@@ -1,0 +1,78 @@
+//! Refusals come before want of memory: tests/refuse_growths runs this with all growths refused from some point on.
+
+use super::{Plain, PlainAgent, plain};
+use std::alloc::Global;
+use std::sync::{Arc, Wait};
+use std::test::Fail;
+use wl_manager::Manager;
+use wl_samples::ask;
+use wl_types::{Ask, Kind, Mode, Reason, Refusal};
+
+/// A manager that is full: an inactive window, a worker with all its signals, and others.
+#[derive(Drop)]
+struct Full {
+    manager: Arc<Plain>,
+    window: PlainAgent,
+    worker: PlainAgent,
+    others: Vec<PlainAgent>,
+}
+
+fn full_manager<R: Wait>(rt: &R, alloc: Global) -> Result<Full, Fail> {
+    let manager = plain(rt, alloc)?;
+    let mut window = Manager::open(&manager, rt, Kind::Window)?;
+    let mut worker = Manager::open(&manager, rt, Kind::Worker)?;
+    window.set_active(rt, false)?;
+    for _ in 0..1024 {
+        worker.new_signal(rt)?;
+    }
+    let mut others = Vec::new(alloc);
+    for _ in 2..4096 {
+        others.push(Manager::open(&manager, rt, Kind::Worker)?)?;
+    }
+    Ok(Full {
+        manager,
+        window,
+        worker,
+        others,
+    })
+}
+
+/// Why each call is refused, in turn.
+type Refusals = [Option<Refusal>; 7];
+
+const DUE: Refusals = [
+    Some(Refusal::TooManyAgents),
+    Some(Refusal::InvalidState),
+    Some(Refusal::InvalidState),
+    Some(Refusal::ReservedName),
+    Some(Refusal::NotAWindow),
+    Some(Refusal::TooManySignals),
+    Some(Refusal::NoSuchSignal),
+];
+
+fn refusals<R: Wait>(rt: &R, full: &mut Full, asked: &Ask, reserved: &Ask) -> Refusals {
+    let Full {
+        manager,
+        window,
+        worker,
+        ..
+    } = full;
+    [
+        Manager::open(manager, rt, Kind::Window).err(),
+        window.request(rt, asked).err(),
+        window.query(rt).err(),
+        worker.request(rt, reserved).err(),
+        worker.set_active(rt, true).err(),
+        worker.new_signal(rt).err(),
+        worker.abort(rt, 1025, Reason::AbortError).err(),
+    ]
+}
+
+#[test]
+fn refusals_come_before_memory(rt: HostRuntime) -> Result<(), Fail> {
+    let mut full = full_manager(&rt, rt.alloc())?;
+    let asked = ask(rt.alloc(), "db", Mode::Exclusive)?;
+    let reserved = ask(rt.alloc(), "-db", Mode::Exclusive)?;
+    assert!(rt; refusals(&rt, &mut full, &asked, &reserved) == DUE);
+    Ok(())
+}

@@ -1,0 +1,79 @@
+//! A take and a steal of one granted lock, on two threads.
+
+use crate::manager::{Plain, PlainAgent, PlainTicket, audited, plain, summed};
+use std::alloc::Global;
+use std::process::Abort;
+use std::sync::{Arc, Wait};
+use std::test::Fail;
+use std::thread;
+use std::thread::Threads;
+use wl_cell::Taking;
+use wl_core::ReleaseAnswer;
+use wl_manager::Manager;
+use wl_samples::ask;
+use wl_types::{Ask, Kind, Memory, Mode, Phase, Refusal};
+
+/// What the take answers, where the request is then, and what the thief's release answers.
+type Outcome = (Taking, Phase, ReleaseAnswer);
+
+/// The lock is stolen in any case, and the thief has it.
+fn stolen(taking: Taking) -> Outcome {
+    (taking, Phase::Stolen, ReleaseAnswer::Released)
+}
+
+fn race<R: Threads + Wait + Sync>(
+    rt: &R,
+    ticket: &mut PlainTicket,
+    thief: &mut PlainAgent,
+    stealing: &Ask,
+) -> (Taking, Result<PlainTicket, Refusal>) {
+    thread::join(rt, || ticket.take(), || thief.request(rt, stealing))
+}
+
+/// A race over a new lock.
+fn race_anew<R: Threads + Wait + Sync>(
+    rt: &R,
+    agent: &mut PlainAgent,
+    asked: &Ask,
+    thief: &mut PlainAgent,
+    stealing: &Ask,
+) -> Result<Outcome, Refusal> {
+    let mut ticket = agent.request(rt, asked)?;
+    let (taking, theirs) = race(rt, &mut ticket, thief, stealing);
+    let mut theirs = theirs?;
+    Ok((taking, ticket.look(), thief.release(rt, &mut theirs)))
+}
+
+fn assert_thefts<R: Threads + Wait + Abort + Sync>(
+    rt: &R,
+    manager: &Arc<Plain>,
+    asked: &Ask,
+    stealing: &Ask,
+) -> Result<(), Refusal> {
+    let mut agent = Manager::open(manager, rt, Kind::Window)?;
+    let mut thief = Manager::open(manager, rt, Kind::Window)?;
+    for _ in 0..1000 {
+        let outcome = race_anew(rt, &mut agent, asked, &mut thief, stealing)?;
+        assert!(rt;
+            outcome == stolen(Taking::Taken) || outcome == stolen(Taking::Before(Phase::Stolen)),
+            "{outcome:?}"
+        );
+    }
+    Ok(())
+}
+
+fn stealing(alloc: Global) -> Result<Ask, Memory> {
+    let mut asked = ask(alloc, "db", Mode::Exclusive)?;
+    asked.steal = true;
+    Ok(asked)
+}
+
+#[test]
+fn a_take_and_a_theft_race_a_thousand_times(rt: HostRuntime) -> Result<(), Fail> {
+    let manager = plain(&rt, rt.alloc())?;
+    let asked = ask(rt.alloc(), "db", Mode::Exclusive)?;
+    assert_thefts(&rt, &manager, &asked, &stealing(rt.alloc())?)?;
+    assert_eq!(rt; audited(&rt, rt.alloc(), &manager), (true, 3002));
+    assert_eq!(rt; summed(&rt, &manager).takes, 0);
+    Ok(())
+}

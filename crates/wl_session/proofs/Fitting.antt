@@ -1,0 +1,35 @@
+-- Looks that fit what was told.
+use Rattle.std.proofs.Common.{◌≡◌, ◌∙◌, ℕ, List, Bool, true, false, inl, inr, refl, sym, ap, subst, cond}
+use Rattle.std.specs.Prelude.{slice_index_or}
+use Rattle.wl_types.specs.declared.phases.Phase.{Phase}
+use Rattle.wl_types.specs.declared.phases.Phase.TheVariants.{Pending, Granted, Taken, Unavailable, Aborted, Released, Stolen}
+use Rattle.wl_types.specs.Phases.{Reaches}
+use Rattle.wl_codec.specs.declared.reply.Outcome.{Outcome}
+use Rattle.wl_session.specs.Places.{IsAt}
+use Rattle.wl_session.specs.Told.{Look, Fits, is_new, phase_in}
+
+pending_reaches : (to : Phase) → Reaches Pending to
+pending_reaches Pending = inl refl
+pending_reaches Granted = inr refl
+pending_reaches Taken = inr refl
+pending_reaches Unavailable = inr refl
+pending_reaches (Aborted reason) = inr refl
+pending_reaches Released = inr refl
+pending_reaches Stolen = inr refl
+
+-- the request that the reply answers starts as Pending
+pub fits_new : (o : Outcome) (told : List Look) (look : Look) → is_new o look.0 ≡ true → Fits o told look
+fits_new o told look new = record {
+  known = inl new;
+  reached = subst (λ (b : Bool). Reaches (cond b Pending (phase_in told look.0)) look.1) (sym new) (pending_reaches look.1);
+}
+
+-- one that stands in the list was told the phase there
+pub fits_told : (o : Outcome) (told : List Look) (look : Look) (at : ℕ) → is_new o look.0 ≡ false → IsAt told look.0 at → Reaches (slice_index_or told at (0, Pending)).1 look.1 → Fits o told look
+fits_told o told look at old place reached =
+    let here : Look = (look.0, phase_in told look.0) in
+    let found : slice_index_or told at here ≡ here = ap (λ (n : ℕ). (n, (slice_index_or told at here).1)) (place.number here) ∙ ap (λ (p : Phase). (look.0, p)) (place.phase here) in
+    record {
+      known = inr (at, here, place.in_range, found, refl);
+      reached = subst (λ (b : Bool). Reaches (cond b Pending (phase_in told look.0)) look.1) (sym old) (subst (λ (p : Phase). Reaches p look.1) (place.phase (0, Pending)) reached);
+    }
