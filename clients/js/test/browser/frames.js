@@ -1,4 +1,4 @@
-/** Agents in a page: each is a frame of the page's origin, whose own navigator.locks it is. */
+/** Agents in a page: each is a frame of the page's origin, whose navigator.locks it is. */
 
 import { CALLS } from "../standard/opaque_calls.js";
 
@@ -16,16 +16,20 @@ async function frame(attributes) {
   return element;
 }
 
-/** A frame ends with its element, and a LockManager that was taken out of it is of a document that isn't active. */
-async function frameAgent(source) {
+/** A frame's agent ends with its element. */
+async function frameAgent(source, deactivate) {
   const element = await frame({ src: source });
   const { contentWindow } = element;
   await contentWindow.ready;
   // (of a window whose frame was removed these can't be had)
   const { DOMException, Promise, TypeError } = contentWindow;
-  const remove = async () => element.remove();
   const { locks } = contentWindow.navigator;
-  return { locks, realm: { DOMException, Promise, TypeError }, end: remove, deactivate: remove };
+  return {
+    locks,
+    realm: { DOMException, Promise, TypeError },
+    end: async () => element.remove(),
+    deactivate: () => deactivate(element, locks),
+  };
 }
 
 /** A sandboxed frame, of an opaque origin, which makes the calls itself and tells what they were rejected with. */
@@ -46,20 +50,32 @@ async function sandboxedAgent(source) {
   };
 }
 
+/** The LockManager of a frame that was removed is of a document that isn't active. */
+async function removeFrame(element) {
+  element.remove();
+}
+
+/** A service is told by the page. */
+async function tellService(_, locks) {
+  await locks.setActive(false);
+}
+
 /**
  * An environment whose agents are frames.
  *
- * @param source the page of a frame: its `ready` is a promise after which its navigator.locks may be used.
- * @param opaque the page of a sandboxed frame: it posts a message when it is ready, and then answers each.
+ * @param options where given, what the frames install a service's LockManager by; else they have the browser's.
  */
-export function frameEnvironment(source, opaque) {
+export function frameEnvironment(options = null) {
+  const search = options ? `?install=${encodeURIComponent(JSON.stringify(options))}` : "";
+  const [source, opaque] = [`agent.html${search}`, `opaque.html${search}`];
+  const deactivate = options ? tellService : removeFrame;
   const made = [];
   const kept = async (agent) => {
     made.push(await agent);
     return made.at(-1);
   };
   return {
-    agents: (count) => Promise.all(Array.from({ length: count }, () => kept(frameAgent(source)))),
+    agents: (count) => Promise.all(Array.from({ length: count }, () => kept(frameAgent(source, deactivate)))),
     opaqueAgent: () => kept(sandboxedAgent(opaque)),
     end: () => Promise.all(made.map((it) => it.end())),
   };

@@ -3,7 +3,7 @@
 import { cases } from "./cases.js";
 
 /** What a case may take at most. A case that is stuck ends then, and so the run ends. */
-const MILLISECONDS = 15_000;
+export const CASE_MILLISECONDS = 15_000;
 
 /** What an agent's last release may take until another agent sees it. */
 const SETTLING = 1000;
@@ -21,10 +21,10 @@ async function expectNothingLeft(environment) {
   }
 }
 
-function timeLimit() {
+function timeLimit(milliseconds) {
   let timer;
   const promise = new Promise((_, reject) => {
-    timer = setTimeout(() => reject(new Error(`it took more than ${MILLISECONDS} ms`)), MILLISECONDS);
+    timer = setTimeout(() => reject(new Error(`it took more than ${milliseconds} ms`)), milliseconds);
   });
   return { promise, clear: () => clearTimeout(timer) };
 }
@@ -35,9 +35,9 @@ async function runWhole(run, environment) {
 }
 
 /** Runs one case in an environment of its own, and answers `{ name, fault, milliseconds }`, where no fault is null. */
-async function runCase({ name, run }, makeEnvironment) {
+async function runCase({ name, run }, makeEnvironment, milliseconds) {
   const begun = performance.now();
-  const limit = timeLimit();
+  const limit = timeLimit(milliseconds);
   let fault = null;
   let environment;
   try {
@@ -55,12 +55,12 @@ async function runCase({ name, run }, makeEnvironment) {
  * Runs the cases one after the other.
  *
  * @param makeEnvironment what makes an environment for one case: `agents`, `opaqueAgent` and `end`, which ends all.
- * @param only where given, a text that the names of the cases to run contain.
+ * @param milliseconds what a case may take at most.
  */
-export async function runCases(makeEnvironment, only = "") {
+export async function runCases(makeEnvironment, milliseconds = CASE_MILLISECONDS) {
   const results = [];
-  for (const it of cases.filter(({ name }) => name.includes(only))) {
-    results.push(await runCase(it, makeEnvironment));
+  for (const it of cases) {
+    results.push(await runCase(it, makeEnvironment, milliseconds));
   }
   return results;
 }

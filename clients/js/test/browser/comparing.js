@@ -1,0 +1,50 @@
+/** Has the cases run in a page of Chromium, and makes a test of each of its results. */
+
+import assert from "node:assert/strict";
+
+import { cases } from "../standard/cases.js";
+
+/** What all cases of one run may take. */
+const RUN_MILLISECONDS = 600_000;
+
+/** Runs the cases in a new page on what `cases.html` has by this name, and answers each one's result by its name. */
+export async function resultsInPage(chromium, filesUrl, name, options, milliseconds) {
+  const page = await chromium.open(`${filesUrl}/test/browser/cases.html`);
+  const given = [name, options ?? null, milliseconds].map((it) => JSON.stringify(it)).join(", ");
+  const results = await page.evaluate(`runCasesOn(${given})`, RUN_MILLISECONDS);
+  assert.deepEqual(page.faults, [], "errors that nobody caught in the page");
+  return byName(results);
+}
+
+/** The results by the names of their cases, which are all cases. */
+export function byName(results) {
+  assert.deepEqual(results.map((it) => it.name), cases.map((it) => it.name));
+  return new Map(results.map((it) => [it.name, it]));
+}
+
+/** A test for each case, which passes where the case did. */
+export async function testEach(test, results) {
+  for (const { name } of cases) {
+    await test.test(name, () => {
+      const { fault } = results.get(name);
+      assert.equal(fault, null);
+    });
+  }
+}
+
+/** A test for each case, which passes where the case did just if it isn't among these deviations. */
+export async function testEachBut(test, results, deviations) {
+  for (const { name } of cases) {
+    await test.test(name, (it) => {
+      const { fault } = results.get(name);
+      const deviation = deviations.get(name);
+      if (deviation && fault !== null) {
+        it.diagnostic(`deviates (${deviation.section}): it ${deviation.does}. Seen: ${fault}`);
+      } else if (deviation && !deviation.isByChance) {
+        assert.fail("it is said to deviate here, and does no longer");
+      } else {
+        assert.equal(fault, null);
+      }
+    });
+  }
+}
