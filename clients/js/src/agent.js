@@ -1,0 +1,116 @@
+/** An agent of the service: a connection that opened, its signals, and its requests by the service's numbers. */
+
+import { Connection } from "./connection.js";
+import { faultOfRefusal } from "./faults.js";
+import { openMessage } from "./settings.js";
+import { SignalSupply } from "./signals.js";
+import { openSocket } from "./transport.js";
+
+export class Agent {
+  #connection;
+  #requests = new Map();
+  #waiting = 0;
+  #onLost;
+
+  /** Its signals. */
+  signals = new SignalSupply((answered) => {
+    this.ask({ op: "signal" }, ({ ok }) => answered(ok?.signal ?? null));
+  });
+
+  /** The service's name of it, or null where its origin is opaque. */
+  clientId = null;
+
+  constructor(opened, settings, onLost) {
+    this.#onLost = onLost;
+    this.#connection = new Connection(opened, settings, {
+      onNotice: (notice) => this.#requests.get(notice.request)?.hear(notice.phase),
+      onLost: (fault) => this.#onLost(fault, this),
+    });
+  }
+
+  /**
+   * Connects and opens an agent, which has a signal to spare.
+   *
+   * @param {object} settings as `readSettings` gives them
+   * @param {(fault: Error, agent: Agent) => void} onLost called when the connection is lost later
+   * @param {AbortSignal} signal gives up
+   * @returns {Promise<Agent>} rejected where there is no connection, or the service refuses the agent
+   */
+  static async open(settings, onLost, signal) {
+    const opened = await openSocket(settings, signal);
+    return new Promise((resolve, reject) => {
+      const agent = new Agent(opened, settings, reject);
+      const giveUp = () => {
+        agent.cut();
+        reject(signal.reason);
+      };
+      const ready = () => {
+        signal.removeEventListener("abort", giveUp);
+        agent.#onLost = onLost;
+        resolve(agent);
+      };
+      if (signal.aborted) return giveUp();
+      signal.addEventListener("abort", giveUp);
+      agent.#open(openMessage(settings), ready, reject);
+    });
+  }
+
+  #open(message, ready, refused) {
+    this.ask(message, ({ ok, error }) => {
+      if (error !== undefined) {
+        this.cut();
+        refused(faultOfRefusal(error));
+        return;
+      }
+      this.clientId = ok.client;
+      if (this.clientId === null) ready();
+      else this.signals.provide(1, ready);
+    });
+  }
+
+  /** Sends a message; `answered` is called with its reply. */
+  ask(message, answered) {
+    this.#connection.ask(message, answered);
+  }
+
+  /** Whether none of its requests is live. */
+  get isIdle() {
+    return this.#requests.size === 0 && this.#waiting === 0;
+  }
+
+  /** A request was sent, and news of it is waited for. */
+  beginWaiting() {
+    this.#waiting += 1;
+    if (this.#waiting === 1) this.#connection.isWaiting = true;
+  }
+
+  /** News of a request came. */
+  endWaiting() {
+    this.#waiting -= 1;
+    if (this.#waiting === 0) this.#connection.isWaiting = false;
+  }
+
+  /** The service has given a request a number, by which it tells of it. */
+  enter(number, request) {
+    this.#requests.set(number, request);
+  }
+
+  /** The service has no more to tell of a request. */
+  remove(number) {
+    this.#requests.delete(number);
+  }
+
+  /** Ends the agent and then its connection; `ended` is called once its locks have passed on. */
+  close(ended) {
+    this.#onLost = ended;
+    this.ask({ op: "close" }, () => {
+      this.#connection.end();
+      ended();
+    });
+  }
+
+  /** Ends the connection at once. */
+  cut() {
+    this.#connection.cut();
+  }
+}

@@ -1,0 +1,156 @@
+/** One call of `request`, as its page sees it: its promise, its callback and its signal. */
+
+import { abortReason } from "./arguments.js";
+import { makeLock } from "./lock.js";
+import { runAsTask } from "./tasks.js";
+
+/** What a call has come to. */
+const WAITING = "waiting";
+const GRANTED = "granted"; // its callback is about to be called
+const HELD = "held"; // its callback was called
+const RELEASING = "releasing"; // what that returned has settled
+const ENDED = "ended"; // its promise is settled, or follows what the callback returned
+
+/** Which call made a lock. */
+const callOfLock = new WeakMap();
+
+export class Call {
+  #asked;
+  #onAbort;
+  #onReturn;
+  #onEnd;
+  #state = WAITING;
+  #turn = 0;
+  #result;
+  #resolve;
+  #reject;
+  #loss = new AbortController();
+  #heedAbort = () => this.#abort();
+
+  /**
+   * @param {object} asked what `readArguments` read
+   * @param {{onAbort: (call: Call) => void, onReturn: (call: Call) => void, onEnd: (call: Call) => void}} listeners
+   *   `onAbort` where the signal ended the call, `onReturn` where the lock is to be released, `onEnd` once it has ended
+   */
+  constructor(asked, { onAbort, onReturn, onEnd }) {
+    this.#asked = asked;
+    this.#onAbort = onAbort;
+    this.#onReturn = onReturn;
+    this.#onEnd = onEnd;
+    /** What `request` returns. */
+    this.promise = new Promise((resolve, reject) => {
+      this.#resolve = resolve;
+      this.#reject = reject;
+    });
+    asked.signal?.addEventListener("abort", this.#heedAbort, { once: true, capture: true });
+  }
+
+  /** What was asked for. */
+  get asked() {
+    return this.#asked;
+  }
+
+  /** Whether to ask twice changes nothing but the time. */
+  get isPlain() {
+    return !this.#asked.ifAvailable && !this.#asked.steal;
+  }
+
+  /** Whether the callback was called with a lock, which wasn't released yet. */
+  get isHeld() {
+    return this.#state === HELD || this.#state === RELEASING;
+  }
+
+  /** Aborted when the lock is stolen or lost while it is held. */
+  get lostSignal() {
+    return this.#loss.signal;
+  }
+
+  /** The lock is held: calls the callback, in a task of its own. False where the call has ended before. */
+  grant() {
+    if (this.#state === ENDED) return false;
+    this.#callLater(makeLock(this.#asked.name, this.#asked.mode));
+    return true;
+  }
+
+  /** The lock wasn't available: the callback is called with null. */
+  tellUnavailable() {
+    if (this.#state !== ENDED) this.#callLater(null);
+  }
+
+  /** The release was answered: the promise settles as what the callback returned. */
+  finish() {
+    if (this.#state !== RELEASING) return;
+    this.#close();
+    this.#resolve(this.#result);
+  }
+
+  /** Rejects the promise, unless it is settled. A callback that runs goes on, and its lock's lost signal is aborted. */
+  end(fault) {
+    if (this.#state === ENDED) return;
+    const wasHeld = this.isHeld;
+    this.#close();
+    this.#reject(fault);
+    if (wasHeld) this.#loss.abort(fault);
+  }
+
+  /** What was granted is lost before the callback was called: the call waits again. */
+  waitAgain() {
+    this.#state = WAITING;
+    this.#turn += 1;
+  }
+
+  #callLater(lock) {
+    this.#state = GRANTED;
+    this.#turn += 1;
+    const turn = this.#turn;
+    runAsTask(() => {
+      if (this.#state === GRANTED && this.#turn === turn) this.#call(lock);
+    });
+  }
+
+  #call(lock) {
+    this.#ignoreSignal();
+    this.#state = HELD;
+    if (lock !== null) callOfLock.set(lock, this);
+    this.#result = new Promise((resolve) => {
+      resolve(Reflect.apply(this.#asked.callback, undefined, [lock]));
+    });
+    const returned = () => this.#return();
+    if (lock !== null) this.#result.then(returned, returned);
+    else this.#settleUnheld();
+  }
+
+  /** There is no lock to release. */
+  #settleUnheld() {
+    if (this.#state === ENDED) return;
+    this.#close();
+    this.#resolve(this.#result);
+  }
+
+  #return() {
+    if (this.#state !== HELD) return;
+    this.#state = RELEASING;
+    this.#onReturn(this);
+  }
+
+  #abort() {
+    this.#onAbort(this);
+    this.#close();
+    this.#reject(abortReason(this.#asked.signal));
+  }
+
+  #close() {
+    this.#state = ENDED;
+    this.#ignoreSignal();
+    this.#onEnd(this);
+  }
+
+  #ignoreSignal() {
+    this.#asked.signal?.removeEventListener("abort", this.#heedAbort, { capture: true });
+  }
+}
+
+/** The signal that says that a lock was stolen or lost, or undefined for what isn't a lock. */
+export function lostSignalOf(lock) {
+  return callOfLock.get(lock)?.lostSignal;
+}

@@ -1,0 +1,147 @@
+/** One connection: messages, which are answered in their order, its heartbeat, and polls where nothing is pushed. */
+
+import { faultOfClose, networkError } from "./faults.js";
+import { Queue } from "./queue.js";
+import { isPush, readReply } from "./replies.js";
+import { runAsTask } from "./tasks.js";
+import { OPEN, cutSocket } from "./transport.js";
+
+export class Connection {
+  #socket;
+  #pushes;
+  #onNotice;
+  #onLost;
+  #unanswered = new Queue();
+  #lastId = 0;
+  #isOver = false;
+  #heartbeat;
+  #isBeating = false;
+  #wasHeard = true;
+  #pollTime;
+  #pollTimer = null;
+  #isPolling = false;
+  #isWaiting = false;
+
+  /**
+   * @param {{socket: WebSocket, pushes: boolean}} opened
+   * @param {{heartbeat: number, poll: number}} settings in milliseconds
+   * @param {{onNotice: (notice: object) => void, onLost: (fault: Error) => void}} listeners `onLost` is called once at
+   *   most, and not for an end that was asked for
+   */
+  constructor({ socket, pushes }, { heartbeat, poll }, { onNotice, onLost }) {
+    this.#socket = socket;
+    this.#pushes = pushes;
+    this.#onNotice = onNotice;
+    this.#onLost = onLost;
+    this.#pollTime = poll;
+    socket.onmessage = (event) => this.#read(event.data);
+    socket.onclose = (event) => this.#lose(faultOfClose(event.code, event.reason));
+    socket.onerror = () => {};
+    this.#heartbeat = setInterval(() => this.#beat(), heartbeat);
+    if (socket.readyState !== OPEN) runAsTask(() => this.#lose(faultOfClose(1006, "")));
+  }
+
+  /** Whether the server tells news without being asked. */
+  get pushes() {
+    return this.#pushes;
+  }
+
+  /** Sends a message, which is given an id; `answered` is called with its reply, before the reply's notices are. */
+  ask(message, answered) {
+    if (this.#isOver) return;
+    this.#lastId += 1;
+    this.#unanswered.push({ id: this.#lastId, answered });
+    this.#socket.send(JSON.stringify({ id: this.#lastId, ...message }));
+  }
+
+  /** Says whether news is waited for, and so polled for where the server doesn't push. */
+  set isWaiting(isWaiting) {
+    this.#isWaiting = isWaiting;
+    this.#schedulePoll();
+  }
+
+  /** Ends the connection in good order. */
+  end() {
+    if (this.#stop()) this.#socket.close(1000);
+  }
+
+  /** Ends the connection at once. */
+  cut() {
+    if (this.#stop()) cutSocket(this.#socket);
+  }
+
+  #read(data) {
+    if (this.#isOver) return;
+    let reply;
+    try {
+      reply = readReply(data);
+    } catch (fault) {
+      this.#fail(`The server sent ${fault.message}`);
+      return;
+    }
+    if (!isPush(reply) && !this.#answer(reply)) return;
+    for (const notice of reply.notices) this.#onNotice(notice);
+  }
+
+  #answer(reply) {
+    const asked = this.#unanswered.shift();
+    if (asked === undefined || asked.id !== reply.id) {
+      this.#fail("The server sent a reply to what wasn't asked");
+      return false;
+    }
+    this.#wasHeard = true;
+    asked.answered(reply);
+    return true;
+  }
+
+  /** A reply shows that both ways are open, a push only that one is: so only replies count as life. */
+  #beat() {
+    if (this.#isBeating && !this.#wasHeard) {
+      // What has come by now, though it wasn't read yet, comes first: this timer may be late.
+      runAsTask(() => {
+        if (!this.#wasHeard) this.#fail("The server doesn't answer");
+      });
+      return;
+    }
+    this.#wasHeard = false;
+    this.#isBeating = true;
+    this.ask({ op: "poll" }, () => {
+      this.#isBeating = false;
+    });
+  }
+
+  #schedulePoll() {
+    if (this.#pushes || !this.#isWaiting || this.#isOver || this.#isPolling || this.#pollTimer !== null) return;
+    this.#pollTimer = setTimeout(() => this.#poll(), this.#pollTime);
+  }
+
+  #poll() {
+    this.#pollTimer = null;
+    if (!this.#isWaiting) return;
+    this.#isPolling = true;
+    this.ask({ op: "poll" }, () => {
+      this.#isPolling = false;
+      this.#schedulePoll();
+    });
+  }
+
+  #fail(text) {
+    const socket = this.#socket;
+    this.#lose(networkError(text));
+    cutSocket(socket);
+  }
+
+  #lose(fault) {
+    if (this.#stop()) this.#onLost(fault);
+  }
+
+  #stop() {
+    if (this.#isOver) return false;
+    this.#isOver = true;
+    clearInterval(this.#heartbeat);
+    clearTimeout(this.#pollTimer);
+    this.#socket.onmessage = null;
+    this.#socket.onclose = null;
+    return true;
+  }
+}

@@ -1,0 +1,131 @@
+/** A request as the service has it: sent for a call, over the connection of one agent. */
+
+import { abortError, faultOfRefusal } from "./faults.js";
+import { escapeName } from "./names.js";
+
+export class LockRequest {
+  #call;
+  #outbox;
+  #onSent;
+  #onOver;
+  #number = null;
+  #loan = null;
+  #isWaiting = false;
+
+  /** Over which agent's connection it was sent; null until then. */
+  agent = null;
+
+  /** Whether it isn't to be sent any more. */
+  isCancelled = false;
+
+  /**
+   * @param {import("./call.js").Call} call
+   * @param {import("./outbox.js").Outbox} outbox
+   * @param {{onSent: (request: LockRequest) => void, onOver: (request: LockRequest) => void}} listeners `onSent` where
+   *   it was sent or won't be, `onOver` where the service has no more to tell of it
+   */
+  constructor(call, outbox, { onSent, onOver }) {
+    this.#call = call;
+    this.#outbox = outbox;
+    this.#onSent = onSent;
+    this.#onOver = onOver;
+  }
+
+  /** The call that it was sent for. */
+  get call() {
+    return this.#call;
+  }
+
+  /** Its message, or null where its signal needs one of the agent's, and none is ready. */
+  compose(agent) {
+    const { name, mode, ifAvailable, steal, signal } = this.#call.asked;
+    if (signal !== undefined) {
+      this.#loan = agent.signals.lend(signal);
+      if (this.#loan === null) return null;
+    }
+    this.agent = agent;
+    this.#isWaiting = true;
+    agent.beginWaiting();
+    this.#onSent(this);
+    return {
+      op: "request",
+      name: escapeName(name),
+      options: {
+        ...(ifAvailable && { ifAvailable }),
+        ...(mode === "shared" && { mode }),
+        ...(steal && { steal }),
+        ...(this.#loan !== null && { signal: this.#loan.number }),
+      },
+    };
+  }
+
+  /** Its reply: the number by which it will be told of, or a refusal. */
+  answered({ ok, error }) {
+    if (error !== undefined) {
+      this.#endWaiting();
+      this.#call.end(faultOfRefusal(error));
+      this.#onOver(this);
+      return;
+    }
+    this.#number = ok.request;
+    this.agent.enter(this.#number, this);
+  }
+
+  /** News of it, by the word of its phase. */
+  hear(phase) {
+    this.#endWaiting();
+    if (phase === "granted") {
+      if (!this.#call.grant()) this.release();
+      return;
+    }
+    if (phase === "unavailable") this.#call.tellUnavailable();
+    else if (phase === "stolen") this.#call.end(stolen());
+    this.#leave();
+  }
+
+  /** Gives up what was asked for: the call has ended. */
+  giveUp() {
+    if (this.agent === null) {
+      this.isCancelled = true;
+      this.#onSent(this);
+      this.#onOver(this);
+    } else if (!this.#isWaiting) {
+      this.release();
+    } else if (this.#loan !== null && !this.#loan.isAborted) {
+      const signal = this.#loan.number;
+      this.#loan.isAborted = true;
+      this.#send({ op: "abort", signal }, () => {});
+    }
+  }
+
+  /** Releases the lock. What isn't held any more was stolen. */
+  release() {
+    this.#send({ op: "release", request: this.#number }, ({ ok }) => {
+      if (ok?.release === "released") this.#call.finish();
+      else this.#call.end(stolen());
+      this.#leave();
+    });
+  }
+
+  #send(message, answered) {
+    this.#outbox.push({ agent: this.agent, isCancelled: false, compose: () => message, answered });
+  }
+
+  /** Its signal can serve the next request from here on. */
+  #endWaiting() {
+    if (!this.#isWaiting) return;
+    this.#isWaiting = false;
+    this.agent.endWaiting();
+    if (this.#loan !== null) this.agent.signals.takeBack(this.#loan);
+    this.#outbox.flush();
+  }
+
+  #leave() {
+    this.agent.remove(this.#number);
+    this.#onOver(this);
+  }
+}
+
+function stolen() {
+  return abortError("The lock was stolen");
+}

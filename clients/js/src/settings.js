@@ -1,0 +1,96 @@
+/** What `connect` and `install` are given, checked and with its defaults. */
+
+const KINDS = ["window", "worker"];
+const BUCKET = /^[a-z0-9][a-z0-9_-]{0,63}$/;
+const TOKEN = /^[!#$%&'*+\-.^_`|~0-9A-Za-z]+$/;
+const MESSAGE_BYTES = 65536;
+
+/** A heartbeat each 10 seconds, unless another number of milliseconds is given. */
+const HEARTBEAT = 10_000;
+
+/** Where the server doesn't push, a poll each 50 milliseconds while a request waits. */
+const POLL = 50;
+
+/**
+ * Reads the options.
+ *
+ * @param {object} options as `ConnectOptions` in weblocks.d.ts says
+ * @returns {{url: string, origin: string, kind: string, bucket: string, token: string | undefined, heartbeat: number,
+ *   poll: number, reconnect: boolean, WebSocket: Function | undefined}}
+ * @throws {TypeError} where an option is missing or wrong
+ */
+export function readSettings(options) {
+  if (typeof options !== "object" || options === null) throw new TypeError("The options aren't an object");
+  const { bucket = "default", heartbeat = HEARTBEAT, poll = POLL, reconnect = true, token, WebSocket } = options;
+  if (!BUCKET.test(bucket)) throw new TypeError(`The bucket '${bucket}' isn't the name of one`);
+  if (token !== undefined && !TOKEN.test(token)) throw new TypeError("The token has characters that no token has");
+  if (typeof reconnect !== "boolean") throw new TypeError("reconnect is neither true nor false");
+  if (WebSocket !== undefined && typeof WebSocket !== "function") throw new TypeError("WebSocket isn't a class");
+  return {
+    url: readUrl(options.url),
+    origin: readOrigin(options.origin),
+    kind: readKind(options.kind),
+    bucket,
+    token,
+    heartbeat: readTime("heartbeat", heartbeat),
+    poll: readTime("poll", poll),
+    reconnect,
+    WebSocket,
+  };
+}
+
+/** The message by which an agent opens. */
+export function openMessage({ origin, kind, bucket }) {
+  return { op: "open", url: origin, kind, bucket };
+}
+
+/** Whether an origin's locks are nobody's: that of a `data:` URL or a file, say. */
+export function isOpaque({ origin }) {
+  try {
+    return new URL(origin).origin === "null";
+  } catch {
+    return false;
+  }
+}
+
+function readUrl(given) {
+  if (given === undefined) throw new TypeError("The url of the server is missing");
+  const text = String(given);
+  const url = URL.canParse?.(text) === false ? null : parseUrl(text);
+  if (url === null || (url.protocol !== "ws:" && url.protocol !== "wss:") || url.hash !== "") {
+    throw new TypeError(`'${text}' isn't the URL of a WebSocket: it begins with ws: or wss: and has no fragment`);
+  }
+  return url.href;
+}
+
+function parseUrl(text) {
+  try {
+    return new URL(text);
+  } catch {
+    return null;
+  }
+}
+
+/** An opaque origin is serialized as `null`, which is no URL: any `data:` URL has such an origin too. */
+function readOrigin(given = globalThis.origin) {
+  if (given === undefined) throw new TypeError("The origin is missing, and here is no page that has one");
+  const origin = String(given);
+  if (new TextEncoder().encode(JSON.stringify(origin)).length > MESSAGE_BYTES / 2) {
+    throw new TypeError("The origin is too long for a message");
+  }
+  return origin === "null" ? "data:," : origin;
+}
+
+function readKind(given) {
+  if (given === undefined) return typeof WorkerGlobalScope === "undefined" ? "window" : "worker";
+  if (!KINDS.includes(given)) throw new TypeError(`The kind '${given}' is neither 'window' nor 'worker'`);
+  return given;
+}
+
+/** Timers take milliseconds up to 2^31 - 1. */
+function readTime(name, given) {
+  if (!Number.isFinite(given) || given < 1 || given > 0x7fff_ffff) {
+    throw new TypeError(`${name} isn't a number of milliseconds from 1 to 2147483647`);
+  }
+  return given;
+}

@@ -1,0 +1,102 @@
+/** A WebSocket to the server, of whichever class there is, and whether the server pushes over it. */
+
+import { networkError } from "./faults.js";
+
+/** The subprotocol of servers that tell news without being asked. */
+const PUSH = "weblocks.push";
+
+/** What stands before a token, where it is offered as a subprotocol. */
+const BEARER = "weblocks.bearer.";
+
+/** The state of a socket on which messages go both ways (HTML, `WebSocket.OPEN`). */
+export const OPEN = 1;
+
+/**
+ * Opens a socket. Pushes are asked for first; where that handshake fails, a second one offers no subprotocol, and a
+ * server that takes that one is polled.
+ *
+ * @param {object} settings as `readSettings` gives them
+ * @param {AbortSignal} signal gives up
+ * @returns {Promise<{socket: WebSocket, pushes: boolean}>}
+ */
+export async function openSocket(settings, signal) {
+  const Socket = await chooseSocket(settings.WebSocket);
+  const { url, token, heartbeat } = settings;
+  const offered = token === undefined ? [PUSH] : [PUSH, BEARER + token];
+  try {
+    const socket = await shakeHands(() => new Socket(url, offered), heartbeat, signal);
+    return { socket, pushes: socket.protocol === PUSH };
+  } catch (fault) {
+    if (signal.aborted || (token !== undefined && !sendsHeaders())) throw fault;
+    const socket = await shakeHands(() => openPlain(Socket, url, token), heartbeat, signal);
+    return { socket, pushes: false };
+  }
+}
+
+/** Ends a socket at once where its class can: closing waits for a peer that may be gone. */
+export function cutSocket(socket) {
+  if (typeof socket.terminate === "function") socket.terminate();
+  else socket.close();
+}
+
+async function chooseSocket(given) {
+  const Socket = given ?? globalThis.WebSocket;
+  return Socket ?? (await loadSocket());
+}
+
+/** The package `ws`, of this project's folders or else of those that Node's `require` looks in too, as a system's. */
+async function loadSocket() {
+  try {
+    return (await import("ws")).WebSocket;
+  } catch {
+    const { createRequire } = await import("node:module");
+    try {
+      return createRequire(import.meta.url)("ws");
+    } catch {
+      throw new TypeError("Here is no WebSocket: install the package ws, or give a class as the option WebSocket");
+    }
+  }
+}
+
+/** A browser's sockets send no headers of the page's choice; those of Node do. */
+function sendsHeaders() {
+  return typeof globalThis.process?.versions?.node === "string";
+}
+
+function openPlain(Socket, url, token) {
+  if (token === undefined) return new Socket(url);
+  return new Socket(url, { headers: { Authorization: `Bearer ${token}` } });
+}
+
+function shakeHands(create, patience, signal) {
+  return new Promise((resolve, reject) => {
+    const socket = create();
+    const fail = (text) => {
+      finish();
+      cutSocket(socket);
+      reject(networkError(text));
+    };
+    const giveUp = () => fail("Connecting was given up");
+    const timer = setTimeout(() => fail(`No server answered in ${patience} ms`), patience);
+    const finish = () => {
+      clearTimeout(timer);
+      signal.removeEventListener("abort", giveUp);
+      forget(socket);
+    };
+    signal.addEventListener("abort", giveUp);
+    socket.onopen = () => {
+      finish();
+      resolve(socket);
+    };
+    socket.onerror = (event) => fail(`No connection to the server: ${event.message || "its handshake failed"}`);
+    socket.onclose = (event) => fail(`The server closed the connection (close code ${event.code})`);
+  });
+}
+
+/** A socket of `ws` throws what it has no listener of errors for. */
+function forget(socket) {
+  socket.onopen = null;
+  socket.onmessage = null;
+  socket.onclose = null;
+  socket.onerror = () => {};
+}

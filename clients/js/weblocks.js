@@ -1,0 +1,20 @@
+/** Locks with the behaviour of the Web Locks API, shared by all who connect to one weblocks server. */
+
+import { makeManager } from "./src/manager.js";
+import { readSettings } from "./src/settings.js";
+
+export { Lock } from "./src/lock.js";
+export { LockManager, LostEvent } from "./src/manager.js";
+
+/**
+ * Connects to a server as an agent, and gives its LockManager.
+ *
+ * @param {import("./weblocks.d.ts").ConnectOptions} options
+ * @returns {Promise<LockManager>} rejected with a TypeError where an option is wrong, a NetworkError where no server
+ *   answers, a QuotaExceededError where it has no room, or a SecurityError where it doesn't let this page in
+ */
+export async function connect(options) {
+  const { manager, session } = makeManager(readSettings(options));
+  await session.open();
+  return manager;
+}
