@@ -10,7 +10,7 @@ const RUN_MILLISECONDS = 600_000;
 /** Runs the cases in a new page on what `cases.html` has by this name, and answers each one's result by its name. */
 export async function resultsInPage(chromium, filesUrl, name, options, milliseconds) {
   const page = await chromium.open(`${filesUrl}/test/browser/cases.html`);
-  const given = [name, options ?? null, milliseconds].map((it) => JSON.stringify(it)).join(", ");
+  const given = [name, options, milliseconds].map((it) => JSON.stringify(it) ?? "undefined").join(", ");
   const results = await page.evaluate(`runCasesOn(${given})`, RUN_MILLISECONDS);
   assert.deepEqual(page.faults, [], "errors that nobody caught in the page");
   return byName(results);

@@ -17,7 +17,8 @@ async function answer(top, request, response) {
     const data = await readFile(join(top, path));
     const type = TYPES[extname(path)] ?? "application/octet-stream";
     // (a module that a sandboxed page imports comes from another origin)
-    response.writeHead(200, { "Content-Type": type, "Access-Control-Allow-Origin": "*", "Cache-Control": "no-store" });
+    const headers = { "Access-Control-Allow-Origin": "*", "Cache-Control": "max-age=600" };
+    response.writeHead(200, { "Content-Type": type, ...headers });
     response.end(data);
   } catch {
     response.writeHead(404).end();

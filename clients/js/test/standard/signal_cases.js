@@ -16,7 +16,8 @@ async function expectAbortedBehindCall(agent, other) {
   await settled(agent);
   expectSame("the calls", calls, 0);
   expectSame("the reason", found.reason, reason);
-  expectTrue("whether it is free", await isFree(other, "right behind"));
+  // (what was granted meanwhile is released, which another agent may have to wait for)
+  expectSame("what the next gives", await other.locks.request("right behind", () => "next"), "next");
 }
 
 export const signalCases = {
@@ -190,6 +191,7 @@ export const signalCases = {
     for (const it of waits) {
       expectSame("the reason", await rejection("it", it.ended), reason);
     }
+    await settled(other);
     expectEqual("what is there", await modesOf(own, "one"), { held: ["exclusive"], pending: [] });
     expectEqual("how the held one ends", await held.release("value"), { value: "value" });
   },
@@ -262,8 +264,7 @@ export const signalCases = {
       await released;
     }
     expectSame("the requests", aborted + granted, 50);
-    expectEqual("what is left", await modesOf(own, "race"), { held: [], pending: [] });
-    expectTrue("whether it is free", await isFree(other, "race"));
+    expectSame("what the next gives", await other.locks.request("race", () => "next"), "next");
   },
 
   async "a hundred requests may be aborted one after the other"({ agents }) {
