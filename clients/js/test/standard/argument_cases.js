@@ -23,8 +23,8 @@ export const argumentCases = {
     const promises = calls.map((given) => own.locks.request(...given));
     for (const it of promises) {
       expectTrue("whether it is a promise", it instanceof own.realm.Promise);
-      await rejection("it", it);
     }
+    await Promise.all(promises.map((it) => rejection("it", it)));
   },
 
   async "each call returns a promise of its own"({ agents }) {

@@ -33,15 +33,16 @@ export const stealCases = {
     const called = deferred();
     const body = deferred();
     const steps = [];
-    const ended = own.locks.request("runs on", async () => {
+    const request = own.locks.request("runs on", async () => {
       called.resolve();
       await body.promise;
       steps.push("it ran on");
       return "its value";
     });
+    const ended = outcome(request);
     await called.promise;
     const thief = await hold(other, "runs on", STEAL);
-    expectSame("the holder's reason", (await rejection("it", ended)).name, "AbortError");
+    expectSame("the holder's reason", (await ended).reason?.name, "AbortError");
     body.resolve();
     await settled(own);
     expectEqual("its steps", steps, ["it ran on"]);
