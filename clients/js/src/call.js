@@ -120,10 +120,9 @@ export class Call {
     else this.#settleUnheld();
   }
 
-  /** There is no lock to release. */
+  /** There is no lock to release. (The callback may have closed the LockManager, which ended the call.) */
   #settleUnheld() {
-    if (this.#state === ENDED) return;
-    this.#close();
+    if (this.#state !== ENDED) this.#close();
     this.#resolve(this.#result);
   }
 

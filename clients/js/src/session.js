@@ -67,18 +67,20 @@ export class Session {
   /** Connects. Rejected, and the session closed, where that fails. */
   async open() {
     try {
-      this.#adopt(await this.#openAgent());
+      await this.#openFirst();
     } catch (fault) {
       this.#lose(fault, true);
       throw fault;
     }
-    this.#state = OPEN;
-    this.#outbox.flush();
   }
 
-  /** Connects, and tries again and again where that fails, as after a loss. */
-  openInTime() {
-    this.open().catch(() => {});
+  /** Connects, and where that fails goes on as after a loss. Calls that come before there is a connection wait. */
+  async openLater() {
+    try {
+      await this.#openFirst();
+    } catch (fault) {
+      this.#lose(fault, isFinal(fault) || !this.#settings.reconnect);
+    }
   }
 
   /** What refuses any request or query now, as `{reason}`, or null. */
@@ -217,6 +219,12 @@ export class Session {
     } catch (fault) {
       if (!signal.aborted) this.#lose(fault, true);
     }
+  }
+
+  async #openFirst() {
+    this.#adopt(await this.#openAgent());
+    this.#state = OPEN;
+    this.#outbox.flush();
   }
 
   #openAgent() {
