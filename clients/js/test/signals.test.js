@@ -39,16 +39,6 @@ testWithEach("one aborted before the callback was called rejects at once with it
     await assertFree(a);
   });
 
-testWithEach("a request that was aborted before it was sent is never sent", async (agent) => {
-  const locks = await agent();
-  const controllers = Array.from({ length: 5 }, () => new AbortController());
-  const promises = controllers.map(({ signal }) => watch(locks.request("db", { signal }, never)));
-  for (const controller of controllers) controller.abort("mine");
-  for (const promise of promises) assert.equal((await promise.settled).reason, "mine");
-  assert.equal(await locks.request("db", () => "free"), "free");
-  await assertFree(locks);
-});
-
 testWithEach("a grant that was on its way when the signal was aborted is released", async (agent) => {
   const [a, b] = [await agent(), await agent()];
   for (let round = 0; round < 50; round += 1) {
@@ -148,6 +138,18 @@ test("a page's listener on the signal is called as ever", async (t) => {
   assert.equal(heard, 1);
   holding.release();
   await holding.promise;
+});
+
+test("a request that is aborted while it waits for a signal of the agent's is never sent", async (t) => {
+  const server = await startPushing(t);
+  const locks = await connectTo(t, server);
+  const controllers = Array.from({ length: 5 }, () => new AbortController());
+  const promises = controllers.map(({ signal }) => watch(locks.request("db", { signal }, never)));
+  for (const controller of controllers) controller.abort("mine");
+  for (const promise of promises) assert.equal((await promise.settled).reason, "mine");
+  assert.equal(await locks.request("db", () => "free"), "free");
+  assert.equal(server.ops.filter((op) => op === "request").length, 2, "one had the spare signal, and one needs none");
+  await assertFree(locks);
 });
 
 test("a signal that was not aborted serves the next request", async (t) => {

@@ -27,6 +27,12 @@ export class PushingServer {
   /** How many connections there were. */
   links = 0;
 
+  /** Whether messages are read, and answered by nothing. */
+  isDeaf = false;
+
+  /** How many milliseconds each reply is held back. */
+  delay = 0;
+
   /** Ends each connection that opens an agent with this close code, where it is set. */
   closeCode = null;
 
@@ -67,6 +73,11 @@ export class PushingServer {
   /** Ends all connections with a close code, as a server that ends does. */
   closeAll(code, text) {
     for (const link of this.#links) link.socket.close(code, text);
+  }
+
+  /** Pushes notices to all clients. */
+  pushToAll(notices) {
+    for (const link of this.#links) link.push(notices);
   }
 
   async stop() {
@@ -117,6 +128,7 @@ class Link {
   #take(text) {
     const message = JSON.parse(text);
     this.#server.received.push({ link: this.#number, message });
+    if (this.#server.isDeaf) return;
     if (message.op === "open" && this.#server.closeCode !== null) {
       this.socket.close(this.#server.closeCode);
     } else if (this.#backend.readyState === WebSocket.OPEN) {
@@ -139,11 +151,17 @@ class Link {
 
   #give(text) {
     if (this.#owners.shift() === "client") {
-      this.socket.send(text);
+      if (this.#server.delay === 0) this.socket.send(text);
+      else setTimeout(() => this.socket.send(text), this.#server.delay);
       return;
     }
     const { notices } = JSON.parse(text);
-    if (notices.length > 0) this.socket.send(JSON.stringify({ id: null, notices, ok: {} }));
+    if (notices.length > 0) this.push(notices);
+  }
+
+  /** Tells the client what it didn't ask for. */
+  push(notices) {
+    this.socket.send(JSON.stringify({ id: null, notices, ok: {} }));
   }
 
   #lose() {
