@@ -5,6 +5,8 @@ import type { ConnectOptions, LockManager } from "./weblocks.js";
 export interface ServerOptions {
   /** The path of the weblocks program: that of the variable WEBLOCKS_PROGRAM unless given. */
   program?: string | undefined;
+  /** Where it listens: on a free port unless given. */
+  port?: number | undefined;
 }
 
 /** A server that runs. */

@@ -10,17 +10,25 @@ import { connect } from "./weblocks.js";
 /** `weblocks serve` ends after so many connections: this is the most that it takes. */
 const MOST_CLIENTS = 10_000;
 
+/** The servers that run: none outlives the program that started it. */
+const running = new Set();
+
+process.on("exit", () => {
+  for (const child of running) child.kill("SIGKILL");
+});
+
 /** Another program may take a free port before the server does. */
 const TRIES = 5;
 
 /**
- * Starts a server on a free port.
+ * Starts a server, on a free port unless one is named.
  *
- * @param {{program?: string}} [options] the program's path; where it is absent, that of WEBLOCKS_PROGRAM
+ * @param {{program?: string, port?: number}} [options] the program's path; where it is absent, that of WEBLOCKS_PROGRAM
  * @returns {Promise<Server>}
  */
-export async function startServer({ program = process.env.WEBLOCKS_PROGRAM } = {}) {
+export async function startServer({ program = process.env.WEBLOCKS_PROGRAM, port } = {}) {
   if (!program) throw new TypeError("Name the weblocks program: by the option program, or by WEBLOCKS_PROGRAM");
+  if (port !== undefined) return startOn(program, port);
   for (let tries = 1; ; tries += 1) {
     try {
       return await startOn(program, await freePort());
@@ -100,7 +108,8 @@ class TestServer {
 async function startOn(program, port) {
   const words = ["serve", "--port", String(port), "--clients", String(MOST_CLIENTS)];
   const child = spawn(program, words, { stdio: ["ignore", "pipe", "pipe"] });
-  process.once("exit", () => child.kill("SIGKILL"));
+  running.add(child);
+  child.once("exit", () => running.delete(child));
   const told = [];
   child.stderr.on("data", (text) => told.push(text));
   const lines = createInterface(child.stdout);

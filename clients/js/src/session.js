@@ -29,7 +29,7 @@ export class Session {
   #isOpaque;
   #outbox = new Outbox(() => this.#goOn());
 
-  /** The calls that haven't ended, in their order, each with its request. */
+  /** The calls that haven't ended, in their order, each with its request; null while the connection is lost. */
   #calls = new Map();
   /** What rejects the promises of queries and the like. */
   #questions = new Set();
@@ -102,7 +102,7 @@ export class Session {
       call.end(networkError("The connection to the server is lost"));
     } else {
       this.#calls.set(call, null);
-      this.#ask(call);
+      if (this.#state !== LOST) this.#ask(call);
     }
     return call.promise;
   }
@@ -291,8 +291,12 @@ export class Session {
     for (const reject of this.#questions) reject(fault);
     this.#questions.clear();
     for (const call of [...this.#calls.keys()]) {
-      if (call.isHeld || !call.isPlain) call.end(fault);
-      else call.waitAgain();
+      if (call.isHeld || !call.isPlain) {
+        call.end(fault);
+      } else {
+        call.waitAgain();
+        this.#calls.set(call, null);
+      }
     }
   }
 
