@@ -36,22 +36,31 @@ export class PushingServer {
   /** Ends each connection that opens an agent with this close code, where it is set. */
   closeCode = null;
 
-  static async start(backend, { token, port = 0 } = {}) {
-    const server = new PushingServer(backend, token);
-    await server.#listen(port);
+  /** What each message is answered, where it is set. */
+  answer = null;
+
+  /**
+   * @param {string} backend the URL of the server that polls
+   * @param {{token?: string, selects?: boolean}} [options] what clients are to be known by, and whether
+   *   `weblocks.push` is selected: where it isn't, the stand-in never pushes
+   */
+  static async start(backend, options = {}) {
+    const server = new PushingServer(backend, options);
+    await server.#listen();
     return server;
   }
 
-  constructor(backend, token) {
+  constructor(backend, { token, selects = true }) {
     this.#backend = backend;
     this.#token = token;
+    this.selects = selects;
   }
 
-  async #listen(port) {
+  async #listen() {
     this.#server = new WebSocketServer({
       host: "127.0.0.1",
-      port,
-      handleProtocols: (offered) => (offered.has(PUSH) ? PUSH : false),
+      port: 0,
+      handleProtocols: (offered) => (this.selects && offered.has(PUSH) ? PUSH : false),
       verifyClient: ({ req }, answer) => answer(this.#admits(req), 401),
     });
     this.#server.on("connection", (socket) => this.#serve(socket));
@@ -129,6 +138,10 @@ class Link {
     const message = JSON.parse(text);
     this.#server.received.push({ link: this.#number, message });
     if (this.#server.isDeaf) return;
+    if (this.#server.answer !== null) {
+      this.socket.send(this.#server.answer);
+      return;
+    }
     if (message.op === "open" && this.#server.closeCode !== null) {
       this.socket.close(this.#server.closeCode);
     } else if (this.#backend.readyState === WebSocket.OPEN) {
@@ -140,6 +153,7 @@ class Link {
 
   #begin() {
     for (const text of this.#early) this.#ask(text, "client");
+    if (!this.#server.selects) return;
     this.#timer = setInterval(() => this.#ask('{"id":0,"op":"poll"}', "own"), POLL);
   }
 
