@@ -20,7 +20,7 @@ export function install(options) {
   }
   const navigator = globalThis.navigator ?? addNavigator();
   Object.defineProperty(navigator, "locks", { get: () => manager, enumerable: true, configurable: true });
-  session.openInTime();
+  session.openLater();
   return manager;
 }
 

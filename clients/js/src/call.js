@@ -120,9 +120,12 @@ export class Call {
     else this.#settleUnheld();
   }
 
-  /** There is no lock to release. */
+  /** There is no lock to release. The callback may have closed the LockManager, by which the call has ended. */
   #settleUnheld() {
-    if (this.#state === ENDED) return;
+    if (this.#state === ENDED) {
+      this.#result.catch(() => {});
+      return;
+    }
     this.#close();
     this.#resolve(this.#result);
   }

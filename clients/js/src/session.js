@@ -29,7 +29,7 @@ export class Session {
   #isOpaque;
   #outbox = new Outbox(() => this.#goOn());
 
-  /** The calls that haven't ended, in their order, each with its request. */
+  /** The calls that haven't ended, in their order, each with its request; null while the connection is lost. */
   #calls = new Map();
   /** What rejects the promises of queries and the like. */
   #questions = new Set();
@@ -67,18 +67,20 @@ export class Session {
   /** Connects. Rejected, and the session closed, where that fails. */
   async open() {
     try {
-      this.#adopt(await this.#openAgent());
+      await this.#openFirst();
     } catch (fault) {
       this.#lose(fault, true);
       throw fault;
     }
-    this.#state = OPEN;
-    this.#outbox.flush();
   }
 
-  /** Connects, and tries again and again where that fails, as after a loss. */
-  openInTime() {
-    this.open().catch(() => {});
+  /** Connects, and where that fails goes on as after a loss. Calls that come before there is a connection wait. */
+  async openLater() {
+    try {
+      await this.#openFirst();
+    } catch (fault) {
+      this.#lose(fault, isFinal(fault) || !this.#settings.reconnect);
+    }
   }
 
   /** What refuses any request or query now, as `{reason}`, or null. */
@@ -100,7 +102,7 @@ export class Session {
       call.end(networkError("The connection to the server is lost"));
     } else {
       this.#calls.set(call, null);
-      this.#ask(call);
+      if (this.#state !== LOST) this.#ask(call);
     }
     return call.promise;
   }
@@ -219,6 +221,12 @@ export class Session {
     }
   }
 
+  async #openFirst() {
+    this.#adopt(await this.#openAgent());
+    this.#state = OPEN;
+    this.#outbox.flush();
+  }
+
   #openAgent() {
     return Agent.open(this.#settings, (fault, agent) => this.#loseAgent(fault, agent), this.#trying.signal);
   }
@@ -283,8 +291,12 @@ export class Session {
     for (const reject of this.#questions) reject(fault);
     this.#questions.clear();
     for (const call of [...this.#calls.keys()]) {
-      if (call.isHeld || !call.isPlain) call.end(fault);
-      else call.waitAgain();
+      if (call.isHeld || !call.isPlain) {
+        call.end(fault);
+      } else {
+        call.waitAgain();
+        this.#calls.set(call, null);
+      }
     }
   }
 

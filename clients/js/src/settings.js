@@ -21,17 +21,15 @@ const POLL = 50;
  */
 export function readSettings(options) {
   if (typeof options !== "object" || options === null) throw new TypeError("The options aren't an object");
-  const { bucket = "default", heartbeat = HEARTBEAT, poll = POLL, reconnect = true, token, WebSocket } = options;
-  if (!BUCKET.test(bucket)) throw new TypeError(`The bucket '${bucket}' isn't the name of one`);
-  if (token !== undefined && !TOKEN.test(token)) throw new TypeError("The token has characters that no token has");
+  const { heartbeat = HEARTBEAT, poll = POLL, reconnect = true, WebSocket } = options;
   if (typeof reconnect !== "boolean") throw new TypeError("reconnect is neither true nor false");
   if (WebSocket !== undefined && typeof WebSocket !== "function") throw new TypeError("WebSocket isn't a class");
   return {
     url: readUrl(options.url),
     origin: readOrigin(options.origin),
     kind: readKind(options.kind),
-    bucket,
-    token,
+    bucket: readBucket(options.bucket),
+    token: readToken(options.token),
     heartbeat: readTime("heartbeat", heartbeat),
     poll: readTime("poll", poll),
     reconnect,
@@ -56,7 +54,7 @@ export function isOpaque({ origin }) {
 function readUrl(given) {
   if (given === undefined) throw new TypeError("The url of the server is missing");
   const text = String(given);
-  const url = URL.canParse?.(text) === false ? null : parseUrl(text);
+  const url = parseUrl(text);
   if (url === null || (url.protocol !== "ws:" && url.protocol !== "wss:") || url.hash !== "") {
     throw new TypeError(`'${text}' isn't the URL of a WebSocket: it begins with ws: or wss: and has no fragment`);
   }
@@ -85,6 +83,19 @@ function readKind(given) {
   if (given === undefined) return typeof WorkerGlobalScope === "undefined" ? "window" : "worker";
   if (!KINDS.includes(given)) throw new TypeError(`The kind '${given}' is neither 'window' nor 'worker'`);
   return given;
+}
+
+function readBucket(given = "default") {
+  const bucket = String(given);
+  if (!BUCKET.test(bucket)) throw new TypeError(`'${bucket}' isn't the name of a bucket`);
+  return bucket;
+}
+
+function readToken(given) {
+  if (given === undefined) return undefined;
+  const token = String(given);
+  if (!TOKEN.test(token)) throw new TypeError("The token has characters that can't be sent in a handshake");
+  return token;
 }
 
 /** Timers take milliseconds up to 2^31 - 1. */

@@ -1,0 +1,176 @@
+/** How a connection comes about: sockets, subprotocols, tokens and what connect is rejected with. */
+
+import assert from "node:assert/strict";
+import { execFile } from "node:child_process";
+import { test } from "node:test";
+import { promisify } from "node:util";
+import { connect } from "../weblocks.js";
+import { assertRejects, hold, until } from "./support/holding.js";
+import { Proxy } from "./support/proxy.js";
+import { connectTo, startPolled, startPushing } from "./support/servers.js";
+import { WebSocket } from "./support/sockets.js";
+
+const run = promisify(execFile);
+const PACKAGE = new URL("../weblocks.js", import.meta.url).href;
+
+/** A class of sockets that writes down how each was made. */
+function spySockets() {
+  const made = [];
+  class Spied extends WebSocket {
+    constructor(...given) {
+      super(...given);
+      made.push(given);
+    }
+  }
+  return { made, Spied };
+}
+
+test("pushes are asked for by the subprotocol weblocks.push, and one handshake is enough where it is selected",
+  async (t) => {
+    const server = await startPushing(t);
+    const { made, Spied } = spySockets();
+    await connectTo(t, server, { WebSocket: Spied });
+    assert.deepEqual(made, [[`${server.url}/`, ["weblocks.push"]]]);
+  });
+
+test("where that handshake fails, a second one offers no subprotocol, and the server is polled", async (t) => {
+  const server = await startPolled(t);
+  const { made, Spied } = spySockets();
+  const locks = await connectTo(t, server, { WebSocket: Spied, poll: 5 });
+  assert.deepEqual(made, [[`${server.url}/`, ["weblocks.push"]], [`${server.url}/`]]);
+  assert.equal(await locks.request("db", () => 1), 1);
+});
+
+test("each reconnection tries pushes anew", async (t) => {
+  const proxy = await Proxy.start(t, await startPolled(t));
+  const { made, Spied } = spySockets();
+  const locks = await connectTo(t, proxy, { WebSocket: Spied });
+  const restored = new Promise((resolve) => locks.addEventListener("restored", resolve));
+  proxy.cut();
+  await restored;
+  assert.deepEqual(made.map(([, offered]) => offered), [["weblocks.push"], undefined, ["weblocks.push"], undefined]);
+});
+
+test("nothing is polled where pushes are spoken, but for the heartbeat", async (t) => {
+  const server = await startPushing(t);
+  const [a, b] = [await connectTo(t, server, { poll: 1 }), await connectTo(t, server, { poll: 1 })];
+  const holding = await hold(a, "db");
+  const pending = b.request("db", () => "told");
+  await until(async () => (await a.query()).pending.length === 1);
+  await new Promise((resolve) => setTimeout(resolve, 100));
+  holding.release();
+  assert.equal(await pending, "told");
+  assert.ok(!server.ops.includes("poll"));
+});
+
+test("nothing is polled while nothing is pending, but for the heartbeat", async (t) => {
+  const server = await startPushing(t, { selects: false });
+  const [a, b] = [await connectTo(t, server, { poll: 1 }), await connectTo(t, server, { poll: 1 })];
+  const polls = () => server.ops.filter((op) => op === "poll").length;
+  const holding = await hold(a, "db");
+  await new Promise((resolve) => setTimeout(resolve, 100));
+  assert.ok(polls() <= 1, `${polls()} polls while nothing was pending`);
+  const pending = b.request("db", () => "told");
+  await until(() => polls() > 10);
+  holding.release();
+  assert.equal(await pending, "told");
+  const before = polls();
+  await new Promise((resolve) => setTimeout(resolve, 100));
+  assert.ok(polls() <= before + 1, `${polls() - before} polls after the last request`);
+});
+
+test("a token is offered as a subprotocol beside weblocks.push", async (t) => {
+  const server = await startPushing(t, { token: "se.cr_et-1" });
+  const locks = await connectTo(t, server, { token: "se.cr_et-1" });
+  assert.equal(await locks.request("db", () => 1), 1);
+  assert.deepEqual(server.offers[0].protocols, ["weblocks.push", "weblocks.bearer.se.cr_et-1"]);
+  assert.equal(server.offers.length, 1);
+});
+
+test("a server that is polled gets the token as a header, by the second handshake", async (t) => {
+  const server = await startPushing(t, { token: "secret", selects: false });
+  const locks = await connectTo(t, server, { token: "secret" });
+  assert.equal(await locks.request("db", () => 1), 1);
+  assert.deepEqual(server.offers.map(({ authorization }) => authorization), [undefined, "Bearer secret"]);
+});
+
+test("a wrong token is a NetworkError", async (t) => {
+  const server = await startPushing(t, { token: "secret" });
+  const fault = await assertRejects(connectTo(t, server, { token: "wrong" }), "NetworkError");
+  assert.match(fault.message, /401/);
+  await assertRejects(connectTo(t, server), "NetworkError");
+});
+
+test("where there is no server, connect rejects with NetworkError", async (t) => {
+  const server = await startPolled(t);
+  await server.stop();
+  await assertRejects(connectTo(t, server), "NetworkError");
+});
+
+test("a server may close a connection for its origin (1008) or for want of room (1013)", async (t) => {
+  const server = await startPushing(t);
+  server.closeCode = 1008;
+  await assertRejects(connectTo(t, server), "SecurityError");
+  server.closeCode = 1013;
+  await assertRejects(connectTo(t, server), "QuotaExceededError");
+});
+
+test("an option that is wrong is a TypeError", async () => {
+  const good = { url: "ws://127.0.0.1:9", origin: "https://a.test" };
+  const wrong = [
+    { url: undefined }, { url: "http://127.0.0.1/" }, { url: "no url" }, { url: "ws://127.0.0.1/#part" },
+    { origin: undefined }, { origin: "a".repeat(40_000) },
+    { kind: "page" }, { kind: null }, { bucket: "" }, { bucket: "Inbox" }, { bucket: "-a" }, { bucket: "a".repeat(65) },
+    { token: "" }, { token: "two words" }, { token: "t\u00e4g" }, { heartbeat: 0 }, { heartbeat: "10" },
+    { heartbeat: Infinity }, { heartbeat: 2 ** 31 }, { poll: -1 }, { poll: NaN }, { reconnect: 1 }, { WebSocket: {} },
+  ];
+  for (const options of wrong) {
+    await assert.rejects(connect({ ...good, ...options }), TypeError, JSON.stringify(options));
+  }
+  for (const options of [undefined, null, 5]) await assert.rejects(connect(options), TypeError);
+});
+
+test("an origin that the service can't read is a TypeError", async (t) => {
+  const server = await startPolled(t);
+  await assert.rejects(connectTo(t, server, { origin: "a.test" }), TypeError);
+});
+
+test("a server that breaks the protocol is lost", async (t) => {
+  for (const text of ["no json", "5", "{}", '{"id":9,"notices":[],"ok":{}}', '{"id":1,"notices":[]}']) {
+    const server = await startPushing(t);
+    server.answer = text;
+    await assertRejects(connectTo(t, server), "NetworkError");
+  }
+});
+
+test("without an option the sockets are those of globalThis.WebSocket, else of the package ws", async (t) => {
+  const server = await startPushing(t);
+  const program = `
+    import { connect } from ${JSON.stringify(PACKAGE)};
+    let made = 0;
+    if (process.argv[1] === "own") {
+      const { WebSocket } = await import(${JSON.stringify(new URL("support/sockets.js", import.meta.url).href)});
+      globalThis.WebSocket = class extends WebSocket { constructor(...given) { super(...given); made += 1; } };
+    } else {
+      delete globalThis.WebSocket;
+    }
+    const locks = await connect({ url: ${JSON.stringify(server.url)}, origin: "https://a.test" });
+    console.log(made, await locks.request("db", () => "granted"));
+    await locks.close();
+  `;
+  const env = { ...process.env, NODE_PATH: `/usr/share/nodejs:${process.env.NODE_PATH ?? ""}` };
+  const start = (word) => run(process.execPath, ["--input-type=module", "-e", program, word], { env });
+  assert.equal((await start("own")).stdout, "1 granted\n");
+  assert.equal((await start("package")).stdout, "0 granted\n");
+});
+
+test("where there is no class of sockets, connect says what to do", async () => {
+  const program = `
+    import { connect } from ${JSON.stringify(PACKAGE)};
+    delete globalThis.WebSocket;
+    await connect({ url: "ws://127.0.0.1:9", origin: "https://a.test" }).catch((fault) => console.log(String(fault)));
+  `;
+  const env = { PATH: process.env.PATH };
+  const { stdout } = await run(process.execPath, ["--input-type=module", "-e", program], { env });
+  assert.match(stdout, /^TypeError: .*install the package ws/);
+});

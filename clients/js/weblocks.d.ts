@@ -1,0 +1,129 @@
+/** Locks with the behaviour of the Web Locks API, shared by all who connect to one weblocks server. */
+
+/** Connects to a server as an agent, and gives its LockManager. */
+export function connect(options: ConnectOptions): Promise<LockManager>;
+
+/** How to connect. */
+export interface ConnectOptions {
+  /** The server: `ws:` or `wss:`. */
+  url: string | URL;
+  /** Whose locks these are: an origin, or any URL of it. In a page it is the page's own unless it is given. */
+  origin?: string | undefined;
+  /** A window may be made inactive, a worker is always active. In a page it is what the page is; else a window. */
+  kind?: "window" | "worker" | undefined;
+  /** The storage bucket of the origin: 1 to 64 of `a` to `z`, `0` to `9`, `-` and `_`. `"default"` unless given. */
+  bucket?: string | undefined;
+  /** What the server knows its clients by, where it wants that. */
+  token?: string | undefined;
+  /** Milliseconds between two signs of life, and how long one may stay out: 10,000 unless given. */
+  heartbeat?: number | undefined;
+  /** Milliseconds between two polls while requests wait, where the server doesn't push: 50 unless given. */
+  poll?: number | undefined;
+  /** Whether to connect again after the connection was lost. True unless given. */
+  reconnect?: boolean | undefined;
+  /** The class of sockets, in place of `globalThis.WebSocket` or that of the package `ws`. */
+  WebSocket?: WebSocketClass | undefined;
+}
+
+/** A class of sockets such as the platform's or that of the package `ws`. */
+export type WebSocketClass = new (url: string, protocols?: any) => any;
+
+export type LockMode = "exclusive" | "shared";
+
+/** What a callback is given. */
+export interface Lock {
+  readonly name: string;
+  readonly mode: LockMode;
+}
+
+/** The class of locks, for `instanceof`: programs make none. */
+export const Lock: { readonly prototype: Lock };
+
+/** Options of a request (Web Locks, `LockOptions`). */
+export interface LockOptions {
+  /** `"exclusive"` unless given. */
+  mode?: LockMode | undefined;
+  /** If the lock isn't available now, the callback is called with null. */
+  ifAvailable?: boolean | undefined;
+  /** Takes the lock from whoever holds it; their promises reject with AbortError. */
+  steal?: boolean | undefined;
+  /** Gives up the request while it waits. */
+  signal?: AbortSignal | undefined;
+}
+
+export interface LockInfo {
+  name: string;
+  mode: LockMode;
+  clientId: string;
+}
+
+export interface LockManagerSnapshot {
+  /** In the order of the grants. */
+  held: LockInfo[];
+  /** Queue after queue. */
+  pending: LockInfo[];
+}
+
+/** An event `"lost"`. */
+export class LostEvent extends Event {
+  private constructor();
+  /** Why: what the promises of the locks that were held are rejected with. */
+  readonly reason: DOMException;
+}
+
+export interface LockManagerEventMap {
+  /** The connection was lost, and with it the locks that were held. */
+  lost: LostEvent;
+  /** There is a connection again, and what waited waits there. */
+  restored: Event;
+}
+
+export interface LockManager extends EventTarget {
+  /** Calls the callback while the lock is held; settles as what that returned, once the lock was released. */
+  request<T>(name: string, callback: (lock: Lock) => T): Promise<Awaited<T>>;
+  request<T>(
+    name: string,
+    options: LockOptions & { ifAvailable?: false | undefined },
+    callback: (lock: Lock) => T,
+  ): Promise<Awaited<T>>;
+  request<T>(name: string, options: LockOptions, callback: (lock: Lock | null) => T): Promise<Awaited<T>>;
+
+  /** What is held and pending, of all clients of the origin's bucket. */
+  query(): Promise<LockManagerSnapshot>;
+
+  /** Gives up all: promises that are pending reject with AbortError. Settles as `closed`. */
+  close(): Promise<Error>;
+
+  /** Settles with why the LockManager can't be used any more. It is never rejected. */
+  readonly closed: Promise<Error>;
+
+  /** Makes a window inactive, so that its requests are refused with InvalidStateError, or active again. */
+  setActive(active: boolean): Promise<void>;
+
+  /** A signal that is aborted when the lock is stolen or lost while its callback runs. */
+  lostSignal(lock: Lock): AbortSignal;
+
+  addEventListener<K extends keyof LockManagerEventMap>(
+    type: K,
+    listener: (this: LockManager, event: LockManagerEventMap[K]) => unknown,
+    options?: boolean | AddEventListenerOptions,
+  ): void;
+  addEventListener(
+    type: string,
+    listener: EventListenerOrEventListenerObject | null,
+    options?: boolean | AddEventListenerOptions,
+  ): void;
+  removeEventListener<K extends keyof LockManagerEventMap>(
+    type: K,
+    listener: (this: LockManager, event: LockManagerEventMap[K]) => unknown,
+    options?: boolean | EventListenerOptions,
+  ): void;
+  removeEventListener(
+    type: string,
+    listener: EventListenerOrEventListenerObject | null,
+    options?: boolean | EventListenerOptions,
+  ): void;
+}
+
+/** The class of LockManagers, for `instanceof`: programs connect. */
+export const LockManager: { readonly prototype: LockManager };
