@@ -4,19 +4,23 @@ import { test } from "node:test";
 
 import { connect } from "../weblocks.js";
 import { byName, testEach } from "./browser/comparing.js";
-import { startServing } from "./browser/serving.js";
+import { FAST } from "./browser/settings.js";
 import { connectionEnvironment } from "./standard/connections.js";
 import { runCases } from "./standard/running.js";
+import { startPolled, startPushing } from "./support/servers.js";
+import { WebSocket } from "./support/sockets.js";
 
-/** Over a server that doesn't push a theft is told with the heartbeat, and a grant with the next poll. */
-const FAST = { poll: 10, heartbeat: 250 };
+async function testInNode(it, options) {
+  const results = await runCases(() => connectionEnvironment(connect, { WebSocket, ...options }));
+  await testEach(it, byName(results));
+}
 
-test("the standard's cases in Node, over serve", async (it) => {
-  const server = await startServing();
-  try {
-    const results = await runCases(() => connectionEnvironment(connect, { url: server.url, ...FAST }));
-    await testEach(it, byName(results));
-  } finally {
-    await server.end();
-  }
+test("the standard's cases in Node, over a server that is polled", async (it) => {
+  const { url } = await startPolled(it);
+  await testInNode(it, { url, ...FAST });
+});
+
+test("the standard's cases in Node, over a server that pushes", async (it) => {
+  const { url } = await startPushing(it);
+  await testInNode(it, { url });
 });
