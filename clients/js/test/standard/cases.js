@@ -6,7 +6,8 @@
  *
  * - `agents(count)`: a promise of so many new agents `{ locks, realm, end(), deactivate() }`. `locks` is the agent's
  *   LockManager, and `realm` has the classes `DOMException`, `Promise` and `TypeError` of which its objects are;
- *   `end()` ends the agent, as when its page is left, and `deactivate()` makes its document one that isn't fully active.
+ *   `end()` ends the agent, as when its page is left, and `deactivate()` makes its document one that isn't fully
+ *   active.
  * - `opaqueAgent()`: a promise of an agent of an opaque origin, `{ refusalOf(call) }`. That is a promise of the name
  *   of what the call is rejected with; the calls are those of `CALLS`.
  *

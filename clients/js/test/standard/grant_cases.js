@@ -1,7 +1,7 @@
 /** In which order locks are granted, and which of them together (Web Locks, *process the lock request queue*). */
 
 import { expectEqual, expectSame, expectTrue } from "./expecting.js";
-import { Holder, hold, isFree, isPending, modesOf, settled, wait } from "./holding.js";
+import { Holder, hold, holdAll, isFree, isPending, modesOf, settled, wait } from "./holding.js";
 
 const SHARED = { mode: "shared" };
 
@@ -51,7 +51,7 @@ export const grantCases = {
 
   async "shared locks are held together"({ agents }) {
     const [own, other] = await agents(2);
-    const held = [await hold(own, "shared", SHARED), await hold(other, "shared", SHARED), await hold(own, "shared", SHARED)];
+    const held = await holdAll([own, "shared", SHARED], [other, "shared", SHARED], [own, "shared", SHARED]);
     const found = await modesOf(own, "shared");
     expectEqual("what is there", found, { held: ["shared", "shared", "shared"], pending: [] });
     await Promise.all(held.map((it) => it.release()));
@@ -59,7 +59,7 @@ export const grantCases = {
 
   async "an exclusive lock waits for all shared ones"({ agents }) {
     const [own, other] = await agents(2);
-    const shared = [await hold(own, "all", SHARED), await hold(other, "all", SHARED)];
+    const shared = await holdAll([own, "all", SHARED], [other, "all", SHARED]);
     const last = await wait(other, "all");
     await shared[0].release();
     expectTrue("whether it waits", await isPending(other, last.granted));
@@ -111,7 +111,8 @@ export const grantCases = {
     const last = await wait(own, "together");
     await first.release();
     await Promise.all(shared.map((it) => it.granted));
-    expectEqual("what is there", await modesOf(own, "together"), { held: ["shared", "shared"], pending: ["exclusive"] });
+    const found = await modesOf(own, "together");
+    expectEqual("what is there", found, { held: ["shared", "shared"], pending: ["exclusive"] });
     await Promise.all(shared.map((it) => it.release()));
     await last.granted;
     await last.release();
@@ -127,13 +128,14 @@ export const grantCases = {
       seen.push(await modesOf(own, "prefix"));
       await Promise.all(it.map((at) => holders[at].release()));
     }
-    expectEqual("what was held", seen.map((it) => it.held), [["exclusive"], ["shared", "shared"], ["exclusive"], ["shared"]]);
+    const wanted = [["exclusive"], ["shared", "shared"], ["exclusive"], ["shared"]];
+    expectEqual("what was held", seen.map((it) => it.held), wanted);
     expectEqual("what waited", seen.map((it) => it.pending.length), [4, 2, 1, 0]);
   },
 
   async "names have nothing to do with each other"({ agents }) {
     const [own, other] = await agents(2);
-    const held = [await hold(own, "one"), await hold(other, "another"), await hold(own, "third")];
+    const held = await holdAll([own, "one"], [other, "another"], [own, "third"]);
     const waits = await wait(other, "one");
     expectTrue("whether a fourth is free", await isFree(other, "fourth"));
     await held[1].release();

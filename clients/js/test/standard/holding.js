@@ -70,6 +70,15 @@ export async function hold(agent, name, options) {
   return holder;
 }
 
+/** Locks that are held when the promise is fulfilled, asked for one after the other: each `[agent, name, options]`. */
+export async function holdAll(...requests) {
+  const holders = [];
+  for (const it of requests) {
+    holders.push(await hold(...it));
+  }
+  return holders;
+}
+
 /** A request that waits when the promise is fulfilled: what the agent asked before is with its manager then. */
 export async function wait(agent, name, options) {
   const holder = new Holder(agent, name, options);

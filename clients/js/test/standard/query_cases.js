@@ -1,7 +1,7 @@
 /** What `query` shows (Web Locks, *snapshot the lock state*; Web IDL, *dictionary types*). */
 
 import { expectEqual, expectSame, expectTrue, outcome } from "./expecting.js";
-import { Holder, hold, modesOf, settled, wait } from "./holding.js";
+import { Holder, hold, holdAll, modesOf, settled, wait } from "./holding.js";
 
 const SHARED = { mode: "shared" };
 
@@ -38,7 +38,8 @@ export const queryCases = {
       const member = Object.getOwnPropertyDescriptor(it, "mode");
       expectTrue("whether it is plain data", member.writable && member.enumerable && member.configurable);
     }
-    expectEqual("their modes and names", [one.mode, one.name, second.mode, second.name], ["shared", "items", "exclusive", "items"]);
+    expectEqual("the first", [one.mode, one.name], ["shared", "items"]);
+    expectEqual("the second", [second.mode, second.name], ["exclusive", "items"]);
     await held.release();
     await waits.granted;
     await waits.release();
@@ -79,7 +80,7 @@ export const queryCases = {
 
   async "all agents of an origin see the same"({ agents }) {
     const [own, other] = await agents(2);
-    const held = [await hold(own, "same", SHARED), await hold(other, "same", SHARED)];
+    const held = await holdAll([own, "same", SHARED], [other, "same", SHARED]);
     const waits = await wait(own, "same");
     const [one, second] = [await own.locks.query(), await other.locks.query()];
     expectEqual("what they see", one, second);
@@ -91,7 +92,7 @@ export const queryCases = {
 
   async "an agent has one clientId, and another agent another"({ agents }) {
     const [own, other] = await agents(2);
-    const held = [await hold(own, "a"), await hold(own, "b"), await hold(other, "c")];
+    const held = await holdAll([own, "a"], [own, "b"], [other, "c"]);
     const waits = await wait(own, "c");
     const clients = [await clientOf(own, "a"), await clientOf(other, "b"), await clientOf(own, "c")];
     expectSame("the own client", clients[1], clients[0]);
@@ -120,7 +121,7 @@ export const queryCases = {
 
   async "what is held of a name is in the order of the grants"({ agents }) {
     const [own, other] = await agents(2);
-    const held = [await hold(other, "held", SHARED), await hold(own, "held", SHARED), await hold(other, "held", SHARED)];
+    const held = await holdAll([other, "held", SHARED], [own, "held", SHARED], [other, "held", SHARED]);
     const { held: found } = await own.locks.query();
     expectTrue("whether the first and last are one client", found[0].clientId === found[2].clientId);
     expectTrue("whether the second is another", found[0].clientId !== found[1].clientId);
@@ -130,7 +131,7 @@ export const queryCases = {
   async "what is held of several names is in the order of the grants"({ agents }) {
     const [own] = await agents(1);
     const names = ["b", "c", "a"];
-    const held = [await hold(own, "b", SHARED), await hold(own, "c"), await hold(own, "a"), await hold(own, "b", SHARED)];
+    const held = await holdAll([own, "b", SHARED], [own, "c"], [own, "a"], [own, "b", SHARED]);
     expectEqual("the names", (await namesOf(own, names)).held, ["b", "c", "a", "b"]);
     await Promise.all(held.map((it) => it.release()));
   },
@@ -138,7 +139,7 @@ export const queryCases = {
   async "what is pending of several names is in the order in which the names were first asked for"({ agents }) {
     const [own] = await agents(1);
     const names = ["e", "d"];
-    const held = [await hold(own, "e"), await hold(own, "d")];
+    const held = await holdAll([own, "e"], [own, "d"]);
     const waits = [await wait(own, "d"), await wait(own, "e")];
     expectEqual("the names", (await namesOf(own, names)).pending, ["e", "d"]);
     await Promise.all(held.map((it) => it.release()));

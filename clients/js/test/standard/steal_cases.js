@@ -1,7 +1,7 @@
-/** What `steal` does to the holders of a lock and to those who wait (Web Locks, *request a lock*, *LockOptions.steal*). */
+/** What `steal` does to those who hold a lock or wait (Web Locks, *request a lock*, *LockOptions.steal*). */
 
 import { expectEqual, expectException, expectSame, expectTrue, outcome, rejection } from "./expecting.js";
-import { deferred, hold, isFree, isPending, modesOf, settled, wait } from "./holding.js";
+import { deferred, hold, holdAll, isFree, isPending, modesOf, settled, wait } from "./holding.js";
 
 const STEAL = { steal: true };
 const SHARED = { mode: "shared" };
@@ -62,7 +62,7 @@ export const stealCases = {
 
   async "a steal takes all shared locks"({ agents }) {
     const [own, other] = await agents(2);
-    const held = [await hold(own, "shared", SHARED), await hold(other, "shared", SHARED), await hold(own, "shared", SHARED)];
+    const held = await holdAll([own, "shared", SHARED], [other, "shared", SHARED], [own, "shared", SHARED]);
     const thief = await hold(other, "shared", STEAL);
     for (const it of held) {
       expectSame("the holder's reason", (await rejection("it", it.ended)).name, "AbortError");
@@ -112,8 +112,11 @@ export const stealCases = {
 
   async "a stolen lock may be stolen from the thief"({ agents }) {
     const [own, other] = await agents(2);
-    const [first, second] = [await hold(own, "in turn", STEAL), await hold(other, "in turn", STEAL)];
-    const third = await hold(own, "in turn", STEAL);
+    const [first, second, third] = await holdAll(
+      [own, "in turn", STEAL],
+      [other, "in turn", STEAL],
+      [own, "in turn", STEAL],
+    );
     for (const it of [first, second]) {
       expectSame("the reason", (await rejection("it", it.ended)).name, "AbortError");
     }

@@ -1,0 +1,53 @@
+/**
+ * The server of the two example pages: their files, the package, and a database that knows nothing of locks.
+ *
+ * usage: node examples/pages/server.mjs [PORT]
+ *
+ * It listens on 127.0.0.1, on port 8000 unless another is given (0 is a free one), and prints the pages' URLs.
+ */
+
+import { readFile } from "node:fs/promises";
+import { createServer } from "node:http";
+import { extname } from "node:path";
+import { text } from "node:stream/consumers";
+
+const TOP = new URL("../../", import.meta.url);
+const SERVED = /^\/(examples\/pages|clients\/js)\/[\w/.-]+\.(html|js)$/;
+const TYPES = { ".html": "text/html; charset=utf-8", ".js": "text/javascript" };
+
+/** All that the database has: how many tickets are left. */
+let tickets = 100;
+
+/** `GET` gives the number as JSON, and `PUT` replaces it. */
+async function answerDatabase(request, response) {
+  if (request.method === "PUT") {
+    tickets = JSON.parse(await text(request));
+  }
+  response.writeHead(200, { "Content-Type": "application/json", "Cache-Control": "no-store" });
+  response.end(JSON.stringify(tickets));
+}
+
+async function answerFile(path, response) {
+  if (!SERVED.test(path) || path.includes("..")) {
+    response.writeHead(404).end();
+    return;
+  }
+  const data = await readFile(new URL(path.slice(1), TOP));
+  response.writeHead(200, { "Content-Type": TYPES[extname(path)] }).end(data);
+}
+
+async function answer(request, response) {
+  const { pathname } = new URL(request.url, "http://localhost");
+  try {
+    await (pathname === "/database" ? answerDatabase(request, response) : answerFile(pathname, response));
+  } catch (why) {
+    response.writeHead(500).end(why.message);
+  }
+}
+
+const server = createServer(answer);
+server.listen(Number(process.argv[2] ?? 8000), "127.0.0.1", () => {
+  const pages = `http://127.0.0.1:${server.address().port}/examples/pages`;
+  console.log(`${pages}/connect.html`);
+  console.log(`${pages}/polyfill.html`);
+});
