@@ -10,6 +10,7 @@ import { after, before, test } from "node:test";
 import { fileURLToPath } from "node:url";
 import { promisify } from "node:util";
 
+import { firstProgram } from "./support/documents.js";
 import { startPolled } from "./support/servers.js";
 
 const PACKAGE = fileURLToPath(new URL("../", import.meta.url));
@@ -36,7 +37,7 @@ async function printed(folder, command, ...words) {
   }
 }
 
-/** A folder in which nothing is but the packed package, its program, and whichever package `ws` this machine has. */
+/** A folder in which nothing is but the packed package, and whichever package `ws` this machine has. */
 async function emptyFolder(name) {
   const folder = join(room, name);
   await mkdir(folder);
@@ -44,9 +45,6 @@ async function emptyFolder(name) {
   await printed(folder, "npm", "install", "--offline", "--no-audit", "--no-fund", join(room, packed.filename));
   const ws = dirname(createRequire(import.meta.url).resolve("ws/package.json"));
   await symlink(ws, join(folder, "node_modules/ws"));
-  for (const it of ["program.ts", "run.js"]) {
-    await copyFile(join(PACKAGE, "test/packed", it), join(folder, it));
-  }
   return folder;
 }
 
@@ -67,10 +65,20 @@ test("npm packs the modules, their types and the documents, and nothing else", (
 });
 
 test("a typed program in an empty folder is compiled against the packed package, and runs", async (it) => {
-  const folder = await emptyFolder("user");
+  const folder = await emptyFolder("typed");
+  for (const it of ["program.ts", "run.js"]) {
+    await copyFile(join(PACKAGE, "test/packed", it), join(folder, it));
+  }
   await printed(folder, "tsc", ...COMPILING);
   const { url } = await startPolled(it);
   const found = JSON.parse(await printed(folder, process.execPath, "run.js", url));
   const wanted = { name: "db", mode: "shared", held: 1, beside: false, isLost: false, byPolyfill: "db" };
   assert.deepEqual(found, wanted);
+});
+
+test("the first program of docs/CLIENTS.md runs in an empty folder as it stands", async (it) => {
+  const folder = await emptyFolder("first");
+  const { url } = await startPolled(it);
+  await writeFile(join(folder, "first.js"), await firstProgram("docs/CLIENTS.md", "js", url));
+  assert.equal(await printed(folder, process.execPath, "first.js"), "db is held\n");
 });

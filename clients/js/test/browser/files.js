@@ -11,10 +11,10 @@ const TYPES = { ".html": "text/html; charset=utf-8", ".js": "text/javascript", "
 /** The folder of the package. */
 export const PACKAGE = fileURLToPath(new URL("../../", import.meta.url));
 
-async function answer(top, request, response) {
+async function answer(top, pages, request, response) {
   const path = normalize(decodeURIComponent(new URL(request.url, "http://localhost").pathname));
   try {
-    const data = await readFile(join(top, path));
+    const data = pages[path] ?? (await readFile(join(top, path)));
     const type = TYPES[extname(path)] ?? "application/octet-stream";
     // (a module that a sandboxed page imports comes from another origin)
     const headers = { "Access-Control-Allow-Origin": "*", "Cache-Control": "max-age=600" };
@@ -25,9 +25,13 @@ async function answer(top, request, response) {
   }
 }
 
-/** Serves the files below this folder as they stand: `{ url, end() }`, where the URL has no slash at its end. */
-export async function serveFiles(top = PACKAGE) {
-  const server = createServer((request, response) => answer(top, request, response));
+/**
+ * Serves the files below a folder as they stand, and further pages by their paths.
+ *
+ * @returns {Promise<{url: string, end: () => Promise<void>}>} the URL has no slash at its end
+ */
+export async function serveFiles(top = PACKAGE, pages = {}) {
+  const server = createServer((request, response) => answer(top, pages, request, response));
   server.listen(0, "127.0.0.1");
   await once(server, "listening");
   const end = async () => {
