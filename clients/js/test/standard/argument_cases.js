@@ -38,8 +38,9 @@ export const argumentCases = {
   async "the name is converted by ToString"({ agents }) {
     const [own] = await agents(1);
     const object = { toString: () => "said", valueOf: () => "not said" };
+    const primitive = { [Symbol.toPrimitive]: (hint) => `as a ${hint}`, toString: () => "not said" };
     const primitives = [[5, "5"], [null, "null"], [undefined, "undefined"], [true, "true"]];
-    for (const [given, name] of [...primitives, [["a", "b"], "a,b"], [object, "said"]]) {
+    for (const [given, name] of [...primitives, [["a", "b"], "a,b"], [object, "said"], [primitive, "as a string"]]) {
       expectSame("the lock's name", await own.locks.request(given, (lock) => lock.name), name);
     }
   },

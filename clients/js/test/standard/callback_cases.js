@@ -147,6 +147,22 @@ export const callbackCases = {
     expectTrue("whether it is free", await isFree(other, "thrown"));
   },
 
+  async "each callback is called in a task of its own"({ agents }) {
+    const [own, other] = await agents(2);
+    const order = [];
+    const held = await hold(other, "tasks");
+    const callback = (at) => {
+      order.push(`callback ${at}`);
+      Promise.resolve().then(() => order.push(`microtask of ${at}`));
+    };
+    const requests = [1, 2, 3].map((at) => own.locks.request("tasks", { mode: "shared" }, () => callback(at)));
+    await settled(own);
+    await held.release();
+    await Promise.all(requests);
+    const wanted = [1, 2, 3].flatMap((at) => [`callback ${at}`, `microtask of ${at}`]);
+    expectEqual("the order", order, wanted);
+  },
+
   async "each callback is called once"({ agents }) {
     const [own] = await agents(1);
     const calls = [0, 0, 0];

@@ -6,14 +6,15 @@ import { hold, isFree, modesOf } from "./holding.js";
 const nothing = () => {};
 const modeOf = (lock) => lock.mode;
 
-/** What is read of the options, in its order, where the members are these. */
+/** Options with these members: what is read of them is noted, in its order, and whatever else is done to them. */
 function watched(members, read) {
-  return new Proxy(members, {
-    get(target, key) {
-      read.push(key);
-      return target[key];
-    },
-  });
+  const others = ["getOwnPropertyDescriptor", "getPrototypeOf", "has", "ownKeys"];
+  const noted = others.map((trap) => [trap, () => void read.push(trap)]);
+  const get = (target, key) => {
+    read.push(key);
+    return target[key];
+  };
+  return new Proxy(members, { ...Object.fromEntries(noted), get });
 }
 
 function refusal(agent, options, callback = nothing) {

@@ -267,6 +267,76 @@ export const signalCases = {
     expectSame("what the next gives", await other.locks.request("race", () => "next"), "next");
   },
 
+  async "an abort ends the request though a listener stops the signal's event"({ agents }) {
+    const [own, other] = await agents(2);
+    const held = await hold(other, "stopped");
+    const controller = new AbortController();
+    controller.signal.addEventListener("abort", (event) => event.stopImmediatePropagation(), { capture: true });
+    const waits = await wait(own, "stopped", { signal: controller.signal });
+    controller.abort("reason");
+    expectEqual("what waits", (await modesOf(own, "stopped")).pending, []);
+    await held.release();
+    expectEqual("how it ends", await outcome(waits.ended), { reason: "reason" });
+    expectSame("the calls", waits.calls, 0);
+  },
+
+  async "an event that a page makes up is no abort"({ agents }) {
+    const [own, other] = await agents(2);
+    const held = await hold(other, "made up");
+    const controller = new AbortController();
+    const waits = await wait(own, "made up", { signal: controller.signal });
+    controller.signal.dispatchEvent(new Event("abort"));
+    expectTrue("whether it waits", await isPending(own, waits.ended));
+    controller.abort("reason");
+    expectEqual("how it ends", await outcome(waits.ended), { reason: "reason" });
+    await held.release();
+  },
+
+  async "members that a page gives a signal play no part"({ agents }) {
+    const [own, other] = await agents(2);
+    const held = await hold(other, "members");
+    const controller = new AbortController();
+    const others = { aborted: true, reason: "another", addEventListener: null, removeEventListener: null };
+    for (const [member, value] of Object.entries(others)) {
+      Object.defineProperty(controller.signal, member, { value });
+    }
+    const waits = await wait(own, "members", { signal: controller.signal });
+    expectTrue("whether it waits", await isPending(own, waits.ended));
+    controller.abort("reason");
+    expectEqual("how it ends", await outcome(waits.ended), { reason: "reason" });
+    await held.release();
+  },
+
+  async "a signal that a later member's getter aborts is aborted"({ agents }) {
+    const [own] = await agents(1);
+    const controller = new AbortController();
+    const options = {
+      signal: controller.signal,
+      get steal() {
+        controller.abort("reason");
+        return false;
+      },
+    };
+    const ended = await outcome(own.locks.request("getter", options, nothing));
+    expectEqual("how it ends", ended, { reason: "reason" });
+  },
+
+  async "a signal's listeners run behind an abort as if there were no request"({ agents }) {
+    const [own, other] = await agents(2);
+    const held = await hold(other, "listeners");
+    const controller = new AbortController();
+    const order = [];
+    controller.signal.addEventListener("abort", () => order.push("before"));
+    const waits = await wait(own, "listeners", { signal: controller.signal });
+    outcome(waits.ended).then(() => order.push("rejected"));
+    controller.signal.addEventListener("abort", () => order.push("after"));
+    controller.abort();
+    order.push("aborted");
+    await outcome(waits.ended);
+    await held.release();
+    expectEqual("the order", order, ["before", "after", "aborted", "rejected"]);
+  },
+
   async "a hundred requests may be aborted one after the other"({ agents }) {
     const [own, other] = await agents(2);
     const held = await hold(other, "hundred");
