@@ -7,13 +7,18 @@ import { cases } from "../standard/cases.js";
 /** What all cases of one run may take. */
 const RUN_MILLISECONDS = 600_000;
 
-/** Runs the cases in a new page on what `cases.html` has by this name, and answers each one's result by its name. */
-export async function resultsInPage(chromium, filesUrl, name, options, milliseconds) {
+/** Calls a function of a new page `cases.html`, and answers what it gives once nothing went unnoticed in the page. */
+export async function callInPage(chromium, filesUrl, called, ...given) {
   const page = await chromium.open(`${filesUrl}/test/browser/cases.html`);
-  const given = [name, options, milliseconds].map((it) => JSON.stringify(it) ?? "undefined").join(", ");
-  const results = await page.evaluate(`runCasesOn(${given})`, RUN_MILLISECONDS);
+  const words = given.map((it) => JSON.stringify(it) ?? "undefined").join(", ");
+  const found = await page.evaluate(`${called}(${words})`, RUN_MILLISECONDS);
   assert.deepEqual(page.faults, [], "errors that nobody caught in the page");
-  return byName(results);
+  return found;
+}
+
+/** Runs the cases in a page, on what `cases.html` has by this name, and answers each one's result by its name. */
+export async function resultsInPage(chromium, filesUrl, name, options, milliseconds) {
+  return byName(await callInPage(chromium, filesUrl, "runCasesOn", name, options, milliseconds));
 }
 
 /** The results by the names of their cases, which are all cases. */
