@@ -12,10 +12,12 @@ import { startServer } from "../testing.js";
 import { WebSocket } from "../test/support/sockets.js";
 import { connect } from "../weblocks.js";
 
-const CYCLES = 2000;
-const ROUNDS = 15;
+/** Each of the two that are compared has its turn for so many milliseconds, and so many turns. */
+const TURN = 200;
+const TURNS = 25;
+
 const CLIENTS = 64;
-const HAND_OVERS = 20_000;
+const HAND_OVER_TIME = 3000;
 const WAITING = 1000;
 
 const PROGRAM = process.env.WEBLOCKS_PROGRAM || fileURLToPath(new URL("../../../weblocks", import.meta.url));
@@ -26,11 +28,15 @@ function median(figures) {
   return figures.sort((a, b) => a - b)[(figures.length - 1) / 2];
 }
 
-/** How many microseconds one of so many takes. */
-async function time(count, run) {
+/** How many microseconds one takes, and of the processor, of those that are done in so many milliseconds. */
+async function time(milliseconds, run) {
   const before = performance.now();
-  await run();
-  return ((performance.now() - before) / count) * 1000;
+  const used = process.cpuUsage();
+  let count = 0;
+  const isOver = () => performance.now() - before >= milliseconds;
+  await run(isOver, () => { count += 1; });
+  const { user, system } = process.cpuUsage(used);
+  return { time: ((performance.now() - before) / count) * 1000, processor: (user + system) / count };
 }
 
 /** A connection without a client: a message, its reply, and the next. */
@@ -56,36 +62,39 @@ async function openPlain(url) {
 async function compareCycles(url) {
   const plain = await openPlain(url);
   const locks = await connect({ url, origin: ORIGIN, WebSocket });
-  const repeat = async (cycle) => {
-    for (let count = 0; count < CYCLES; count += 1) await cycle();
+  const repeat = (cycle) => async (isOver, count) => {
+    for (; !isOver(); count()) await cycle();
   };
   const own = () => locks.request("client", () => {});
-  const figures = { plain: [], client: [], ratio: [] };
-  for (let round = 0; round <= ROUNDS; round += 1) {
-    const ofPlain = await time(CYCLES, () => repeat(plain.cycle));
-    const ofClient = await time(CYCLES, () => repeat(own));
-    if (round === 0) continue; // The engine learns in it what to compile.
-    figures.plain.push(ofPlain);
-    figures.client.push(ofClient);
-    figures.ratio.push(ofClient / ofPlain);
+  const turns = [];
+  for (let turn = 0; turn <= TURNS; turn += 1) {
+    const figures = { plain: await time(TURN, repeat(plain.cycle)), client: await time(TURN, repeat(own)) };
+    if (turn > 0) turns.push(figures); // In the first the engine learns what to compile.
   }
   plain.end();
   await locks.close();
-  const [ofPlain, ofClient] = [median(figures.plain), median(figures.client)];
-  console.log(`cycles, plain socket: ${ofPlain.toFixed(1)} us, ${Math.round(1e6 / ofPlain)} a second`);
-  console.log(`cycles, client:       ${ofClient.toFixed(1)} us, ${Math.round(1e6 / ofClient)} a second`);
-  console.log(`the client's time a cycle: ${median(figures.ratio).toFixed(2)} of the plain socket's`);
+  for (const who of ["plain", "client"]) {
+    const of = (what) => median(turns.map((figures) => figures[who][what]));
+    const perSecond = Math.round(1e6 / of("time"));
+    console.log(`cycles, ${who}: ${of("time").toFixed(1)} us, ${of("processor").toFixed(1)} us of the processor, `
+      + `${perSecond} a second`);
+  }
+  for (const what of ["time", "processor"]) {
+    const ratio = median(turns.map(({ client, plain: other }) => client[what] / other[what]));
+    console.log(`the client's ${what} a cycle: ${ratio.toFixed(2)} of the plain socket's`);
+  }
 }
 
 async function countHandOvers(url) {
   const options = { url, origin: ORIGIN, WebSocket, heartbeat: 60_000 };
   const clients = await Promise.all(Array.from({ length: CLIENTS }, () => connect(options)));
-  let left = HAND_OVERS;
-  const each = clients.map(async (locks) => {
-    while (left > 0) await locks.request("baton", () => { left -= 1; });
+  const { time: one, processor } = await time(HAND_OVER_TIME, (isOver, count) => {
+    return Promise.all(clients.map(async (locks) => {
+      while (!isOver()) await locks.request("baton", count);
+    }));
   });
-  const one = await time(HAND_OVERS, () => Promise.all(each));
-  console.log(`hand-overs among ${CLIENTS} clients: ${one.toFixed(1)} us, ${Math.round(1e6 / one)} a second`);
+  console.log(`hand-overs among ${CLIENTS} clients: ${one.toFixed(1)} us, ${processor.toFixed(1)} us of the processor, `
+    + `${Math.round(1e6 / one)} a second`);
   await Promise.all(clients.map((locks) => locks.close()));
 }
 
