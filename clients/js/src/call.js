@@ -24,7 +24,8 @@ export class Call {
   #result;
   #resolve;
   #reject;
-  #loss = new AbortController();
+  #loss = null;
+  #lossReason;
   #heedAbort = () => this.#abort();
 
   /**
@@ -60,8 +61,12 @@ export class Call {
     return this.#state === HELD || this.#state === RELEASING;
   }
 
-  /** Aborted when the lock is stolen or lost while it is held. */
+  /** Aborted when the lock is stolen or lost while it is held. Few ask for it, so that it is made when one does. */
   get lostSignal() {
+    if (this.#loss === null) {
+      this.#loss = new AbortController();
+      if (this.#lossReason !== undefined) this.#loss.abort(this.#lossReason);
+    }
     return this.#loss.signal;
   }
 
@@ -87,10 +92,10 @@ export class Call {
   /** Rejects the promise, unless it is settled. A callback that runs goes on, and its lock's lost signal is aborted. */
   end(fault) {
     if (this.#state === ENDED) return;
-    const wasHeld = this.isHeld;
+    if (this.isHeld) this.#lossReason = fault;
     this.#close();
     this.#reject(fault);
-    if (wasHeld) this.#loss.abort(fault);
+    if (this.#lossReason !== undefined) this.#loss?.abort(fault);
   }
 
   /** What was granted is lost before the callback was called: the call waits again. */

@@ -1,0 +1,61 @@
+// A user's program, as tsc checks it. Each line below an @ts-expect-error must be wrong.
+
+import { connect, Lock, LockManager, LostEvent } from "weblocks";
+import type { LockInfo, LockMode } from "weblocks";
+import { install } from "weblocks/polyfill";
+import { startServer, useServer } from "weblocks/testing";
+
+const locks: LockManager = await connect({
+  url: new URL("ws://127.0.0.1:8080"),
+  origin: "https://a.test",
+  kind: "window",
+  bucket: "default",
+  token: undefined,
+  heartbeat: 10_000,
+  poll: 50,
+  reconnect: true,
+  WebSocket,
+});
+
+const name: string = await locks.request("db", (lock) => lock.name);
+const mode: LockMode = await locks.request("db", { mode: "shared" }, async (lock: Lock) => lock.mode);
+const got: boolean = await locks.request("db", { ifAvailable: true }, (lock) => lock !== null);
+const nothing: void = await locks.request("db", { signal: new AbortController().signal }, () => {});
+const stolen: number = await locks.request("db", { steal: true }, (lock) => lock.name.length);
+
+const { held, pending } = await locks.query();
+const infos: LockInfo[] = [...held, ...pending];
+const why: Error = await locks.closed;
+
+locks.addEventListener("lost", (event) => console.log(event.reason.name, event instanceof LostEvent));
+locks.addEventListener("restored", (event: Event) => console.log(event.type));
+await locks.request("db", (lock) => {
+  const lost: AbortSignal = locks.lostSignal(lock);
+  lost.throwIfAborted();
+});
+await locks.setActive(false);
+await locks.close();
+
+const installed: LockManager = install({ url: "wss://locks.example/" });
+const platform: Pick<globalThis.LockManager, "query"> = installed;
+
+const server = useServer({ program: "./weblocks" });
+const agent: LockManager = await server.connect({ kind: "worker" });
+const port: number = (await startServer()).port;
+
+export { agent, got, infos, mode, name, nothing, platform, port, stolen, why };
+
+// @ts-expect-error
+await connect({ origin: "https://a.test" });
+// @ts-expect-error
+await connect({ url: "ws://127.0.0.1:8080", kind: "page" });
+// @ts-expect-error
+await locks.request("db");
+// @ts-expect-error
+await locks.request("db", { mode: "odd" }, () => {});
+// @ts-expect-error
+await locks.request("db", { ifAvailable: true }, (lock) => lock.name);
+// @ts-expect-error
+new LockManager();
+// @ts-expect-error
+locks.lostSignal("db");
