@@ -3,7 +3,7 @@
 import { after, before, test } from "node:test";
 
 import { Chromium } from "./browser/chromium.js";
-import { resultsInPage, testEach, testEachBut } from "./browser/comparing.js";
+import { byName, callInPage, resultsInPage, testEach, testEachBut } from "./browser/comparing.js";
 import { serveFiles } from "./browser/files.js";
 import { FAST } from "./browser/settings.js";
 import { chromiumDeviations } from "./standard/deviations.js";
@@ -41,3 +41,10 @@ for (const name of ["package", "polyfill"]) {
     await testEach(it, await resultsInPage(chromium, files.url, name, { url }));
   });
 }
+
+test("the standard's cases in a worker of Chromium, on the package, over a server that pushes", async (it) => {
+  const { url } = await startPushing(it);
+  // (only a window can be made inactive, as two cases have it)
+  const options = { url, kind: "window" };
+  await testEach(it, byName(await callInPage(chromium, files.url, "runCasesInWorker", options)));
+});

@@ -6,8 +6,8 @@ import { mkdtemp, rm } from "node:fs/promises";
 import { tmpdir } from "node:os";
 import { join } from "node:path";
 
-/** What the start, and an end, may take. */
-const MILLISECONDS = 30_000;
+/** What a start, a page's load and an answer may take. */
+const MILLISECONDS = 60_000;
 
 const FLAGS = [
   "--headless=new",

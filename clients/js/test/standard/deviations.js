@@ -24,14 +24,14 @@ export const chromiumDeviations = new Map([
   [
     "grants: the requests of an agent that ends no longer wait",
     {
-      section: "Web Locks, agent termination: aborting a request processes its queue",
+      section: "Web Locks, terminate remaining locks and requests: an aborted request's queue is processed",
       does: "leaves shared requests waiting behind an exclusive one that is gone, until a shared lock is released",
     },
   ],
   [
     "signals: an abort lets those through who waited behind the request",
     {
-      section: "Web Locks, abort the request: the lock request queue is processed",
+      section: "Web Locks, abort the request: its queue is processed",
       does: "leaves shared requests waiting behind an exclusive one that is gone, until a shared lock is released",
     },
   ],
