@@ -10,12 +10,8 @@ import { connect } from "./weblocks.js";
 /** `weblocks serve` ends after so many connections: this is the most that it takes. */
 const MOST_CLIENTS = 10_000;
 
-/** The servers that run: none outlives the program that started it. */
-const running = new Set();
-
-process.on("exit", () => {
-  for (const child of running) child.kill("SIGKILL");
-});
+/** The signals that end a program, and with it the servers that it started. */
+const ENDING = ["SIGHUP", "SIGINT", "SIGTERM"];
 
 /** Another program may take a free port before the server does. */
 const TRIES = 5;
@@ -108,8 +104,7 @@ class TestServer {
 async function startOn(program, port) {
   const words = ["serve", "--port", String(port), "--clients", String(MOST_CLIENTS)];
   const child = spawn(program, words, { stdio: ["ignore", "pipe", "pipe"] });
-  running.add(child);
-  child.once("exit", () => running.delete(child));
+  endWithProcess(child);
   const told = [];
   child.stderr.on("data", (text) => told.push(text));
   const lines = createInterface(child.stdout);
@@ -131,4 +126,21 @@ async function freePort() {
   server.close();
   await once(server, "close");
   return port;
+}
+
+/** No server outlives the program that started it, unless that is killed outright. */
+function endWithProcess(child) {
+  const kill = () => child.kill("SIGKILL");
+  const pass = (signal) => {
+    kill();
+    forget();
+    process.kill(process.pid, signal);
+  };
+  const forget = () => {
+    process.off("exit", kill);
+    for (const signal of ENDING) process.off(signal, pass);
+  };
+  process.on("exit", kill);
+  for (const signal of ENDING) process.on(signal, pass);
+  child.once("exit", forget);
 }

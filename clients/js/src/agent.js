@@ -10,7 +10,7 @@ export class Agent {
   #connection;
   #requests = new Map();
   #waiting = 0;
-  #onLost;
+  #onLost = () => {};
 
   /** Its signals. */
   signals = new SignalSupply((answered) => {
@@ -20,11 +20,10 @@ export class Agent {
   /** The service's name of it, or null where its origin is opaque. */
   clientId = null;
 
-  constructor(opened, settings, onLost) {
-    this.#onLost = onLost;
+  constructor(opened, settings) {
     this.#connection = new Connection(opened, settings, {
       onNotice: (notice) => this.#requests.get(notice.request)?.hear(notice.phase),
-      onLost: (fault) => this.#onLost(fault, this),
+      onLost: (fault) => this.#lose(fault),
     });
   }
 
@@ -38,34 +37,38 @@ export class Agent {
    */
   static async open(settings, onLost, signal) {
     const opened = await openSocket(settings, signal);
+    const agent = new Agent(opened, settings);
+    const giveUp = () => agent.#lose(signal.reason);
+    signal.addEventListener("abort", giveUp);
+    try {
+      await agent.#open(settings);
+      agent.#onLost = onLost;
+      return agent;
+    } catch (fault) {
+      agent.cut();
+      throw fault;
+    } finally {
+      signal.removeEventListener("abort", giveUp);
+    }
+  }
+
+  #open(settings) {
     return new Promise((resolve, reject) => {
-      const agent = new Agent(opened, settings, reject);
-      const giveUp = () => {
-        agent.cut();
-        reject(signal.reason);
-      };
-      const ready = () => {
-        signal.removeEventListener("abort", giveUp);
-        agent.#onLost = onLost;
-        resolve(agent);
-      };
-      if (signal.aborted) return giveUp();
-      signal.addEventListener("abort", giveUp);
-      agent.#open(openMessage(settings), ready, reject);
+      this.#onLost = reject;
+      this.ask(openMessage(settings), ({ ok, error }) => {
+        if (error !== undefined) {
+          reject(faultOfRefusal(error));
+          return;
+        }
+        this.clientId = ok.client;
+        if (this.clientId === null) resolve();
+        else this.signals.provide(1, resolve);
+      });
     });
   }
 
-  #open(message, ready, refused) {
-    this.ask(message, ({ ok, error }) => {
-      if (error !== undefined) {
-        this.cut();
-        refused(faultOfRefusal(error));
-        return;
-      }
-      this.clientId = ok.client;
-      if (this.clientId === null) ready();
-      else this.signals.provide(1, ready);
-    });
+  #lose(fault) {
+    this.#onLost(fault, this);
   }
 
   /** Sends a message; `answered` is called with its reply. */

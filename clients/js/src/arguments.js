@@ -3,23 +3,10 @@
  * standard says, in its order (Web Locks, `LockManager.request`).
  */
 
+import { abortReason, isAborted } from "./aborts.js";
 import { notSupportedError } from "./faults.js";
 
 const MODES = ["shared", "exclusive"];
-
-const signalGetter = (name) => Object.getOwnPropertyDescriptor(AbortSignal.prototype, name).get;
-const abortedOf = signalGetter("aborted");
-const reasonOf = signalGetter("reason");
-
-/** Whether a signal is aborted, whatever the page made of its properties. */
-export function isAborted(signal) {
-  return Reflect.apply(abortedOf, signal, []);
-}
-
-/** The reason that a signal was aborted with. */
-export function abortReason(signal) {
-  return Reflect.apply(reasonOf, signal, []);
-}
 
 /**
  * Converts the arguments of `request(name, callback)` or `request(name, options, callback)`.

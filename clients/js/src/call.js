@@ -1,6 +1,6 @@
 /** One call of `request`, as its page sees it: its promise, its callback and its signal. */
 
-import { abortReason } from "./arguments.js";
+import { abortReason, heedAbort, ignoreAbort } from "./aborts.js";
 import { makeLock } from "./lock.js";
 import { runAsTask } from "./tasks.js";
 
@@ -43,7 +43,7 @@ export class Call {
       this.#resolve = resolve;
       this.#reject = reject;
     });
-    asked.signal?.addEventListener("abort", this.#heedAbort, { once: true, capture: true });
+    if (asked.signal !== undefined) heedAbort(asked.signal, this.#heedAbort);
   }
 
   /** What was asked for. */
@@ -154,7 +154,7 @@ export class Call {
   }
 
   #ignoreSignal() {
-    this.#asked.signal?.removeEventListener("abort", this.#heedAbort, { capture: true });
+    if (this.#asked.signal !== undefined) ignoreAbort(this.#asked.signal, this.#heedAbort);
   }
 }
 

@@ -125,10 +125,11 @@ export class Connection {
     });
   }
 
+  /** Gives up a server that is silent or breaks the protocol. It is told later, as the end of a socket is. */
   #fail(text) {
-    const socket = this.#socket;
-    this.#lose(networkError(text));
-    cutSocket(socket);
+    if (!this.#stop()) return;
+    cutSocket(this.#socket);
+    runAsTask(() => this.#onLost(networkError(text)));
   }
 
   #lose(fault) {

@@ -1,19 +1,12 @@
-/**
- * All calls of one LockManager and what serves them: an agent of the service; a further one where the first has used
- * up its signals; and another after the connection was lost.
- */
+/** All calls of one LockManager, in their order, from the first connection to the end, whatever is lost between. */
 
-import { Agent } from "./agent.js";
+import { Agents } from "./agents.js";
 import { Call } from "./call.js";
-import { delayAfter, wait } from "./delays.js";
 import { abortError, faultOfRefusal, invalidStateError, isFinal, networkError, securityError } from "./faults.js";
 import { unescapeName } from "./names.js";
 import { Outbox } from "./outbox.js";
 import { LockRequest } from "./request.js";
 import { isOpaque } from "./settings.js";
-
-/** With so few signals left an agent's successor is opened. */
-const SIGNALS_IN_RESERVE = 64;
 
 const CONNECTING = "connecting";
 const OPEN = "open";
@@ -27,6 +20,7 @@ export class Session {
   #state = CONNECTING;
   #isActive = true;
   #isOpaque;
+  #agents;
   #outbox = new Outbox(() => this.#goOn());
 
   /** The calls that haven't ended, in their order, each with its request; null while the connection is lost. */
@@ -35,15 +29,6 @@ export class Session {
   #questions = new Set();
   /** How many requests that weren't sent yet need a signal. */
   #wanting = 0;
-
-  #agents = new Set();
-  #current = null;
-  #next = null;
-  #isOpeningNext = false;
-  /** The service's names of this client: its own first. */
-  #clientIds = new Set();
-  /** What gives up the tries to connect that are under way. */
-  #trying = new AbortController();
 
   #refusalOnceClosed = null;
   #tellClosed;
@@ -62,6 +47,10 @@ export class Session {
     this.#onLost = onLost;
     this.#onRestored = onRestored;
     this.#isOpaque = isOpaque(settings);
+    this.#agents = new Agents(settings, {
+      onLost: (fault) => this.#lose(fault, isFinal(fault) || !settings.reconnect),
+      onNews: () => this.#outbox.flush(),
+    });
   }
 
   /** Connects. Rejected, and the session closed, where that fails. */
@@ -99,11 +88,11 @@ export class Session {
       onEnd: () => this.#calls.delete(call),
     });
     if (this.#state === LOST && !call.isPlain) {
-      call.end(networkError("The connection to the server is lost"));
-    } else {
-      this.#calls.set(call, null);
-      if (this.#state !== LOST) this.#ask(call);
+      call.end(lostError());
+      return call.promise;
     }
+    this.#calls.set(call, null);
+    if (this.#state !== LOST) this.#ask(call);
     return call.promise;
   }
 
@@ -113,46 +102,43 @@ export class Session {
     return { held: held.map((lock) => this.#show(lock)), pending: pending.map((lock) => this.#show(lock)) };
   }
 
-  /** Makes a window active or inactive. */
+  /** Makes a window active or inactive. While the connection is lost the next one is told. */
   async setActive(isActive) {
     if (this.#settings.kind !== "window") throw invalidStateError("A worker is always active");
     if (this.#state === CLOSED) throw this.#refusalOnceClosed();
     this.#isActive = isActive;
-    if (this.#state !== LOST) await this.#question({ op: "active", active: isActive });
+    if (this.#state !== LOST) await this.#question(activeMessage(isActive));
   }
 
-  /** Gives up all, and gives `closed`, which is settled once the service has ended what was held. */
+  /** Gives up all, and gives `closed`, which is settled once the service has freed what was held. */
   close() {
     if (this.#state === CLOSED) return this.closed;
     const fault = abortError("The LockManager was closed");
-    const agents = [...this.#agents];
-    this.#forgetAgents();
     this.#state = CLOSED;
     this.#refusalOnceClosed = () => invalidStateError("The LockManager is closed");
+    this.#outbox.reset();
+    this.#agents.close().then(() => this.#tellClosed(fault));
     this.#endAll(fault);
-    const ends = agents.map((agent) => new Promise((resolve) => agent.close(resolve)));
-    Promise.all(ends).then(() => this.#tellClosed(fault));
     return this.closed;
   }
 
   #ask(call) {
-    if (call.asked.signal !== undefined) this.#wanting += 1;
+    const needsSignal = call.asked.signal !== undefined;
+    if (needsSignal) this.#wanting += 1;
     const request = new LockRequest(call, this.#outbox, {
-      onSent: () => this.#heedSent(call),
-      onOver: () => this.#retire(request.agent),
+      onSent: () => {
+        if (needsSignal) this.#provideSignals(-1);
+      },
+      onOver: () => {
+        if (request.agent !== null) this.#agents.retire(request.agent);
+      },
     });
     this.#calls.set(call, request);
     this.#outbox.push(request);
   }
 
-  #heedSent(call) {
-    if (call.asked.signal === undefined) return;
-    this.#wanting -= 1;
-    this.#provideSignals();
-  }
-
   #question(message) {
-    if (this.#state === LOST) return Promise.reject(networkError("The connection to the server is lost"));
+    if (this.#state === LOST) return Promise.reject(lostError());
     return new Promise((resolve, reject) => {
       this.#questions.add(reject);
       const answered = ({ ok, error }) => {
@@ -165,152 +151,104 @@ export class Session {
   }
 
   #show({ clientId, mode, name }) {
-    const [own] = this.#clientIds;
-    return { clientId: this.#clientIds.has(clientId) ? own : clientId, mode, name: unescapeName(name) };
+    return { clientId: this.#agents.shownClientId(clientId), mode, name: unescapeName(name) };
   }
 
-  /** One signal more than the requests need that wait for one is ready or asked for. */
-  #provideSignals() {
-    if (this.#current === null) return;
-    this.#current.signals.provide(this.#wanting + 1, () => this.#outbox.flush());
-    if (this.#current.signals.left <= SIGNALS_IN_RESERVE) this.#openNext();
+  /** One signal more than the requests need that wait for one is to be ready or asked for. */
+  #provideSignals(change = 0) {
+    this.#wanting += change;
+    this.#agents.provideSignals(this.#wanting + 1);
   }
 
-  /** Where a request waits for a signal and the agent has none left, its successor serves. */
+  /** A request waits for a signal: has it asked for, or the agent's successor serve where there is none left. */
   #goOn() {
     this.#provideSignals();
-    if (this.#current.signals.left > 0 || this.#next === null) return false;
-    const before = this.#current;
-    this.#adopt(this.#next);
-    this.#next = null;
-    this.#retire(before);
+    if (!this.#agents.moveOn()) return false;
+    this.#heedAgent();
     return true;
   }
 
-  /** An agent that serves no new requests is closed with the last of its own. */
-  #retire(agent) {
-    if (agent === null || agent === this.#current || agent === this.#next || !agent.isIdle) return;
-    if (this.#agents.delete(agent)) agent.close(() => {});
-  }
-
-  #adopt(agent) {
-    this.#enter(agent);
-    this.#current = agent;
-    this.#isOpaque = agent.clientId === null;
-    this.#outbox.current = agent;
-    if (!this.#isActive) agent.ask({ op: "active", active: false }, () => {});
-  }
-
-  #enter(agent) {
-    this.#agents.add(agent);
-    if (agent.clientId !== null) this.#clientIds.add(agent.clientId);
-  }
-
-  async #openNext() {
-    if (this.#next !== null || this.#isOpeningNext) return;
-    this.#isOpeningNext = true;
-    const { signal } = this.#trying;
-    try {
-      const agent = await this.#openInTime();
-      this.#isOpeningNext = false;
-      this.#enter(agent);
-      this.#next = agent;
-      this.#outbox.flush();
-    } catch (fault) {
-      if (!signal.aborted) this.#lose(fault, true);
-    }
-  }
-
   async #openFirst() {
-    this.#adopt(await this.#openAgent());
+    await this.#agents.open();
+    if (this.#state === CLOSED) throw this.#refusalOnceClosed();
     this.#state = OPEN;
+    this.#heedAgent();
     this.#outbox.flush();
   }
 
-  #openAgent() {
-    return Agent.open(this.#settings, (fault, agent) => this.#loseAgent(fault, agent), this.#trying.signal);
+  /** Another agent serves from here on. */
+  #heedAgent() {
+    const agent = this.#agents.current;
+    this.#isOpaque = agent.clientId === null;
+    this.#outbox.current = agent;
+    if (!this.#isActive) agent.ask(activeMessage(false), () => {});
   }
 
-  /** Opens an agent, however many tries it takes, unless there is no sense in trying. */
-  async #openInTime(triesBefore = 0) {
-    const { signal } = this.#trying;
-    for (let tries = triesBefore; ; tries += 1) {
-      try {
-        return await this.#openAgent();
-      } catch (fault) {
-        if (signal.aborted || isFinal(fault)) throw fault;
-      }
-      await wait(delayAfter(tries), signal);
-    }
-  }
-
-  #loseAgent(fault, agent) {
-    if (agent !== this.#next) return this.#lose(fault, !this.#settings.reconnect);
-    this.#agents.delete(agent);
-    this.#next = null;
-    this.#provideSignals();
-  }
-
+  /**
+   * Ends what was lost with the connection. The page's own code may run as soon as a call ends, and may close the
+   * LockManager: so all is in order before.
+   */
   #lose(fault, isForGood) {
     if (this.#state === CLOSED) return;
-    for (const agent of this.#agents) agent.cut();
-    this.#forgetAgents();
-    this.#state = isForGood ? CLOSED : LOST;
     const told = networkError(fault.message);
+    this.#state = isForGood ? CLOSED : LOST;
     this.#refusalOnceClosed = () => networkError(fault.message);
+    this.#agents.cut();
+    this.#outbox.reset();
+    this.#wanting = 0;
     if (isForGood) {
-      this.#endAll(told);
       this.#tellClosed(fault);
+      this.#endAll(told);
     } else {
-      this.#endLost(told);
       this.#restore();
+      this.#endAllButWaiting(told);
     }
     this.#onLost(told);
   }
 
-  #forgetAgents() {
-    this.#trying.abort(networkError("Connecting was given up"));
-    this.#trying = new AbortController();
-    this.#agents.clear();
-    this.#clientIds.clear();
-    this.#outbox.reset();
-    this.#current = null;
-    this.#next = null;
-    this.#isOpeningNext = false;
-    this.#wanting = 0;
-  }
-
   #endAll(fault) {
-    for (const reject of this.#questions) reject(fault);
-    this.#questions.clear();
-    for (const call of [...this.#calls.keys()]) call.end(fault);
+    const calls = this.#calls;
+    this.#calls = new Map();
+    this.#endQuestions(fault);
+    for (const call of calls.keys()) call.end(fault);
   }
 
-  /** What may have been done isn't asked for again: only plain requests, which do nothing but wait, are. */
-  #endLost(fault) {
+  /** What may have been done isn't asked for again: only plain requests that wait are, which have done nothing yet. */
+  #endAllButWaiting(fault) {
+    const calls = [...this.#calls.keys()];
+    const waiting = calls.filter((call) => call.isPlain && !call.isHeld);
+    this.#calls = new Map(waiting.map((call) => [call, null]));
+    for (const call of waiting) call.waitAgain();
+    this.#endQuestions(fault);
+    for (const call of calls) {
+      if (call.isHeld || !call.isPlain) call.end(fault);
+    }
+  }
+
+  #endQuestions(fault) {
     for (const reject of this.#questions) reject(fault);
     this.#questions.clear();
-    for (const call of [...this.#calls.keys()]) {
-      if (call.isHeld || !call.isPlain) {
-        call.end(fault);
-      } else {
-        call.waitAgain();
-        this.#calls.set(call, null);
-      }
-    }
   }
 
   async #restore() {
-    const { signal } = this.#trying;
     try {
-      await wait(delayAfter(0), signal);
-      this.#adopt(await this.#openInTime(1));
+      await this.#agents.openAgain();
     } catch (fault) {
-      if (!signal.aborted) this.#lose(fault, true);
+      this.#lose(fault, true);
       return;
     }
+    if (this.#state === CLOSED) return;
     this.#state = OPEN;
+    this.#heedAgent();
     for (const call of this.#calls.keys()) this.#ask(call);
     this.#onRestored();
   }
+}
+
+function lostError() {
+  return networkError("The connection to the server is lost");
+}
+
+function activeMessage(active) {
+  return { op: "active", active };
 }

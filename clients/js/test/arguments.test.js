@@ -3,7 +3,7 @@
 import assert from "node:assert/strict";
 import { test } from "node:test";
 import { Lock, LockManager } from "../weblocks.js";
-import { assertFree, assertRejects, hold } from "./support/holding.js";
+import { assertFree, assertRejects, hold, watch } from "./support/holding.js";
 import { connectTo, startPushing } from "./support/servers.js";
 
 test("arguments and refusals", async (t) => {
@@ -125,6 +125,21 @@ test("arguments and refusals", async (t) => {
     for (const options of refused) await assertRejects(locks.request("db", options, nothing), "NotSupportedError");
   });
 
+  await t.test("each refusal comes at once, without asking the service", async () => {
+    const before = server.received.length;
+    const signal = AbortSignal.abort("mine");
+    const refused = [
+      ["db"], ["db", {}, 5], ["db", { mode: "odd" }, nothing], ["-x", nothing],
+      ["db", { steal: true, ifAvailable: true }, nothing], ["db", { steal: true, mode: "shared" }, nothing],
+      ["db", { steal: true, signal }, nothing], ["db", { ifAvailable: true, signal }, nothing],
+      ["db", { signal }, nothing], ["a".repeat(1025), nothing],
+    ].map((given) => watch(locks.request(...given)));
+    for (let turn = 0; turn < 3; turn += 1) await null;
+    for (const { state } of refused) assert.equal(state, "rejected");
+    await assertFree(locks);
+    assert.deepEqual(server.ops.slice(before), ["query"]);
+  });
+
   await t.test("a method of another object is a TypeError, by a rejected promise", async () => {
     await assert.rejects(locks.request.call({}, Symbol("s"), nothing), TypeError);
     await assert.rejects(LockManager.prototype.query.call(new EventTarget()), TypeError);
@@ -144,12 +159,6 @@ test("arguments and refusals", async (t) => {
       assert.deepEqual(members.sort(), ["mode", "name"]);
       assert.throws(() => Object.getOwnPropertyDescriptor(Lock.prototype, "name").get.call({}), TypeError);
     });
-  });
-
-  await t.test("nothing that was refused was sent", async () => {
-    await assertFree(locks);
-    const sent = server.received.map(({ message }) => message.name ?? "");
-    assert.ok(!sent.some((name) => name.startsWith("-")));
   });
 });
 

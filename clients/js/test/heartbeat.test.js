@@ -71,7 +71,7 @@ test("a server that is slow, but answers, isn't lost", async (t) => {
 });
 
 test("a client whose own event loop was held up reads first what has come", async (t) => {
-  const locks = await connectTo(t, await startPushing(t), { heartbeat: HEARTBEAT });
+  const locks = await connectTo(t, await startPolled(t), { heartbeat: HEARTBEAT });
   const holding = await hold(locks, "db");
   for (let round = 0; round < 3; round += 1) {
     await sleep(1.1 * HEARTBEAT);

@@ -1,8 +1,12 @@
 /** A server for the tests of a file. */
 
 import assert from "node:assert/strict";
+import { spawn } from "node:child_process";
+import { once } from "node:events";
+import { createInterface } from "node:readline";
 import { test } from "node:test";
 import { startServer, useServer } from "../testing.js";
+import { until } from "./support/holding.js";
 import { PROGRAM } from "./support/servers.js";
 import { WebSocket } from "./support/sockets.js";
 
@@ -34,6 +38,24 @@ test("servers that are started are apart, and end when they are stopped", async 
   assert.throws(() => process.kill(one.pid, 0));
 });
 
+test("a server ends with the program that started it, whether that ends by itself or by a signal", async () => {
+  const testing = new URL("../testing.js", import.meta.url).href;
+  for (const signal of [null, "SIGTERM", "SIGINT"]) {
+    const program = `
+      import { startServer } from ${JSON.stringify(testing)};
+      console.log((await startServer({ program: ${JSON.stringify(PROGRAM)} })).pid);
+      setTimeout(() => process.exit(), ${signal === null ? 0 : 60_000});
+    `;
+    const child = spawn(process.execPath, ["--input-type=module", "-e", program], { stdio: ["ignore", "pipe", "inherit"] });
+    const [pid] = await once(createInterface(child.stdout), "line");
+    const ended = once(child, "exit");
+    if (signal !== null) child.kill(signal);
+    const [, by] = await ended;
+    assert.equal(by, signal);
+    await until(() => !isRunning(Number(pid)));
+  }
+});
+
 test("without a program, or with one that doesn't run, starting rejects and says why", async () => {
   const before = process.env.WEBLOCKS_PROGRAM;
   delete process.env.WEBLOCKS_PROGRAM;
@@ -42,3 +64,12 @@ test("without a program, or with one that doesn't run, starting rejects and says
   await assert.rejects(startServer({ program: "/nowhere/weblocks" }), { code: "ENOENT" });
   await assert.rejects(startServer({ program: process.execPath }), /ended/);
 });
+
+function isRunning(pid) {
+  try {
+    process.kill(pid, 0);
+    return true;
+  } catch {
+    return false;
+  }
+}

@@ -39,6 +39,9 @@ export class PushingServer {
   /** What each message is answered, where it is set. */
   answer = null;
 
+  /** What each message is refused with, where it is set. */
+  refusal = null;
+
   /**
    * @param {string} backend the URL of the server that polls
    * @param {{token?: string, selects?: boolean}} [options] what clients are to be known by, and whether
@@ -138,8 +141,9 @@ class Link {
     const message = JSON.parse(text);
     this.#server.received.push({ link: this.#number, message });
     if (this.#server.isDeaf) return;
-    if (this.#server.answer !== null) {
-      this.socket.send(this.#server.answer);
+    const own = this.#server.answer ?? this.#refuse(message.id);
+    if (own !== null) {
+      this.socket.send(own);
       return;
     }
     if (message.op === "open" && this.#server.closeCode !== null) {
@@ -149,6 +153,11 @@ class Link {
     } else {
       this.#early.push(text);
     }
+  }
+
+  #refuse(id) {
+    const { refusal } = this.#server;
+    return refusal === null ? null : JSON.stringify({ error: refusal, id, notices: [] });
   }
 
   #begin() {

@@ -1,0 +1,167 @@
+/**
+ * The agents that serve one LockManager: the first; its successor, once its signals are used up; and after a loss of
+ * the connection the next.
+ */
+
+import { Agent } from "./agent.js";
+import { delayAfter, wait } from "./delays.js";
+import { isFinal, networkError } from "./faults.js";
+
+/** With so few signals left an agent's successor is opened. */
+const SIGNALS_IN_RESERVE = 64;
+
+export class Agents {
+  #settings;
+  #onLost;
+  #onNews;
+  #all = new Set();
+  #current = null;
+  #next = null;
+  #isOpeningNext = false;
+  /** The service's names of them, in the order in which they came. */
+  #clientIds = new Set();
+  /** What gives up the tries to connect that are under way. */
+  #trying = new AbortController();
+
+  /**
+   * @param {object} settings as `readSettings` gives them
+   * @param {{onLost: (fault: Error) => void, onNews: () => void}} listeners `onLost` where one that has requests was
+   *   lost, or a successor can't be had; `onNews` where there is a signal, or a successor, that wasn't there before
+   */
+  constructor(settings, { onLost, onNews }) {
+    this.#settings = settings;
+    this.#onLost = onLost;
+    this.#onNews = onNews;
+  }
+
+  /** The one that serves new requests, or null while there is none. */
+  get current() {
+    return this.#current;
+  }
+
+  /** Connects the first. Rejected where that fails, or is given up. */
+  open() {
+    return this.#open((agent) => this.#serve(agent));
+  }
+
+  /** Connects another after a loss, in time, however many tries it takes. Rejected where there is no sense in more. */
+  async openAgain() {
+    await wait(delayAfter(0), this.#trying.signal);
+    await this.#openInTime((agent) => this.#serve(agent), 1);
+  }
+
+  /** Sees that so many signals are ready or asked for, and that there is a successor where few are left. */
+  provideSignals(count) {
+    if (this.#current === null) return;
+    this.#current.signals.provide(count, this.#onNews);
+    if (this.#current.signals.left <= SIGNALS_IN_RESERVE) this.#openNext();
+  }
+
+  /** Has the successor serve, if the present agent has no signals left and there is one. Whether that is so. */
+  moveOn() {
+    if (this.#current.signals.left > 0 || this.#next === null) return false;
+    const before = this.#current;
+    this.#serve(this.#next);
+    this.#next = null;
+    this.retire(before);
+    return true;
+  }
+
+  /** An agent that serves no new requests is closed with the last of its own. */
+  retire(agent) {
+    if (agent === this.#current || agent === this.#next || !agent.isIdle) return;
+    if (this.#all.delete(agent)) agent.close(() => {});
+  }
+
+  /** The name by which a client is shown: that of the first of these for all of them. */
+  shownClientId(clientId) {
+    const [first] = this.#clientIds;
+    return this.#clientIds.has(clientId) ? first : clientId;
+  }
+
+  /** Cuts all connections, and gives up the tries to connect. */
+  cut() {
+    for (const agent of this.#all) agent.cut();
+    this.#forget();
+  }
+
+  /** Gives up the tries to connect, and closes all agents. Settled once the service has freed what they held. */
+  async close() {
+    const all = [...this.#all];
+    this.#forget();
+    await Promise.all(all.map((agent) => new Promise((resolve) => agent.close(resolve))));
+  }
+
+  #serve(agent) {
+    this.#enter(agent);
+    this.#current = agent;
+  }
+
+  #enter(agent) {
+    this.#all.add(agent);
+    if (agent.clientId !== null) this.#clientIds.add(agent.clientId);
+  }
+
+  async #openNext() {
+    if (this.#next !== null || this.#isOpeningNext) return;
+    const { signal } = this.#trying;
+    this.#isOpeningNext = true;
+    try {
+      await this.#openInTime((agent) => this.#keepNext(agent));
+    } catch (fault) {
+      if (!signal.aborted) this.#onLost(fault);
+      return;
+    }
+    this.#onNews();
+  }
+
+  #keepNext(agent) {
+    this.#isOpeningNext = false;
+    this.#enter(agent);
+    this.#next = agent;
+  }
+
+  async #openInTime(use, triesBefore = 0) {
+    const { signal } = this.#trying;
+    for (let tries = triesBefore; ; tries += 1) {
+      try {
+        return await this.#open(use);
+      } catch (fault) {
+        if (signal.aborted || isFinal(fault)) throw fault;
+      }
+      await wait(delayAfter(tries), signal);
+    }
+  }
+
+  /** Connects an agent and has it used, unless connecting was given up by then. */
+  async #open(use) {
+    const { signal } = this.#trying;
+    const agent = await Agent.open(this.#settings, (fault) => this.#lose(fault, agent), signal);
+    if (signal.aborted) {
+      agent.cut();
+      throw signal.reason;
+    }
+    use(agent);
+  }
+
+  /** A successor that has served nobody is replaced. */
+  #lose(fault, agent) {
+    if (agent !== this.#next) {
+      this.#onLost(fault);
+      return;
+    }
+    this.#all.delete(agent);
+    this.#next = null;
+    this.provideSignals(1);
+  }
+
+  #forget() {
+    this.#trying.abort(networkError("Connecting was given up"));
+    this.#trying = new AbortController();
+    this.#all.clear();
+    this.#clientIds.clear();
+    this.#current = null;
+    this.#next = null;
+    this.#isOpeningNext = false;
+  }
+}
