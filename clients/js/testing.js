@@ -138,10 +138,12 @@ function endWithProgram(child) {
     for (const signal of ENDING) process.on(signal, killAllAndEnd);
   }
   running.add(child);
-  child.once("exit", () => {
+  const forget = () => {
     running.delete(child);
     if (running.size === 0) ignoreEnd();
-  });
+  };
+  child.once("error", forget);
+  child.once("exit", forget);
 }
 
 function killAll() {
