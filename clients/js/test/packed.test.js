@@ -27,6 +27,19 @@ test("the types are those of the package, and a strict user's program is well ty
     await run("tsc", ["--project", join(HERE, "test/types")]);
   });
 
+test("the modules export what their types say", async () => {
+  const exported = {
+    "weblocks.js": ["Lock", "LockManager", "LostEvent", "connect"],
+    "polyfill.js": ["install"],
+    "testing.js": ["startServer", "useServer"],
+  };
+  for (const [file, names] of Object.entries(exported)) {
+    assert.deepEqual(Object.keys(await import(`../${file}`)).sort(), names);
+    const types = await readFile(join(HERE, file.replace(".js", ".d.ts")), "utf8");
+    for (const name of names) assert.match(types, new RegExp(`^export (function|class|const) ${name}\\b`, "m"));
+  }
+});
+
 test("npm pack gives a package that works in an empty folder", { skip: lacks("npm") }, async (t) => {
   const server = await startPushing(t);
   const folder = await mkdtemp(join(tmpdir(), "weblocks-packed-"));
