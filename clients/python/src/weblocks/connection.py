@@ -3,14 +3,16 @@
 from __future__ import annotations
 
 import asyncio
+import contextlib
 from collections import deque
 from collections.abc import Callable
 
 from websockets.exceptions import ConnectionClosed
 
+from .eager import start
 from .errors import Disconnected, Forbidden
 from .messages import POLL, BadReply, Message, Reply, read_reply, write_message
-from .transport import PUSHES, Options, Socket, open_socket
+from .transport import CLOSE_SECONDS, PUSHES, Options, Socket, open_socket
 
 Answer = Callable[[Reply], None]
 Failure = Callable[[Disconnected], None]
@@ -39,13 +41,14 @@ class Connection:
         self._end = end
         self._next_id = 1
         self._outbox: deque[str] = deque()
-        self._written: asyncio.Future[None] | None = None
+        self._writing: asyncio.Task[None] | None = None
         self._asked: deque[tuple[int, Answer, Failure | None]] = deque()
         self._polls_wanted = False
         self._poll_timer: asyncio.TimerHandle | None = None
         self._replied = False
         self._beat = self._loop.call_later(options.heartbeat, self._begin_beat)
-        self._tasks = [self._loop.create_task(self._read()), self._loop.create_task(self._write())]
+        self._reading = self._loop.create_task(self._read())
+        self._closing: asyncio.Task[None] | None = None
 
     @classmethod
     async def open(
@@ -67,8 +70,8 @@ class Connection:
         self._next_id = id + 1
         self._asked.append((id, answer, failure))
         self._outbox.append(write_message(id, message))
-        if self._written is not None and not self._written.done():
-            self._written.set_result(None)
+        if self._writing is None or self._writing.done():
+            self._writing = start(self._write())
 
     async def call(self, message: Message) -> Reply:
         """Sends a message and waits for its reply; raises Disconnected where the connection is lost first."""
@@ -102,18 +105,21 @@ class Connection:
         for _id, _answer, failure in self._asked:
             if failure is not None:
                 failure(reason)
-        for task in self._tasks:
-            task.cancel()
+        self._reading.cancel()
+        if self._writing is not None:
+            self._writing.cancel()
         self._socket.transport.abort()
-        self._tasks.append(self._loop.create_task(self._socket.close()))
+        if self._closing is None:
+            self._closing = self._loop.create_task(self._socket.close())
         self._end(reason)
 
     async def close(self) -> None:
         """Ends the connection by the closing handshake, for which the other side has a second."""
-        closing = self._loop.create_task(self._socket.close())
-        await asyncio.wait([closing], timeout=1)
+        if self._closing is None:
+            self._closing = self._loop.create_task(self._socket.close())
+        await asyncio.wait([self._closing], timeout=CLOSE_SECONDS)
         self.lose(Disconnected("the connection was closed"))
-        await asyncio.wait([closing, *self._tasks])
+        await asyncio.wait([self._closing, self._reading])
 
     async def _read(self) -> None:
         try:
@@ -125,14 +131,11 @@ class Connection:
             self.lose(Disconnected(f"the server sent what is no reply: {error}"))
 
     async def _write(self) -> None:
-        try:
-            while True:
-                while self._outbox:
-                    await self._socket.send(self._outbox.popleft())
-                self._written = self._loop.create_future()
-                await self._written
-        except ConnectionClosed as error:
-            self.lose(_explain_close(error))
+        """Sends what is to be sent. It begins at once, so the order of messages is that of the calls of `ask`."""
+        # That the connection is closed, the reader learns too, and says so.
+        with contextlib.suppress(ConnectionClosed):
+            while self._outbox:
+                await self._socket.send(self._outbox.popleft())
 
     def _take(self, reply: Reply) -> None:
         """Hands on a reply, or a push, which nobody asked for and which shows no life of the way out."""

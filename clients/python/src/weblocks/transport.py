@@ -4,6 +4,7 @@ from __future__ import annotations
 
 import asyncio
 import importlib
+import os
 import re
 import ssl as tls
 from dataclasses import dataclass
@@ -127,18 +128,18 @@ def _explain(options: Options, error: Exception) -> Exception:
     """What to raise for an error of the library or the system."""
     if isinstance(error, InvalidURI):
         return ValueError(f"{options.url!r} is no URL of a WebSocket server, such as ws://127.0.0.1:8080")
+    server = f"the server at {options.url}"
     status = _status(error)
     if status in (401, 403):
-        return Forbidden(f"the server at {options.url} refused the token (HTTP status {status})"
-                         if options.token is not None
-                         else f"the server at {options.url} wants a token (HTTP status {status})")
+        fault = "wants a token" if options.token is None else "refused the token"
+        return Forbidden(f"{server} {fault} (HTTP status {status})")
     if status == 503:
-        return Disconnected(f"the server at {options.url} has no room for a further client (HTTP status 503)")
+        return Disconnected(f"{server} has no room for a further client (HTTP status 503)")
     if status is not None:
-        return Disconnected(f"the server at {options.url} does not speak WebSocket here (HTTP status {status})")
+        return Disconnected(f"{server} does not speak WebSocket here (HTTP status {status})")
     if isinstance(error, asyncio.TimeoutError):
-        return Disconnected(f"the server at {options.url} did not answer in {options.open_timeout:g} seconds")
+        return Disconnected(f"{server} did not answer in {options.open_timeout:g} seconds")
     if isinstance(error, InvalidHandshake):
-        return Disconnected(f"the server at {options.url} does not speak WebSocket: {error}")
-    return Disconnected(f"no server answers at {options.url}: {error.strerror or error}"
-                        if isinstance(error, OSError) else f"no server answers at {options.url}: {error}")
+        return Disconnected(f"{server} does not speak WebSocket: {error}")
+    reason = os.strerror(error.errno) if isinstance(error, OSError) and error.errno else str(error)
+    return Disconnected(f"no server answers at {options.url}: {reason}")
