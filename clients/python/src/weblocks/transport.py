@@ -141,5 +141,6 @@ def _explain(options: Options, error: Exception) -> Exception:
         return Disconnected(f"{server} did not answer in {options.open_timeout:g} seconds")
     if isinstance(error, InvalidHandshake):
         return Disconnected(f"{server} does not speak WebSocket: {error}")
-    reason = os.strerror(error.errno) if isinstance(error, OSError) and error.errno else str(error)
+    errno = error.errno if isinstance(error, OSError) else None
+    reason = os.strerror(errno) if errno is not None and errno > 0 else str(error)
     return Disconnected(f"no server answers at {options.url}: {reason}")
