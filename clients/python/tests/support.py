@@ -6,6 +6,7 @@ import asyncio
 import contextlib
 import itertools
 import json
+import logging
 import os
 import signal
 import socket
@@ -13,7 +14,8 @@ import subprocess
 import threading
 import time
 import unittest
-from collections.abc import AsyncIterator, Callable, Iterator
+from collections.abc import AsyncIterator, Iterator
+from http import HTTPStatus
 from pathlib import Path
 from typing import Any
 
@@ -60,7 +62,9 @@ class Server:
 
     def kill(self) -> None:
         self._process.kill()
-        self._process.communicate()
+        self._process.wait()
+        assert self._process.stdout is not None
+        self._process.stdout.close()
 
     def stop(self) -> None:
         """It is there, and does nothing, as on a machine that has come to a halt."""
@@ -132,7 +136,7 @@ class StandIn:
 
     async def _admit(self, _path: str, headers: Any) -> Any:
         if self._token is not None and headers.get("Authorization") != f"Bearer {self._token}":
-            return 401, [], b"the token is wrong\n"
+            return HTTPStatus.UNAUTHORIZED, [], b"the token is wrong\n"
         return None
 
     async def _serve(self, client: WebSocketServerProtocol, _path: str = "") -> None:
@@ -186,6 +190,7 @@ class Proxy:
     def end(self) -> None:
         async def close() -> None:
             self._server.close()
+            await self._server.wait_closed()
 
         self.cut()
         self._thread.run(close())
@@ -217,17 +222,8 @@ def proxied(port: int) -> Iterator[Proxy]:
         proxy.end()
 
 
-async def eventually(condition: Callable[[], bool]) -> None:
-    """Waits until something is so."""
-    end = time.monotonic() + SECONDS
-    while not condition():
-        if time.monotonic() > end:
-            raise AssertionError(f"it did not come about in {SECONDS} seconds")
-        await asyncio.sleep(0.01)
-
-
 class ServedCase(unittest.IsolatedAsyncioTestCase):
-    """Tests that have a server for all of them, and an origin for each."""
+    """Tests that have a server for all of them, and an origin for each; what is logged is only asserted."""
 
     server: Server
     pushes = False
@@ -244,6 +240,10 @@ class ServedCase(unittest.IsolatedAsyncioTestCase):
 
     def setUp(self) -> None:
         self.origin = new_origin()
+        logger = logging.getLogger("weblocks")
+        level = logger.level
+        logger.setLevel(logging.CRITICAL)
+        self.addCleanup(logger.setLevel, level)
 
     def connect(self, **options: Any) -> contextlib.AbstractAsyncContextManager[weblocks.LockManager]:
         """A manager of the test's origin, at the test's server."""

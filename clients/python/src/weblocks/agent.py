@@ -150,14 +150,14 @@ class Agent:
 
     def _number(self, request: Request, reply: Reply) -> None:
         """The service has numbered a request, or refused it."""
-        self._unnumbered.popleft()
-        if reply.refusal is not None:
-            self._free_signal(request)
-            request.end(reply.refusal)
-        else:
+        if reply.refusal is None:
             request.number = _number_of(reply, "request")
             self._requests[request.number] = request
             self._waiting += 1
+        else:
+            self._free_signal(request)
+            request.end(reply.refusal)
+        self._unnumbered.popleft()
 
     def _free_signal(self, request: Request) -> None:
         """Its signal serves the next request, unless it was aborted."""

@@ -142,9 +142,9 @@ class Connection:
         if reply.id is None and reply.refusal is None:
             self._hear(reply)
             return
-        id, answer, _failure = self._asked.popleft() if self._asked else (None, None, None)
-        if answer is None or reply.id != id:
-            raise BadReply(f"it answers the message {reply.id}, where {id} was next")
+        if not self._asked or reply.id != self._asked[0][0]:
+            raise BadReply(f"it answers the message {reply.id}, which was not next")
+        _id, answer, _failure = self._asked.popleft()
         self._replied = True
         answer(reply)
         self._hear(reply)
