@@ -76,14 +76,14 @@ class Behaviour:
                     self.assertNotEqual(seen["first"], seen["second"])
             await self.expect_nothing_left()
 
-    async def test_what_was_asked_by_a_former_connection_is_done_before_what_is_asked_by_the_next(self):
-        """Otherwise the request of another connection could come before the abort or the release."""
-        async with self.connect() as locks:
-            for _ in range(40):
-                async with locks.request("db"):
+    async def test_what_a_former_connection_was_asked_is_done_before_what_the_next_is_asked(self):
+        # A request that waits stands in the way of a reader, so a reader that came before the aborts would get nothing.
+        async with self.connected(2) as (locks, other):
+            async with other.request("db", mode="shared"):
+                for _ in range(40):
                     await self.give_up(locks, 100)
-                async with locks.request("db", if_available=True) as lock:
-                    self.assertIsNotNone(lock)
+                    async with locks.request("db", mode="shared", if_available=True) as lock:
+                        self.assertIsNotNone(lock)
 
     async def test_ten_thousand_requests_may_be_given_up(self):
         async with self.connected(2) as (locks, other):

@@ -111,13 +111,12 @@ class Child:
     async def end(self) -> int:
         """Ends it: TERM, and KILL after 10 seconds."""
         self._send(signal.SIGTERM)
-        try:
-            async with asyncio.timeout(KILL_SECONDS):
-                return await self.wait()
-        except TimeoutError:
+        waiting = asyncio.create_task(self.wait())
+        await asyncio.wait([waiting], timeout=KILL_SECONDS)
+        if not waiting.done():
             complain(f"the command did not end in {KILL_SECONDS:g} seconds: killing it")
             self._send(signal.SIGKILL)
-            return await self.wait()
+        return await waiting
 
     def _send(self, number: int) -> None:
         if self._process.returncode is None:

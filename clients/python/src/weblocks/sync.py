@@ -7,12 +7,12 @@ import concurrent.futures
 import contextlib
 import ssl as tls
 import threading
-from collections.abc import Coroutine, Iterator
+from collections.abc import Callable, Coroutine, Iterator
 from types import TracebackType
 from typing import Any, Generic, Literal, TypeVar, cast, overload
 
 from . import manager
-from .errors import Closed
+from .errors import Closed, LockLost
 from .messages import Kind, Mode
 from .names import wire_of_checked
 from .queries import Snapshot
@@ -26,16 +26,24 @@ class LoopThread:
     """A thread that runs an event loop, in which other threads have coroutines run."""
 
     def __init__(self) -> None:
-        self.loop = asyncio.new_event_loop()
+        self._loop = asyncio.new_event_loop()
         self._thread = threading.Thread(target=self._serve, name="weblocks", daemon=True)
+        self._lock = threading.Lock()
+        self._stopped = False
+        self._results: set[concurrent.futures.Future[Any]] = set()
         self._thread.start()
 
     def run(self, work: Coroutine[Any, Any, Answer]) -> Answer:
-        """Runs a coroutine to its end; an interruption of the thread that waits cancels it."""
-        if not self._thread.is_alive():
-            work.close()
-            raise Closed("the lock manager was closed")
-        result = asyncio.run_coroutine_threadsafe(work, self.loop)
+        """Runs a coroutine to its end; an interruption of the thread that waits cancels it.
+
+        Raises Closed where the loop is stopped before.
+        """
+        with self._lock:
+            if self._stopped:
+                work.close()
+                raise Closed("the lock manager was closed")
+            result = asyncio.run_coroutine_threadsafe(work, self._loop)
+            self._results.add(result)
         try:
             return result.result()
         except concurrent.futures.CancelledError:
@@ -43,15 +51,28 @@ class LoopThread:
         except BaseException:
             result.cancel()
             raise
+        finally:
+            with self._lock:
+                self._results.discard(result)
+
+    def call(self, work: Callable[[], None]) -> None:
+        """Has the loop call a function soon, unless it is stopped."""
+        with self._lock:
+            if not self._stopped:
+                self._loop.call_soon_threadsafe(work)
 
     def stop(self) -> None:
         """Cancels what still runs, and ends the thread."""
-        if self._thread.is_alive():
-            self.loop.call_soon_threadsafe(self.loop.stop)
-            self._thread.join()
+        with self._lock:
+            if not self._stopped:
+                self._stopped = True
+                for result in self._results:
+                    result.cancel()
+                self._loop.call_soon_threadsafe(self._loop.stop)
+        self._thread.join()
 
     def _serve(self) -> None:
-        with asyncio.Runner(loop_factory=lambda: self.loop) as runner:
+        with asyncio.Runner(loop_factory=lambda: self._loop) as runner:
             runner.get_loop().run_forever()
 
 
@@ -73,11 +94,11 @@ class LockRequest(Generic[LockOrNone]):
         if self._request is not None:
             raise RuntimeError("a request serves one block: call request() again for the next")
         try:
-            lock = self._thread.run(self._acquire())
+            return cast(LockOrNone, self._thread.run(self._acquire()))
         except BaseException:
-            self._thread.loop.call_soon_threadsafe(self._give_up)
+            # The lock may have come while the thread was interrupted.
+            self._thread.call(self._give_up)
             raise
-        return cast(LockOrNone, lock)
 
     def __exit__(
         self, kind: type[BaseException] | None, _error: BaseException | None, _trace: TracebackType | None
@@ -85,7 +106,14 @@ class LockRequest(Generic[LockOrNone]):
         request = cast(Request, self._request)
         if request.lock is None:
             return
-        lost = self._thread.run(request.release()) if request.lock.lost is None else request.lock.lost
+        try:
+            lost = self._thread.run(request.release())
+        except Closed:
+            lost = request.lock.lost or LockLost("the lock manager was closed before the release was answered")
+        except BaseException:
+            # The thread may have been interrupted before the release was begun.
+            self._thread.call(request.give_up)
+            raise
         if lost is not None and kind is None:
             raise lost
 
@@ -94,7 +122,6 @@ class LockRequest(Generic[LockOrNone]):
         return await wait_for_lock(self._request, self._timeout)
 
     def _give_up(self) -> None:
-        """The lock may have come while the thread was interrupted."""
         if self._request is not None:
             self._request.give_up()
 
