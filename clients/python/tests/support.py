@@ -240,10 +240,10 @@ class ServedCase(unittest.IsolatedAsyncioTestCase):
 
     def setUp(self) -> None:
         self.origin = new_origin()
-        logger = logging.getLogger("weblocks")
-        level = logger.level
-        logger.setLevel(logging.CRITICAL)
-        self.addCleanup(logger.setLevel, level)
+        for name in ("weblocks", "asyncio", "websockets"):
+            logger = logging.getLogger(name)
+            self.addCleanup(logger.setLevel, logger.level)
+            logger.setLevel(logging.CRITICAL)
 
     def connect(self, **options: Any) -> contextlib.AbstractAsyncContextManager[weblocks.LockManager]:
         """A manager of the test's origin, at the test's server."""

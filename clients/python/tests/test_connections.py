@@ -89,6 +89,12 @@ class Handshakes(ServedCase):
             return await serve(handle, "127.0.0.1", 0, process_request=process_request)
 
         server = thread.run(listen())
+
+        async def close():
+            server.close()
+            await server.wait_closed()
+
+        self.addCleanup(lambda: thread.run(close()))
         return "ws://127.0.0.1:%d" % server.sockets[0].getsockname()[1]
 
     async def refuse(self, header, status):

@@ -45,10 +45,14 @@ class Wheel(unittest.TestCase):
             cls.folder / "source", env=cls.environment, cwd=cls.folder,
         )  # fmt: skip
         # The library that the package stands on comes from the system.
-        run(sys.executable, "-m", "venv", "--system-site-packages", cls.folder / "venv", env=cls.environment)
-        cls.python = cls.folder / "venv" / "bin" / "python3"
+        venv = cls.folder / "venv"
+        run(sys.executable, "-m", "venv", "--system-site-packages", "--without-pip", venv, env=cls.environment)
+        cls.python = venv / "bin" / "python3"
         [wheel] = (cls.folder / "wheels").iterdir()
-        run(cls.python, "-m", "pip", "install", "--no-index", wheel, env=cls.environment, cwd=cls.folder)
+        run(
+            sys.executable, "-m", "pip", "--python", cls.python, "install", "--no-index", wheel,
+            env=cls.environment, cwd=cls.folder,
+        )  # fmt: skip
         cls.server = Server()
         cls.addClassCleanup(cls.server.kill)
 

@@ -75,7 +75,7 @@ class Dispatcher:
         """An agent has had a reply or a push: more may be sent, and former agents may be done."""
         if self._former:
             self._retire()
-        if self._agent is not None:
+        if self._backlog and self._agent is not None:
             self._send(self._agent)
 
     def agent_lost(self, agent: Agent, waiting: list[Request], reason: Disconnected) -> None:
@@ -116,7 +116,7 @@ class Dispatcher:
 
         What former agents were asked must be answered first, since the service keeps no order between connections.
         """
-        while self._backlog and not any(former.unanswered for former in self._former):
+        while self._backlog and not (self._former and any(former.unanswered for former in self._former)):
             order, item = next(iter(self._backlog.items()))
             if not item.send_by(agent):
                 break
