@@ -1,0 +1,228 @@
+"""One agent of the service: a connection that is open, its signals, and its live requests."""
+
+from __future__ import annotations
+
+import asyncio
+from collections import deque
+from collections.abc import Callable
+from typing import Protocol
+
+from .connection import Connection
+from .errors import Disconnected, Error, LockLost, LockStolen
+from .messages import (
+    CLOSE,
+    QUERY,
+    SIGNAL,
+    BadReply,
+    Message,
+    Reason,
+    Reply,
+    abort_message,
+    open_message,
+    release_message,
+    request_message,
+)
+from .requests import Phase, Request
+from .signals import RESERVE, Signals
+from .transport import Options
+
+
+class Owner(Protocol):
+    """Who has the agent: it is told of each change and of the end, with the requests that are to be asked again."""
+
+    def changed(self) -> None: ...
+
+    def agent_lost(self, agent: Agent, waiting: list[Request], reason: Disconnected) -> None: ...
+
+
+class Agent:
+    """Sends the requests of one connection, and follows each to its end."""
+
+    def __init__(self, owner: Owner) -> None:
+        self._owner = owner
+        self._connection: Connection
+        self._signals = Signals()
+        self._requests: dict[int, Request] = {}
+        self._unnumbered: deque[Request] = deque()
+        self._waiting = 0
+        self.client: str | None = None
+        self.unanswered = 0
+        """How many messages that change something are on their way."""
+
+    @classmethod
+    async def open(cls, options: Options, owner: Owner) -> Agent:
+        """Connects and opens; raises Disconnected, Forbidden, or Refused by the service."""
+        agent = cls(owner)
+        agent._connection = await Connection.open(options, agent._hear, agent._end)
+        try:
+            reply = await agent._connection.call(open_message(options.origin, options.kind, options.bucket))
+            if reply.refusal is not None:
+                raise reply.refusal
+            client = reply.ok.get("client")
+            agent.client = client if isinstance(client, str) else None
+            agent._ask_signals(0)
+        except BaseException:
+            agent._connection.lose(Disconnected("the connection was not opened"))
+            raise
+        return agent
+
+    @property
+    def lost(self) -> Disconnected | None:
+        """Why its connection ended, if it did."""
+        return self._connection.lost
+
+    @property
+    def idle(self) -> bool:
+        """Whether nothing of it is live or on its way."""
+        return not (self._requests or self.unanswered)
+
+    @property
+    def nearly_used(self) -> bool:
+        """Whether it is time to open another agent, since few signals are left."""
+        return self.client is not None and self._signals.left <= RESERVE
+
+    def send(self, request: Request) -> bool:
+        """Sends a request, unless it must wait for a signal of its own."""
+        wish = request.wish
+        if wish.waits and self.client is not None:
+            request.signal = self._signals.take()
+            if request.signal is None:
+                return False
+        request.service = self
+        request.phase = Phase.SENT
+        self._unnumbered.append(request)
+        message = request_message(wish.wire_name, wish.mode, request.signal, wish.steal, wish.if_available)
+        self._ask(message, lambda reply: self._number(request, reply))
+        return True
+
+    def ready(self, waiting: int) -> None:
+        """Asks for as many signals as so many requests want, and one to spare."""
+        if self.client is not None:
+            self._ask_signals(waiting)
+
+    def query(self, reply: asyncio.Future[Reply]) -> None:
+        """Asks for what is held and pending."""
+        self._connection.ask_for(QUERY, reply)
+
+    def give_up(self, request: Request, reason: Reason) -> None:
+        """Ends a request, whatever its phase; a grant that is on its way is released when it comes."""
+        if request.phase is Phase.HELD:
+            self.release(request, lambda: None)
+        elif request.phase is Phase.SENT and request.signal is not None:
+            self._ask(abort_message(request.signal, reason), lambda _reply: None)
+
+    def release(self, request: Request, done: Callable[[], None]) -> None:
+        """Releases a lock; `done` is called when that was answered."""
+        self._ask(release_message(request.number), lambda reply: self._released(request, reply, done))
+
+    def end_requests(self, reason: Error) -> None:
+        """Tells whoever waits or holds a lock that it is over; what the service has is to be ended by `close`."""
+        for request in self._live():
+            held = request.phase is Phase.HELD
+            request.end(LockLost(f"the lock {request.wish.name!r} was lost: {reason}") if held else reason)
+
+    async def close(self) -> None:
+        """Ends the agent: what it has is free when this returns, if the server still answers."""
+        self._connection.ask(CLOSE, lambda _reply: None)
+        await self._connection.close()
+
+    def _live(self) -> list[Request]:
+        """In the order in which they were sent."""
+        return [*self._requests.values(), *self._unnumbered]
+
+    def _ask(self, message: Message, answer: Callable[[Reply], None]) -> None:
+        self.unanswered += 1
+        self._connection.ask(message, lambda reply: self._answered(reply, answer))
+
+    def _answered(self, reply: Reply, answer: Callable[[Reply], None]) -> None:
+        self.unanswered -= 1
+        answer(reply)
+
+    def _ask_signals(self, waiting: int) -> None:
+        for _ in range(self._signals.count_to_ask(waiting)):
+            self._connection.ask(SIGNAL, self._add_signal)
+
+    def _add_signal(self, reply: Reply) -> None:
+        if reply.refusal is not None:
+            self._signals.refuse()
+        else:
+            self._signals.add(_number_of(reply, "signal"))
+
+    def _number(self, request: Request, reply: Reply) -> None:
+        """The service has numbered a request, or refused it."""
+        if reply.refusal is None:
+            request.number = _number_of(reply, "request")
+            self._requests[request.number] = request
+            self._waiting += 1
+        else:
+            self._free_signal(request)
+            request.end(reply.refusal)
+        self._unnumbered.popleft()
+
+    def _free_signal(self, request: Request) -> None:
+        """Its signal serves the next request, unless it was aborted."""
+        if request.signal is not None and not request.given_up:
+            self._signals.give_back(request.signal)
+        request.signal = None
+
+    def _released(self, request: Request, reply: Reply, done: Callable[[], None]) -> None:
+        """The lock is free; one that was not held any more was stolen, of which the notices of this reply tell."""
+        if reply.ok.get("release") == "released":
+            self._requests.pop(request.number, None)
+            request.phase = Phase.ENDED
+            done()
+        else:
+            lost = LockLost(f"the lock {request.wish.name!r} was not held any more when it was released")
+            asyncio.get_running_loop().call_soon(request.end, lost)
+
+    def _hear(self, reply: Reply) -> None:
+        """Takes the notices of a reply or push, and tells the owner that something may have changed."""
+        for number, phase in reply.notices:
+            request = self._requests.get(number)
+            if request is not None:
+                self._notice(request, phase)
+        self._connection.want_polls(self._waiting > 0)
+        self._owner.changed()
+
+    def _notice(self, request: Request, phase: str) -> None:
+        if request.phase is Phase.SENT:
+            self._waiting -= 1
+        if phase == "granted":
+            self._free_signal(request)
+            if request.given_up:
+                request.phase = Phase.HELD
+                self.release(request, lambda: None)
+            else:
+                request.grant()
+            return
+        del self._requests[request.number]
+        self._free_signal(request)
+        if phase == "stolen":
+            request.end(LockStolen(f"the lock {request.wish.name!r} was stolen"))
+        else:
+            request.end()
+
+    def _end(self, reason: Disconnected) -> None:
+        """The connection is lost: locks with it; what waits goes back to the owner."""
+        live = self._live()
+        self._requests.clear()
+        self._unnumbered.clear()
+        self.unanswered = 0
+        waiting = []
+        for request in live:
+            if request.phase is Phase.HELD:
+                request.end(LockLost(f"the lock {request.wish.name!r} was lost: {reason}"))
+            elif request.given_up:
+                request.end()
+            elif request.wish.waits:
+                waiting.append(request)
+            else:
+                request.end(Disconnected(f"the lock {request.wish.name!r} may have been had: {reason}"))
+        self._owner.agent_lost(self, waiting, reason)
+
+
+def _number_of(reply: Reply, member: str) -> int:
+    number = reply.ok.get(member)
+    if not isinstance(number, int):
+        raise BadReply(f"it has no number {member!r}")
+    return number

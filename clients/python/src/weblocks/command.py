@@ -1,0 +1,168 @@
+"""Runs a command while a lock is held."""
+
+from __future__ import annotations
+
+import asyncio
+import contextlib
+import os
+import signal
+import sys
+from collections.abc import Iterator
+from dataclasses import dataclass
+
+from .errors import LockLost
+from .manager import LockManager
+from .messages import Mode
+
+LOST = 1
+NOT_RUNNABLE = 126
+NOT_FOUND = 127
+BY_SIGNAL = 128
+KILL_SECONDS = 10.0
+
+PASSED_ON = (signal.SIGHUP, signal.SIGINT, signal.SIGQUIT, signal.SIGTERM, signal.SIGUSR1, signal.SIGUSR2)
+ENDS_WAITING = (signal.SIGHUP, signal.SIGINT, signal.SIGQUIT, signal.SIGTERM)
+OF_TERMINAL = (signal.SIGINT, signal.SIGQUIT)
+
+
+@dataclass(frozen=True, slots=True)
+class Job:
+    """A command, the lock that it wants, and how many seconds it may wait for it; None is for ever."""
+
+    name: str
+    mode: Mode
+    steal: bool
+    wait: float | None
+    command: list[str]
+
+
+def complain(text: str) -> None:
+    """Says what went wrong, on standard error."""
+    print(f"weblocks: {text}", file=sys.stderr, flush=True)
+
+
+class CannotRun(Exception):
+    """The command can't be run; `status` is what shells end with then."""
+
+    def __init__(self, text: str, status: int) -> None:
+        super().__init__(text)
+        self.status = status
+
+
+class Signals:
+    """Takes the signals that this program gets: they end its waiting, or go to the command while that runs."""
+
+    def __init__(self) -> None:
+        self.child: Child | None = None
+        self.interrupted: asyncio.Future[int] = asyncio.get_running_loop().create_future()
+
+    @contextlib.contextmanager
+    def taken(self) -> Iterator[None]:
+        """While the block runs."""
+        loop = asyncio.get_running_loop()
+        for number in PASSED_ON:
+            loop.add_signal_handler(number, self._take, number)
+        try:
+            yield
+        finally:
+            for number in PASSED_ON:
+                loop.remove_signal_handler(number)
+
+    def _take(self, number: int) -> None:
+        if self.child is not None:
+            self.child.pass_on(number)
+        elif number in ENDS_WAITING and not self.interrupted.done():
+            self.interrupted.set_result(number)
+
+
+class Child:
+    """The command as a process.
+
+    It has a process group of its own, which signals go to, so that nothing that it started works on without the lock.
+    In a terminal's foreground it stays in the group of this program, as the terminal's keys are for both.
+    """
+
+    def __init__(self, process: asyncio.subprocess.Process, own_group: bool) -> None:
+        self._process = process
+        self._own_group = own_group
+
+    @classmethod
+    async def start(cls, command: list[str]) -> Child:
+        """Raises CannotRun."""
+        own_group = not in_foreground()
+        try:
+            process = await asyncio.create_subprocess_exec(*command, process_group=0 if own_group else None)
+        except FileNotFoundError as error:
+            raise CannotRun(f"{command[0]}: there is no such command", NOT_FOUND) from error
+        except (OSError, ValueError) as error:
+            raise CannotRun(f"{command[0]}: it can't be run: {error}", NOT_RUNNABLE) from error
+        return cls(process, own_group)
+
+    async def wait(self) -> int:
+        """Its exit status, as shells tell it: 128 and the signal's number, where one ended it."""
+        status = await self._process.wait()
+        return status if status >= 0 else BY_SIGNAL - status
+
+    def pass_on(self, number: int) -> None:
+        """A key's signal goes from the terminal to the command by itself."""
+        if self._own_group or number not in OF_TERMINAL:
+            self._send(number)
+
+    async def end(self) -> int:
+        """Ends it: TERM, and KILL after 10 seconds."""
+        self._send(signal.SIGTERM)
+        waiting = asyncio.create_task(self.wait())
+        await asyncio.wait([waiting], timeout=KILL_SECONDS)
+        if not waiting.done():
+            complain(f"the command did not end in {KILL_SECONDS:g} seconds: killing it")
+            self._send(signal.SIGKILL)
+        return await waiting
+
+    def _send(self, number: int) -> None:
+        if self._process.returncode is None:
+            with contextlib.suppress(ProcessLookupError):
+                if self._own_group:
+                    os.killpg(self._process.pid, number)
+                else:
+                    os.kill(self._process.pid, number)
+
+
+def in_foreground() -> bool:
+    """Whether this program is in the foreground of its terminal."""
+    try:
+        terminal = os.open("/dev/tty", os.O_RDONLY | os.O_NOCTTY)
+    except OSError:
+        return False
+    try:
+        return os.tcgetpgrp(terminal) == os.getpgrp()
+    except OSError:
+        return False
+    finally:
+        os.close(terminal)
+
+
+async def run_job(locks: LockManager, job: Job, signals: Signals) -> int:
+    """Waits for the lock, runs the command, and answers the exit status.
+
+    Raises TimeoutError where the lock wasn't had in time, and CannotRun. Where the lock is lost, the command is ended.
+    """
+    at_once = job.wait == 0 and not job.steal
+    timeout = None if at_once or job.steal else job.wait
+    status = 0
+    try:
+        async with locks.request(
+            job.name, mode=job.mode, steal=job.steal, if_available=at_once, timeout=timeout
+        ) as lock:
+            if lock is None:
+                raise TimeoutError(f"the lock {job.name!r} is not free")
+            child = await Child.start(job.command)
+            signals.child = child
+            try:
+                status = await child.wait()
+            except asyncio.CancelledError:
+                status = await child.end()
+                raise
+    except LockLost as error:
+        complain(f"{error}, while the command ran")
+        return status or LOST
+    return status

@@ -1,0 +1,192 @@
+"""One connection to the service: messages out, replies in their order, pushes, polls and the heartbeat."""
+
+from __future__ import annotations
+
+import asyncio
+import contextlib
+from collections import deque
+from collections.abc import Callable
+
+from websockets.exceptions import ConnectionClosed
+
+from .eager import start
+from .errors import Disconnected, Forbidden
+from .messages import POLL, BadReply, Message, Reply, read_reply, write_message
+from .transport import CLOSE_SECONDS, PUSHES, Options, Socket, open_socket
+
+Answer = Callable[[Reply], None]
+Failure = Callable[[Disconnected], None]
+
+
+class Connection:
+    """Sends messages in the order in which they are asked, and hands each reply to whoever asked.
+
+    `hear` is called with every reply and push, after whoever asked has had it; `end` once, when the connection is lost
+    or was closed.
+    """
+
+    def __init__(
+        self,
+        socket: Socket,
+        options: Options,
+        hear: Callable[[Reply], None],
+        end: Callable[[Disconnected], None],
+    ) -> None:
+        self.pushes = socket.subprotocol == PUSHES
+        self.lost: Disconnected | None = None
+        self._loop = asyncio.get_running_loop()
+        self._socket = socket
+        self._options = options
+        self._hear = hear
+        self._end = end
+        self._next_id = 1
+        self._outbox: deque[str] = deque()
+        self._writing: asyncio.Task[None] | None = None
+        self._asked: deque[tuple[int, Answer, Failure | None]] = deque()
+        self._polls_wanted = False
+        self._poll_timer: asyncio.TimerHandle | None = None
+        self._replied = False
+        self._beat = self._loop.call_later(options.heartbeat, self._begin_beat)
+        self._reading = self._loop.create_task(self._read())
+        self._closing: asyncio.Task[None] | None = None
+
+    @classmethod
+    async def open(
+        cls, options: Options, hear: Callable[[Reply], None], end: Callable[[Disconnected], None]
+    ) -> Connection:
+        """Connects; raises what `open_socket` does."""
+        return cls(await open_socket(options), options, hear, end)
+
+    def ask(self, message: Message, answer: Answer, failure: Failure | None = None) -> None:
+        """Sends a message after those before it.
+
+        Its reply goes to `answer`; where the connection is lost first, the reason goes to `failure`.
+        """
+        if self.lost is not None:
+            if failure is not None:
+                failure(self.lost)
+            return
+        id = self._next_id
+        self._next_id = id + 1
+        self._asked.append((id, answer, failure))
+        self._outbox.append(write_message(id, message))
+        if self._writing is None or self._writing.done():
+            self._writing = start(self._write())
+
+    async def call(self, message: Message) -> Reply:
+        """Sends a message and waits for its reply; raises Disconnected where the connection is lost first."""
+        reply: asyncio.Future[Reply] = self._loop.create_future()
+        self.ask_for(message, reply)
+        return await reply
+
+    def ask_for(self, message: Message, reply: asyncio.Future[Reply]) -> None:
+        """Sends a message whose reply, or the loss of the connection before it, settles a future."""
+        self.ask(
+            message,
+            lambda answer: None if reply.done() else reply.set_result(answer),
+            lambda reason: None if reply.done() else reply.set_exception(reason),
+        )
+
+    def want_polls(self, wanted: bool) -> None:
+        """Says whether news is waited for: then a server without pushes is polled."""
+        self._polls_wanted = wanted and not self.pushes
+        if self._polls_wanted and self._poll_timer is None and self.lost is None:
+            self._poll_timer = self._loop.call_later(self._options.poll_interval, self._poll)
+
+    def lose(self, reason: Disconnected) -> None:
+        """Ends the connection at once, without a word to the other side."""
+        if self.lost is not None:
+            return
+        self.lost = reason
+        self._beat.cancel()
+        if self._poll_timer is not None:
+            self._poll_timer.cancel()
+        self._outbox.clear()
+        for _id, _answer, failure in self._asked:
+            if failure is not None:
+                failure(reason)
+        self._reading.cancel()
+        if self._writing is not None:
+            self._writing.cancel()
+        self._socket.transport.abort()
+        if self._closing is None:
+            self._closing = self._loop.create_task(self._socket.close())
+        self._end(reason)
+
+    async def close(self) -> None:
+        """Ends the connection by the closing handshake, for which the other side has a second."""
+        if self._closing is None:
+            self._closing = self._loop.create_task(self._socket.close())
+        await asyncio.wait([self._closing], timeout=CLOSE_SECONDS)
+        self.lose(Disconnected("the connection was closed"))
+        await asyncio.wait([self._closing, self._reading])
+
+    async def _read(self) -> None:
+        try:
+            while True:
+                self._take(read_reply(await self._socket.recv()))
+        except ConnectionClosed as error:
+            self.lose(_explain_close(error))
+        except BadReply as error:
+            self.lose(Disconnected(f"the server sent what is no reply: {error}"))
+
+    async def _write(self) -> None:
+        """Sends what is to be sent. It begins at once, so the order of messages is that of the calls of `ask`."""
+        # That the connection is closed, the reader learns too, and says so.
+        with contextlib.suppress(ConnectionClosed):
+            while self._outbox:
+                await self._socket.send(self._outbox.popleft())
+
+    def _take(self, reply: Reply) -> None:
+        """Hands on a reply, or a push, which nobody asked for and which shows no life of the way out."""
+        if reply.id is None and reply.refusal is None:
+            self._hear(reply)
+            return
+        if not self._asked or reply.id != self._asked[0][0]:
+            raise BadReply(f"it answers the message {reply.id}, which was not next")
+        _id, answer, _failure = self._asked.popleft()
+        self._replied = True
+        answer(reply)
+        self._hear(reply)
+
+    def _poll(self) -> None:
+        if self._polls_wanted:
+            self.ask(POLL, self._end_poll)
+        else:
+            self._poll_timer = None
+
+    def _end_poll(self, _reply: Reply) -> None:
+        self._poll_timer = None
+        self.want_polls(self._polls_wanted)
+
+    def _begin_beat(self) -> None:
+        self._replied = False
+        self.ask(POLL, lambda _reply: None)
+        self._beat = self._loop.call_later(self._options.heartbeat, self._look_for_life)
+
+    def _look_for_life(self) -> None:
+        """A reply that came while other work kept the event loop busy is given the time to be read first."""
+        if self._replied:
+            self._begin_beat()
+        else:
+            self._beat = self._loop.call_later(min(1, self._options.heartbeat / 4), self._end_beat)
+
+    def _end_beat(self) -> None:
+        if self._replied:
+            self._begin_beat()
+        else:
+            self.lose(Disconnected(f"the server did not answer for {self._options.heartbeat:g} seconds"))
+
+
+def _explain_close(error: ConnectionClosed) -> Disconnected:
+    """Why the other side ended the connection, by its close code."""
+    code = getattr(error.rcvd, "code", None)
+    if code == 1008:
+        return Forbidden("the server does not let this client open that origin (close code 1008)")
+    if code == 1001:
+        return Disconnected("the server ended (close code 1001)")
+    if code == 1013:
+        return Disconnected("the server has no room for a further lock manager (close code 1013)")
+    if code is None:
+        return Disconnected("the connection was lost")
+    return Disconnected(f"the server ended the connection (close code {code})")

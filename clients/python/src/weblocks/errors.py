@@ -1,0 +1,48 @@
+"""What can go wrong, as exceptions of one family."""
+
+from __future__ import annotations
+
+
+class Error(Exception):
+    """The parent of all that this package raises of its own."""
+
+
+class Disconnected(Error, ConnectionError):
+    """There is no connection to the service: it could not be made, or it was lost before the answer came.
+
+    A steal or an `if_available` request that raises this may have been done by the service, and is undone by it since
+    the connection ended. Plain requests don't raise it while the manager reconnects: they are asked again.
+    """
+
+
+class Forbidden(Disconnected):
+    """The service doesn't let this client in: its token was refused, or it may not open this origin.
+
+    No further connection is tried after it.
+    """
+
+
+class Closed(Error):
+    """The lock manager was closed, by `close()` or by the end of its block."""
+
+
+class Refused(Error):
+    """The service refused what was asked.
+
+    `name` is the kind of the refusal: the standard's name of the exception where it has one (`InvalidStateError`,
+    `SecurityError`, `NotSupportedError`), else one of the service's (`Limit`, `BadUrl`, `BadBucket`). `rule` names
+    the rule that refused it, such as `opaque-origin` or `requests`.
+    """
+
+    def __init__(self, name: str, rule: str) -> None:
+        super().__init__(f"the service refused: {name} ({rule})")
+        self.name = name
+        self.rule = rule
+
+
+class LockLost(Error):
+    """A lock ended before its block did: the connection was lost, the manager was closed, or the lock was stolen."""
+
+
+class LockStolen(LockLost):
+    """A lock ended before its block did: another agent's request stole it."""

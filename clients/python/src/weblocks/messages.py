@@ -1,0 +1,88 @@
+"""Messages to the service and its replies, as Python values."""
+
+from __future__ import annotations
+
+import json
+from collections.abc import Mapping
+from dataclasses import dataclass
+from typing import Any, Literal
+
+from .errors import Refused
+
+Mode = Literal["exclusive", "shared"]
+Kind = Literal["window", "worker"]
+Reason = Literal["AbortError", "TimeoutError"]
+Message = Mapping[str, object]
+
+POLL: Message = {"op": "poll"}
+SIGNAL: Message = {"op": "signal"}
+QUERY: Message = {"op": "query"}
+CLOSE: Message = {"op": "close"}
+
+
+class BadReply(Exception):
+    """What came is no reply of the service."""
+
+
+@dataclass(slots=True)
+class Reply:
+    """One message of the service: the answer to the message of that id, or news that it pushed, whose id is None.
+
+    `ok` has what was answered, unless `refusal` says why it was refused. `notices` are pairs of a request's number and
+    its new phase: granted, unavailable, aborted or stolen.
+    """
+
+    id: int | None
+    ok: dict[str, Any]
+    refusal: Refused | None
+    notices: list[tuple[int, str]]
+
+
+def write_message(id: int, message: Message) -> str:
+    """A message as JSON, with its id."""
+    return json.dumps({"id": id, **message})
+
+
+def read_reply(text: str | bytes) -> Reply:
+    """Reads a reply, or raises BadReply."""
+    try:
+        value = json.loads(text)
+        error = value.get("error")
+        notices = [(notice["request"], notice["phase"]) for notice in value["notices"]]
+        if error is not None:
+            return Reply(value["id"], {}, Refused(error["name"], error["rule"]), notices)
+        ok = value["ok"]
+        if not isinstance(ok, dict):
+            raise BadReply("its member ok is no object")
+        return Reply(value["id"], ok, None, notices)
+    except (ValueError, KeyError, TypeError, AttributeError) as error:
+        raise BadReply(f"it can't be read: {error!r}") from error
+
+
+def open_message(origin: str, kind: Kind, bucket: str) -> Message:
+    """Opens the connection as an agent of an origin's bucket."""
+    return {"op": "open", "url": origin, "kind": kind, "bucket": bucket}
+
+
+def request_message(wire_name: str, mode: Mode, signal: int | None, steal: bool, if_available: bool) -> Message:
+    """Requests a lock. The defaults of the format are left out."""
+    options: dict[str, object] = {}
+    if mode != "exclusive":
+        options["mode"] = mode
+    if signal is not None:
+        options["signal"] = signal
+    if steal:
+        options["steal"] = True
+    if if_available:
+        options["ifAvailable"] = True
+    return {"op": "request", "name": wire_name, "options": options}
+
+
+def release_message(number: int) -> Message:
+    """Releases the lock of the request of that number."""
+    return {"op": "release", "request": number}
+
+
+def abort_message(signal: int, reason: Reason) -> Message:
+    """Ends what the signal's requests wait for."""
+    return {"op": "abort", "signal": signal, "reason": reason}

@@ -1,0 +1,146 @@
+"""Opens a WebSocket to the service, with either interface of the library `websockets`."""
+
+from __future__ import annotations
+
+import asyncio
+import importlib
+import os
+import re
+import ssl as tls
+from dataclasses import dataclass
+from typing import Any, Protocol
+
+from websockets.exceptions import InvalidHandshake, InvalidURI
+
+from .errors import Disconnected, Forbidden
+from .messages import Kind
+
+PUSHES = "weblocks.push"
+"""The subprotocol of a server that tells news without being asked."""
+
+CLOSE_SECONDS = 1.0
+
+
+class Socket(Protocol):
+    """What is used of a connection of the library."""
+
+    @property
+    def subprotocol(self) -> str | None: ...
+
+    @property
+    def transport(self) -> asyncio.Transport: ...
+
+    async def send(self, message: str, /) -> None: ...
+
+    async def recv(self) -> str | bytes: ...
+
+    async def close(self) -> None: ...
+
+
+@dataclass(frozen=True, slots=True)
+class Options:
+    """Where the service is, as whom it is asked, and how; `weblocks.connect` says what each is for."""
+
+    url: str
+    origin: str
+    kind: Kind = "window"
+    bucket: str = "default"
+    token: str | None = None
+    heartbeat: float = 10.0
+    poll_interval: float = 0.05
+    reconnect: bool = True
+    open_timeout: float = 10.0
+    ssl: tls.SSLContext | None = None
+
+    def __post_init__(self) -> None:
+        for name in ("url", "origin", "bucket"):
+            value = getattr(self, name)
+            if not isinstance(value, str):
+                raise TypeError(f"{name} is a str, not {type(value).__name__}")
+        if self.kind not in ("window", "worker"):
+            raise ValueError(f"kind is 'window' or 'worker', not {self.kind!r}")
+        if self.token is not None and not re.fullmatch("[!-~]+", self.token):
+            raise ValueError("a token has one or more visible ASCII characters, and no space")
+        for name in ("heartbeat", "poll_interval", "open_timeout"):
+            if not getattr(self, name) > 0:
+                raise ValueError(f"{name} is a number of seconds above 0")
+
+
+async def open_socket(options: Options) -> Socket:
+    """Connects, and offers pushes; the chosen subprotocol says whether the server has them.
+
+    A server that refuses a handshake with subprotocols is tried without. Raises ValueError for a bad URL, Forbidden
+    where the token is refused, and Disconnected where no server answers.
+    """
+    try:
+        return await _connect(options, [PUSHES])
+    except InvalidHandshake as error:
+        if _status(error) in (401, 403, 503):
+            raise _explain(options, error) from error
+    except (InvalidURI, OSError, asyncio.TimeoutError) as error:
+        raise _explain(options, error) from error
+    try:
+        return await _connect(options, None)
+    except (InvalidHandshake, InvalidURI, OSError, asyncio.TimeoutError) as error:
+        raise _explain(options, error) from error
+
+
+def _find_connect() -> tuple[Any, str]:
+    """The library's function that connects, and what it calls the headers that it adds."""
+    try:
+        return importlib.import_module("websockets.asyncio.client").connect, "additional_headers"
+    except ImportError:
+        return importlib.import_module("websockets.client").connect, "extra_headers"
+
+
+_library_connect, _headers_word = _find_connect()
+
+
+async def _connect(options: Options, subprotocols: list[str] | None) -> Socket:
+    words: dict[str, Any] = {}
+    if options.token is not None:
+        words[_headers_word] = {"Authorization": f"Bearer {options.token}"}
+    if options.ssl is not None:
+        words["ssl"] = options.ssl
+    # The heartbeat of a connection stands in for the library's pings: only replies show that the service answers.
+    socket: Socket = await _library_connect(
+        options.url,
+        subprotocols=subprotocols,
+        compression=None,
+        max_size=None,
+        ping_interval=None,
+        open_timeout=options.open_timeout,
+        close_timeout=CLOSE_SECONDS,
+        **words,
+    )
+    return socket
+
+
+def _status(error: BaseException) -> int | None:
+    """The HTTP status by which a handshake was refused, as either interface of the library has it."""
+    status = getattr(error, "status_code", None)
+    if status is None:
+        status = getattr(getattr(error, "response", None), "status_code", None)
+    return status if isinstance(status, int) else None
+
+
+def _explain(options: Options, error: Exception) -> Exception:
+    """What to raise for an error of the library or the system."""
+    if isinstance(error, InvalidURI):
+        return ValueError(f"{options.url!r} is no URL of a WebSocket server, such as ws://127.0.0.1:8080")
+    server = f"the server at {options.url}"
+    status = _status(error)
+    if status in (401, 403):
+        fault = "wants a token" if options.token is None else "refused the token"
+        return Forbidden(f"{server} {fault} (HTTP status {status})")
+    if status == 503:
+        return Disconnected(f"{server} has no room for a further client (HTTP status 503)")
+    if status is not None:
+        return Disconnected(f"{server} does not speak WebSocket here (HTTP status {status})")
+    if isinstance(error, asyncio.TimeoutError):
+        return Disconnected(f"{server} did not answer in {options.open_timeout:g} seconds")
+    if isinstance(error, InvalidHandshake):
+        return Disconnected(f"{server} does not speak WebSocket: {error}")
+    errno = error.errno if isinstance(error, OSError) else None
+    reason = os.strerror(errno) if errno is not None and errno > 0 else str(error)
+    return Disconnected(f"no server answers at {options.url}: {reason}")
