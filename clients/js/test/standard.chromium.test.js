@@ -6,7 +6,7 @@ import { Chromium } from "./browser/chromium.js";
 import { byName, callInPage, resultsInPage, testEach, testEachBut } from "./browser/comparing.js";
 import { serveFiles } from "./browser/files.js";
 import { FAST } from "./browser/settings.js";
-import { chromiumDeviations } from "./standard/deviations.js";
+import { CHROMIUM_VERSION, chromiumDeviations } from "./standard/deviations.js";
 import { startPolled, startPushing } from "./support/servers.js";
 
 /** What a case may take on the browser's own locks: two deviations are such that it never ends. */
@@ -25,9 +25,10 @@ after(async () => {
 });
 
 test("the standard's cases in Chromium, on its own navigator.locks", async (it) => {
-  it.diagnostic(await chromium.version());
+  const version = await chromium.version();
+  it.diagnostic(version);
   const results = await resultsInPage(chromium, files.url, "browser", null, BROWSER_MILLISECONDS);
-  await testEachBut(it, results, chromiumDeviations);
+  await testEachBut(it, results, chromiumDeviations, version.includes(`/${CHROMIUM_VERSION}.`));
 });
 
 for (const name of ["package", "polyfill"]) {

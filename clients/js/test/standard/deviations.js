@@ -1,5 +1,8 @@
+/** The version of Chromium in which these deviations were seen. */
+export const CHROMIUM_VERSION = 156;
+
 /**
- * Where Chromium (156) does otherwise than the standard says, by the case that shows it.
+ * Where that Chromium does otherwise than the standard says, by the case that shows it.
  *
  * `section` is what of the standard is meant, and `does` what Chromium does in its place. With `isByChance` it does so
  * at one run and not at another.
