@@ -13,6 +13,9 @@ const MOST_CLIENTS = 10_000;
 /** The signals that end a program, and with it the servers that it started. */
 const ENDING = ["SIGHUP", "SIGINT", "SIGTERM"];
 
+/** The servers that run. */
+const running = new Set();
+
 /** Another program may take a free port before the server does. */
 const TRIES = 5;
 
@@ -104,7 +107,7 @@ class TestServer {
 async function startOn(program, port) {
   const words = ["serve", "--port", String(port), "--clients", String(MOST_CLIENTS)];
   const child = spawn(program, words, { stdio: ["ignore", "pipe", "pipe"] });
-  endWithProcess(child);
+  endWithProgram(child);
   const told = [];
   child.stderr.on("data", (text) => told.push(text));
   const lines = createInterface(child.stdout);
@@ -128,19 +131,32 @@ async function freePort() {
   return port;
 }
 
-/** No server outlives the program that started it, unless that is killed outright. */
-function endWithProcess(child) {
-  const kill = () => child.kill("SIGKILL");
-  const pass = (signal) => {
-    kill();
-    forget();
-    process.kill(process.pid, signal);
-  };
+/** Has a server end with this program, unless that is killed outright. */
+function endWithProgram(child) {
+  if (running.size === 0) {
+    process.on("exit", killAll);
+    for (const signal of ENDING) process.on(signal, killAllAndEnd);
+  }
+  running.add(child);
   const forget = () => {
-    process.off("exit", kill);
-    for (const signal of ENDING) process.off(signal, pass);
+    running.delete(child);
+    if (running.size === 0) ignoreEnd();
   };
-  process.on("exit", kill);
-  for (const signal of ENDING) process.on(signal, pass);
+  child.once("error", forget);
   child.once("exit", forget);
+}
+
+function killAll() {
+  for (const child of running) child.kill("SIGKILL");
+}
+
+function killAllAndEnd(signal) {
+  killAll();
+  ignoreEnd();
+  process.kill(process.pid, signal);
+}
+
+function ignoreEnd() {
+  process.off("exit", killAll);
+  for (const signal of ENDING) process.off(signal, killAllAndEnd);
 }

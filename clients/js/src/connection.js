@@ -41,11 +41,6 @@ export class Connection {
     if (socket.readyState !== OPEN) runAsTask(() => this.#lose(faultOfClose(1006, "")));
   }
 
-  /** Whether the server tells news without being asked. */
-  get pushes() {
-    return this.#pushes;
-  }
-
   /** Sends a message, which is given an id; `answered` is called with its reply, before the reply's notices are. */
   ask(message, answered) {
     if (this.#isOver) return;

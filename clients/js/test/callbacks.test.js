@@ -117,6 +117,20 @@ testWithEach("a steal takes all shared locks of the name, and goes before what w
   assert.equal(await other.promise, "kept");
 });
 
+test("a lock that was stolen before its release came rejects with AbortError, though it wasn't told", async (t) => {
+  const server = await startPolled(t);
+  const [a, b] = [await connectTo(t, server), await connectTo(t, server)];
+  const holding = await hold(a, "db");
+  const lost = a.lostSignal(holding.lock);
+  const thief = await hold(b, "db", { steal: true });
+  holding.release("too late");
+  await assertRejects(holding.promise, "AbortError");
+  assert.equal(lost.aborted, true);
+  thief.release();
+  await thief.promise;
+  await assertFree(a);
+});
+
 testWithEach("a callback's late rejection after a theft is nobody's", async (agent) => {
   const [a, b] = [await agent(), await agent()];
   let reject;

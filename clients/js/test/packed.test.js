@@ -27,11 +27,25 @@ test("the types are those of the package, and a strict user's program is well ty
     await run("tsc", ["--project", join(HERE, "test/types")]);
   });
 
+test("the modules export what their types say", async () => {
+  const exported = {
+    "weblocks.js": ["Lock", "LockManager", "LostEvent", "connect"],
+    "polyfill.js": ["install"],
+    "testing.js": ["startServer", "useServer"],
+  };
+  for (const [file, names] of Object.entries(exported)) {
+    assert.deepEqual(Object.keys(await import(`../${file}`)).sort(), names);
+    const types = await readFile(join(HERE, file.replace(".js", ".d.ts")), "utf8");
+    for (const name of names) assert.match(types, new RegExp(`^export (function|class|const) ${name}\\b`, "m"));
+  }
+});
+
 test("npm pack gives a package that works in an empty folder", { skip: lacks("npm") }, async (t) => {
   const server = await startPushing(t);
   const folder = await mkdtemp(join(tmpdir(), "weblocks-packed-"));
   t.after(() => rm(folder, { recursive: true }));
-  const env = { ...process.env, NODE_PATH: `/usr/share/nodejs:${process.env.NODE_PATH ?? ""}`, npm_config_cache: folder };
+  const places = `/usr/share/nodejs:${process.env.NODE_PATH ?? ""}`;
+  const env = { ...process.env, NODE_PATH: places, npm_config_cache: folder };
   const { stdout } = await run("npm", ["pack", "--pack-destination", folder, "--json"], { cwd: HERE, env });
   const [{ filename, files }] = JSON.parse(stdout);
   assert.ok(files.every(({ path }) => !path.startsWith("test/") && !path.startsWith("bench/")));
