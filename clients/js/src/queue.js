@@ -28,14 +28,6 @@ export class Queue {
     return item;
   }
 
-  /** Takes all elements out, in order. */
-  drain() {
-    const all = this.#items.slice(this.#first);
-    this.#items = [];
-    this.#first = 0;
-    return all;
-  }
-
   #dropTaken() {
     this.#items = this.#items.slice(this.#first);
     this.#first = 0;

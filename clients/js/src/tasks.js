@@ -8,7 +8,7 @@
 /** Runs a function in a task of its own, after those that were asked for before it. */
 export const runAsTask = typeof setImmediate === "function" ? (task) => void setImmediate(task) : postTask();
 
-/** Where there is no setImmediate, as in browsers: a message to oneself is a task, and isn't held back as timers are. */
+/** In browsers there is no setImmediate: a message to oneself is a task, and isn't held back as timers are. */
 function postTask() {
   const tasks = [];
   const channel = new MessageChannel();

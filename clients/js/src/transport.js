@@ -70,6 +70,7 @@ function openPlain(Socket, url, token) {
 
 function shakeHands(create, patience, signal) {
   return new Promise((resolve, reject) => {
+    signal.throwIfAborted();
     const socket = create();
     const fail = (text) => {
       finish();

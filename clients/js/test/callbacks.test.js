@@ -117,7 +117,7 @@ testWithEach("a steal takes all shared locks of the name, and goes before what w
   assert.equal(await other.promise, "kept");
 });
 
-test("a lock that was stolen before its release came rejects with AbortError, though nothing was told yet", async (t) => {
+test("a lock that was stolen before its release came rejects with AbortError, though it wasn't told", async (t) => {
   const server = await startPolled(t);
   const [a, b] = [await connectTo(t, server), await connectTo(t, server)];
   const holding = await hold(a, "db");

@@ -41,7 +41,7 @@ test("there is no sense in trying again where the server doesn't let the page in
   assert.equal(isFinal(faultOfClose(1006, "")), false);
 });
 
-test("a request that the service refuses for a limit rejects with QuotaExceededError, and the next goes on", async (t) => {
+test("a limit of the service rejects with QuotaExceededError, and the next request goes on", async (t) => {
   const server = await startPushing(t);
   const locks = await connectTo(t, server);
   const never = () => assert.fail("its callback was called");

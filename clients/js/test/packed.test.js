@@ -44,7 +44,8 @@ test("npm pack gives a package that works in an empty folder", { skip: lacks("np
   const server = await startPushing(t);
   const folder = await mkdtemp(join(tmpdir(), "weblocks-packed-"));
   t.after(() => rm(folder, { recursive: true }));
-  const env = { ...process.env, NODE_PATH: `/usr/share/nodejs:${process.env.NODE_PATH ?? ""}`, npm_config_cache: folder };
+  const places = `/usr/share/nodejs:${process.env.NODE_PATH ?? ""}`;
+  const env = { ...process.env, NODE_PATH: places, npm_config_cache: folder };
   const { stdout } = await run("npm", ["pack", "--pack-destination", folder, "--json"], { cwd: HERE, env });
   const [{ filename, files }] = JSON.parse(stdout);
   assert.ok(files.every(({ path }) => !path.startsWith("test/") && !path.startsWith("bench/")));

@@ -37,7 +37,7 @@ testWithEach("a snapshot is the caller's own: to change it changes nothing", asy
   await holding.promise;
 });
 
-testWithEach("a request shows as held from its grant on, and as nothing once its promise has settled", async (agent) => {
+testWithEach("a request shows as held from its grant on, until its promise has settled", async (agent) => {
   const [a, b] = [await agent(), await agent()];
   const shown = async () => (await b.query()).held.map(({ name }) => name);
   const inside = await a.request("db", async () => shown());

@@ -46,7 +46,8 @@ test("a server ends with the program that started it, whether that ends by itsel
       console.log((await startServer({ program: ${JSON.stringify(PROGRAM)} })).pid);
       setTimeout(() => process.exit(), ${signal === null ? 0 : 60_000});
     `;
-    const child = spawn(process.execPath, ["--input-type=module", "-e", program], { stdio: ["ignore", "pipe", "inherit"] });
+    const words = ["--input-type=module", "-e", program];
+    const child = spawn(process.execPath, words, { stdio: ["ignore", "pipe", "inherit"] });
     const [pid] = await once(createInterface(child.stdout), "line");
     const ended = once(child, "exit");
     if (signal !== null) child.kill(signal);

@@ -1,6 +1,6 @@
 /** Servers for the tests, and LockManagers that are closed after each of them. */
 
-import { test } from "node:test";
+import { after, test } from "node:test";
 import { fileURLToPath } from "node:url";
 import { startServer } from "../../testing.js";
 import { connect } from "../../weblocks.js";
@@ -12,6 +12,15 @@ export const PROGRAM = process.env.WEBLOCKS_PROGRAM || fileURLToPath(new URL("..
 
 /** Where a theft is to be heard of soon, though nothing is pushed, since a heartbeat's poll brings it. */
 const SOON = { poll: 5, heartbeat: 500 };
+
+/** All tests of a file, in the place of the one by which a server or an agent ends. */
+export function allTests() {
+  const ends = [];
+  after(async () => {
+    for (const end of ends) await end();
+  });
+  return { after: (end) => ends.push(end) };
+}
 
 /** A server that polls, as `weblocks serve` does. */
 export async function startPolled(t) {

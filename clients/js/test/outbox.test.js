@@ -1,0 +1,141 @@
+/** What is to be sent, in order, over one connection or several. */
+
+import assert from "node:assert/strict";
+import { test } from "node:test";
+import { Outbox } from "../src/outbox.js";
+import { Queue } from "../src/queue.js";
+import { SIGNALS_OF_AGENT, SignalSupply } from "../src/signals.js";
+
+/** An agent that answers when it is told to. */
+class FakeAgent {
+  #unanswered = [];
+
+  constructor(name, sent) {
+    this.name = name;
+    this.sent = sent;
+  }
+
+  ask(message, answered) {
+    this.sent.push(`${this.name}: ${message}`);
+    this.#unanswered.push(answered);
+  }
+
+  /** Answers the oldest message. */
+  answer() {
+    this.#unanswered.shift()({ ok: {} });
+  }
+}
+
+function sending(message, agent = null) {
+  return { agent, isCancelled: false, compose: () => message, answered: () => {} };
+}
+
+test("messages of one agent go out without waiting for replies", () => {
+  const sent = [];
+  const outbox = new Outbox(() => false);
+  outbox.push(sending("early"));
+  assert.deepEqual(sent, [], "there is no agent yet");
+  outbox.current = new FakeAgent("a", sent);
+  outbox.push(sending("one"));
+  outbox.push(sending("two"));
+  assert.deepEqual(sent, ["a: early", "a: one", "a: two"]);
+});
+
+test("a message to another agent waits until all before it are answered, and those behind it wait too", () => {
+  const sent = [];
+  const outbox = new Outbox(() => false);
+  const [a, b] = [new FakeAgent("a", sent), new FakeAgent("b", sent)];
+  outbox.current = a;
+  outbox.push(sending("one"));
+  outbox.push(sending("two"));
+  outbox.current = b;
+  outbox.push(sending("three"));
+  outbox.push(sending("release", a));
+  outbox.push(sending("four"));
+  assert.deepEqual(sent, ["a: one", "a: two"]);
+  a.answer();
+  assert.deepEqual(sent, ["a: one", "a: two"]);
+  a.answer();
+  assert.deepEqual(sent.slice(2), ["b: three"]);
+  b.answer();
+  assert.deepEqual(sent.slice(3), ["a: release"]);
+  a.answer();
+  assert.deepEqual(sent.slice(4), ["b: four"]);
+});
+
+test("what must wait holds up what is behind it, and what is cancelled doesn't", () => {
+  const sent = [];
+  const outbox = new Outbox(() => false);
+  outbox.current = new FakeAgent("a", sent);
+  let message = null;
+  const waiting = { ...sending(""), compose: () => message };
+  const cancelled = { ...sending("cancelled"), isCancelled: true };
+  outbox.push(waiting);
+  outbox.push(cancelled);
+  outbox.push(sending("behind"));
+  assert.deepEqual(sent, []);
+  message = "waited";
+  outbox.flush();
+  assert.deepEqual(sent, ["a: waited", "a: behind"]);
+});
+
+test("what was forgotten is neither sent nor waited for", () => {
+  const sent = [];
+  const outbox = new Outbox(() => false);
+  const [a, b] = [new FakeAgent("a", sent), new FakeAgent("b", sent)];
+  outbox.current = a;
+  outbox.push(sending("one"));
+  outbox.push(sending("lost", b));
+  outbox.reset();
+  outbox.current = b;
+  outbox.push(sending("two"));
+  assert.deepEqual(sent, ["a: one", "b: two"]);
+});
+
+test("a queue gives back what it was given, in order, whatever its length", () => {
+  const queue = new Queue();
+  const taken = [];
+  for (let number = 0; number < 1000; number += 1) {
+    queue.push(2 * number);
+    queue.push(2 * number + 1);
+    assert.equal(queue.peek(), number);
+    taken.push(queue.shift());
+    assert.equal(queue.size, number + 1);
+  }
+  while (queue.size > 0) taken.push(queue.shift());
+  assert.deepEqual(taken, Array.from({ length: 2000 }, (_, number) => number));
+  assert.equal(queue.shift(), undefined);
+  assert.equal(queue.peek(), undefined);
+});
+
+test("an agent's supply asks for no more signals than it may have", () => {
+  const asked = [];
+  const supply = new SignalSupply((answered) => asked.push(answered));
+  supply.provide(5000, () => {});
+  assert.equal(asked.length, SIGNALS_OF_AGENT);
+  asked.forEach((answered, index) => answered(index + 1));
+  assert.equal(supply.left, SIGNALS_OF_AGENT);
+  const loans = Array.from({ length: SIGNALS_OF_AGENT }, () => supply.lend(new AbortController().signal));
+  assert.equal(new Set(loans.map(({ number }) => number)).size, SIGNALS_OF_AGENT);
+  assert.equal(supply.lend(new AbortController().signal), null);
+  assert.equal(supply.left, 0);
+  supply.provide(1, () => {});
+  assert.equal(asked.length, SIGNALS_OF_AGENT);
+  loans[0].isAborted = true;
+  supply.takeBack(loans[0]);
+  assert.equal(supply.left, 0, "an aborted signal is used up");
+  supply.takeBack(loans[1]);
+  assert.equal(supply.lend(new AbortController().signal).number, loans[1].number);
+});
+
+test("a signal is lent once, to all requests that have it, until the last returns it", () => {
+  const supply = new SignalSupply((answered) => answered(7));
+  supply.provide(1, () => {});
+  const { signal } = new AbortController();
+  const [first, second] = [supply.lend(signal), supply.lend(signal)];
+  assert.equal(first, second);
+  supply.takeBack(first);
+  assert.equal(supply.left, SIGNALS_OF_AGENT - 1);
+  supply.takeBack(second);
+  assert.equal(supply.left, SIGNALS_OF_AGENT);
+});
