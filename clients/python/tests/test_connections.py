@@ -5,6 +5,7 @@ import contextlib
 import json
 import time
 import unittest
+import unittest.mock
 from http import HTTPStatus
 
 import websockets
@@ -12,6 +13,7 @@ from websockets.legacy.server import serve
 
 import weblocks
 from support import SECONDS, LoopThread, ServedCase, Server, StandIn, free_port, proxied
+from weblocks import transport
 
 
 class Handshakes(ServedCase):
@@ -51,7 +53,12 @@ class Handshakes(ServedCase):
                 pass
 
     async def test_a_server_that_does_not_answer_the_handshake_raises_Disconnected_after_the_timeout(self):
-        server = await asyncio.start_server(lambda _reader, _writer: None, "127.0.0.1", free_port())
+        async def ignore(reader, writer):
+            while await reader.read(1000):
+                pass
+            writer.close()
+
+        server = await asyncio.start_server(ignore, "127.0.0.1", free_port())
         self.addCleanup(server.close)
         begun = time.monotonic()
         with self.assertRaisesRegex(weblocks.Disconnected, "did not answer in 0.2 seconds"):
@@ -75,10 +82,33 @@ class Handshakes(ServedCase):
                     pass
 
     async def test_a_server_that_sends_no_replies_but_other_texts_is_left(self):
-        for text in ("hello", "{}", "[]", '{"id":1,"notices":[],"ok":5}', '{"id":7,"notices":[],"ok":{}}'):
+        for text in (
+            "hello",
+            "{}",
+            "[]",
+            '{"id":1,"notices":[],"ok":5}',
+            '{"id":1,"notices":[{"request":[],"phase":1}],"ok":{}}',
+            '{"id":7,"notices":[],"ok":{}}',
+        ):
             with self.subTest(text), self.assertRaisesRegex(weblocks.Disconnected, "no reply"):
                 async with self.connect(url=await self.answer_with(text)):
                     pass
+
+    async def test_the_newer_interface_of_websockets_is_taken_where_there_is_one(self):
+        """It isn't installed by Debian: a stand-in of its module shows which function and words are taken."""
+        calls = []
+
+        class Newer:
+            def connect(self, url, *, additional_headers, subprotocols, compression, max_size, ping_interval, **times):
+                calls.append((url, additional_headers, subprotocols))
+                return websockets.connect(url, subprotocols=subprotocols, compression=compression)
+
+        with unittest.mock.patch.dict("sys.modules", {"websockets.asyncio.client": Newer()}):
+            found = transport._find_connect()
+        with unittest.mock.patch.multiple(transport, _library_connect=found[0], _headers_word=found[1]):
+            async with self.connect(token="right") as locks, locks.request("db"):
+                pass
+        self.assertEqual([(self.url, {"Authorization": "Bearer right"}, ["weblocks.push"])], calls)
 
     async def serve(self, handle, process_request=None):
         """A server of the tests' own, whose URL this answers."""

@@ -64,7 +64,8 @@ class Wheel(unittest.TestCase):
         self.assertTrue(Path(where.strip()).is_relative_to(self.folder / "venv"), where)
 
     def test_the_wheel_has_the_mark_of_a_typed_package(self):
-        self.run_python("-c", "import importlib.resources as r; assert r.files('weblocks').joinpath('py.typed').is_file()")
+        look = "import importlib.resources as r; assert r.files('weblocks').joinpath('py.typed').is_file()"
+        self.run_python("-c", look)
 
     def test_the_first_program_of_the_README_has_at_most_ten_lines_and_runs(self):
         first = blocks_of(README, "python")[0]

@@ -7,7 +7,7 @@ from collections import deque
 from collections.abc import Callable
 from typing import Protocol
 
-from .connection import Connection
+from .connection import Answer, Connection, Failure
 from .errors import Disconnected, Error, LockLost, LockStolen
 from .messages import (
     CLOSE,
@@ -47,7 +47,7 @@ class Agent:
         self._waiting = 0
         self.client: str | None = None
         self.unanswered = 0
-        """How many messages that change something are on their way."""
+        """How many messages whose order counts are on their way."""
 
     @classmethod
     async def open(cls, options: Options, owner: Owner) -> Agent:
@@ -102,7 +102,11 @@ class Agent:
 
     def query(self, reply: asyncio.Future[Reply]) -> None:
         """Asks for what is held and pending."""
-        self._connection.ask_for(QUERY, reply)
+        self._ask(
+            QUERY,
+            lambda answer: None if reply.done() else reply.set_result(answer),
+            lambda reason: None if reply.done() else reply.set_exception(reason),
+        )
 
     def give_up(self, request: Request, reason: Reason) -> None:
         """Ends a request, whatever its phase; a grant that is on its way is released when it comes."""
@@ -130,11 +134,11 @@ class Agent:
         """In the order in which they were sent."""
         return [*self._requests.values(), *self._unnumbered]
 
-    def _ask(self, message: Message, answer: Callable[[Reply], None]) -> None:
+    def _ask(self, message: Message, answer: Answer, failure: Failure | None = None) -> None:
         self.unanswered += 1
-        self._connection.ask(message, lambda reply: self._answered(reply, answer))
+        self._connection.ask(message, lambda reply: self._answered(reply, answer), failure)
 
-    def _answered(self, reply: Reply, answer: Callable[[Reply], None]) -> None:
+    def _answered(self, reply: Reply, answer: Answer) -> None:
         self.unanswered -= 1
         answer(reply)
 

@@ -76,16 +76,12 @@ class Connection:
     async def call(self, message: Message) -> Reply:
         """Sends a message and waits for its reply; raises Disconnected where the connection is lost first."""
         reply: asyncio.Future[Reply] = self._loop.create_future()
-        self.ask_for(message, reply)
-        return await reply
-
-    def ask_for(self, message: Message, reply: asyncio.Future[Reply]) -> None:
-        """Sends a message whose reply, or the loss of the connection before it, settles a future."""
         self.ask(
             message,
             lambda answer: None if reply.done() else reply.set_result(answer),
             lambda reason: None if reply.done() else reply.set_exception(reason),
         )
+        return await reply
 
     def want_polls(self, wanted: bool) -> None:
         """Says whether news is waited for: then a server without pushes is polled."""

@@ -41,7 +41,10 @@ class Dispatcher:
 
     async def open(self) -> None:
         """Opens the first agent; raises Disconnected, Forbidden, or Refused by the service."""
-        self._adopt(await Agent.open(self._options, self))
+        agent = await Agent.open(self._options, self)
+        if agent.lost is not None:
+            raise agent.lost
+        self._adopt(agent)
 
     @property
     def own_clients(self) -> set[str | None]:
@@ -173,6 +176,8 @@ class Dispatcher:
             at_once = False
             agent = await self._try_open()
             if self._ended is not None:
+                if agent is not None:
+                    self._close_agent(agent)
                 return
         self._opening = None
         if self._agent is None:

@@ -48,7 +48,7 @@ def read_reply(text: str | bytes) -> Reply:
     try:
         value = json.loads(text)
         error = value.get("error")
-        notices = [(notice["request"], notice["phase"]) for notice in value["notices"]]
+        notices = [(int(notice["request"]), str(notice["phase"])) for notice in value["notices"]]
         if error is not None:
             return Reply(value["id"], {}, Refused(error["name"], error["rule"]), notices)
         ok = value["ok"]
