@@ -188,6 +188,23 @@ test("the server killed and started again in the middle: what waited is granted 
   await assertFree(a);
 });
 
+test("a client id of before isn't its own any more: the server may have given it to another", async (t) => {
+  const first = await startPolled(t);
+  const locks = await connectTo(t, first);
+  const restored = next(locks, "restored");
+  await first.stop();
+  const second = await startServer({ program: PROGRAM, port: first.port });
+  t.after(() => second.stop());
+  const other = await connectTo(t, second);
+  await restored;
+  const holdings = [await hold(locks, "own"), await hold(other, "other's")];
+  const clientIds = (await locks.query()).held.map(({ clientId }) => clientId);
+  assert.equal(new Set(clientIds).size, 2);
+  assert.deepEqual((await other.query()).held.map(({ clientId }) => clientId), clientIds);
+  for (const { release } of holdings) release();
+  await Promise.all(holdings.map(({ promise }) => promise));
+});
+
 test("a server that ends tells it (1001), and its clients come again", async (t) => {
   const { server, locks } = await startCuttable(t);
   const lost = next(locks, "lost");
