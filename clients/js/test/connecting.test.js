@@ -41,6 +41,21 @@ test("where that handshake fails, a second one offers no subprotocol, and the se
   assert.equal(await locks.request("db", () => 1), 1);
 });
 
+test("what a handshake meant is read from the selected subprotocol: where none is, the server is polled", async (t) => {
+  const server = await startPolled(t);
+  class Lenient extends WebSocket {
+    constructor(url) {
+      super(url);
+    }
+  }
+  const [a, b] = [await connectTo(t, server, { WebSocket: Lenient }), await connectTo(t, server)];
+  const holding = await hold(b, "db");
+  const pending = a.request("db", () => "told");
+  await until(async () => (await b.query()).pending.length === 1);
+  holding.release();
+  assert.equal(await pending, "told");
+});
+
 test("each reconnection tries pushes anew", async (t) => {
   const proxy = await Proxy.start(t, await startPolled(t));
   const { made, Spied } = spySockets();
