@@ -20,7 +20,6 @@ export class Call {
   #onReturn;
   #onEnd;
   #state = WAITING;
-  #turn = 0;
   #settle;
   #resolve;
   #reject;
@@ -104,15 +103,12 @@ export class Call {
   /** What was granted is lost before the callback was called: the call waits again. */
   waitAgain() {
     this.#state = WAITING;
-    this.#turn += 1;
   }
 
   #callLater(lock) {
     this.#state = GRANTED;
-    this.#turn += 1;
-    const turn = this.#turn;
     runAsTask(() => {
-      if (this.#state === GRANTED && this.#turn === turn) this.#call(lock);
+      if (this.#state === GRANTED) this.#call(lock);
     });
   }
 

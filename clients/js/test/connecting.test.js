@@ -5,7 +5,7 @@ import { execFile } from "node:child_process";
 import { test } from "node:test";
 import { promisify } from "node:util";
 import { connect } from "../weblocks.js";
-import { assertRejects, hold, until } from "./support/holding.js";
+import { assertRejects, hold, until, watch } from "./support/holding.js";
 import { Proxy } from "./support/proxy.js";
 import { connectTo, startPolled, startPushing } from "./support/servers.js";
 import { WebSocket } from "./support/sockets.js";
@@ -48,12 +48,13 @@ test("what a handshake meant is read from the selected subprotocol: where none i
       super(url);
     }
   }
-  const [a, b] = [await connectTo(t, server, { WebSocket: Lenient }), await connectTo(t, server)];
+  const a = await connectTo(t, server, { WebSocket: Lenient, heartbeat: 600_000 });
+  const b = await connectTo(t, server);
   const holding = await hold(b, "db");
-  const pending = a.request("db", () => "told");
+  const pending = watch(a.request("db", () => "told"));
   await until(async () => (await b.query()).pending.length === 1);
   holding.release();
-  assert.equal(await pending, "told");
+  await until(() => pending.state === "fulfilled");
 });
 
 test("each reconnection tries pushes anew", async (t) => {

@@ -144,6 +144,37 @@ test("reconnect: false ends the LockManager with the connection", async (t) => {
   holding.release();
 });
 
+test("a grant that came just before the loss calls no callback: the request is asked again", async (t) => {
+  const sockets = [];
+  /** A socket that answers by itself, and the first time ends right after the grant. */
+  class Ending {
+    readyState = 1;
+    protocol = "weblocks.push";
+
+    constructor() {
+      sockets.push(this);
+      setImmediate(() => this.onopen());
+    }
+
+    send(text) {
+      const { id, op } = JSON.parse(text);
+      const notices = op === "request" ? [{ phase: "granted", request: 1 }] : [];
+      const answers = { open: { client: "client-1" }, signal: { signal: 1 }, request: { request: 1 } };
+      const ok = answers[op] ?? { release: "released" };
+      setImmediate(() => {
+        this.onmessage?.({ data: JSON.stringify({ id, notices, ok }) });
+        if (op === "request" && sockets.length === 1) this.onclose({ code: 1006, reason: "" });
+      });
+    }
+
+    close() {}
+  }
+  const locks = await connectTo(t, { url: "ws://127.0.0.1:9" }, { WebSocket: Ending });
+  const calls = [];
+  await locks.request("db", () => { calls.push(sockets.length); });
+  assert.deepEqual(calls, [2]);
+});
+
 test("a window that was made inactive is inactive after a reconnection too", async (t) => {
   const { server, proxy, locks } = await startCuttable(t);
   await locks.setActive(false);
