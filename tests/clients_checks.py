@@ -19,6 +19,15 @@ MISSES = "#!/bin/sh\necho 'not run: a browser: there is none'\nexit 3\n"
 MISSES_UNSAID = "#!/bin/sh\nexit 3\n"
 # Its process leaves the part's session and keeps its output open.
 LEAVES = "#!/bin/sh\nsetsid sleep 1000 &\necho $! >left\n"
+# A process whose parent ended is gone once it ends itself.
+ORPHANS = """#!/bin/bash
+orphan=$(sh -c 'sleep 1 >/dev/null & echo $!')
+for turn in {1..100}; do
+    [[ -e /proc/$orphan ]] || exit 0
+    sleep 0.1
+done
+exit 1
+"""
 LEAVES_SHORTLY = "#!/bin/sh\nsleep 1 &\n"
 
 
@@ -78,3 +87,6 @@ def clients_checks(made: Checkouts, kit: Kit) -> Checks:
     yield "no part at all", lambda: tells({}, 1, "clients: 0 parts passed, 0 failed, 0 not run")
     yield "a part leaves a process", ends_what_is_left
     yield "a part's process ends shortly behind it", waits_for_what_ends
+    yield "a part sees the end of its orphans", lambda: tells(
+        {"one": ORPHANS}, 0, "clients: 1 parts passed, 0 failed, 0 not run"
+    )

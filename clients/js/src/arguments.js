@@ -5,6 +5,7 @@
 
 import { abortReason, isAborted } from "./aborts.js";
 import { notSupportedError } from "./faults.js";
+import { escapeName } from "./names.js";
 
 const MODES = ["shared", "exclusive"];
 
@@ -12,8 +13,8 @@ const MODES = ["shared", "exclusive"];
  * Converts the arguments of `request(name, callback)` or `request(name, options, callback)`.
  *
  * @param {ArrayLike<unknown>} given
- * @returns {{name: string, ifAvailable: boolean, mode: string, signal: AbortSignal | undefined, steal: boolean,
- *   callback: Function}}
+ * @returns {{name: string, wireName: string, ifAvailable: boolean, mode: string, signal: AbortSignal | undefined,
+ *   steal: boolean, callback: Function}} `wireName` is the name as it goes over the wire
  * @throws {TypeError} where one of them can't be converted, or what a page's own getter or `toString` throws
  */
 export function readArguments(given) {
@@ -22,10 +23,10 @@ export function readArguments(given) {
   }
   const name = toText(given[0]);
   const options = given.length === 2 ? undefined : given[1];
-  const read = readOptions(options);
+  const { ifAvailable, mode, signal, steal } = readOptions(options);
   const callback = given.length === 2 ? given[1] : given[2];
   if (typeof callback !== "function") throw new TypeError("The callback isn't a function");
-  return { name, ...read, callback };
+  return { name, wireName: escapeName(name), ifAvailable, mode, signal, steal, callback };
 }
 
 /** The refusal that the standard has for what was read, or null: of the name, the options, and then the signal. */

@@ -20,13 +20,12 @@ export class Call {
   #onReturn;
   #onEnd;
   #state = WAITING;
-  #turn = 0;
-  #result;
+  #settle;
   #resolve;
   #reject;
   #loss = null;
   #lossReason;
-  #heedAbort = () => this.#abort();
+  #heedAbort = null;
 
   /**
    * @param {object} asked what `readArguments` read
@@ -43,7 +42,10 @@ export class Call {
       this.#resolve = resolve;
       this.#reject = reject;
     });
-    if (asked.signal !== undefined) heedAbort(asked.signal, this.#heedAbort);
+    if (asked.signal !== undefined) {
+      this.#heedAbort = () => this.#abort();
+      heedAbort(asked.signal, this.#heedAbort);
+    }
   }
 
   /** What was asked for. */
@@ -86,7 +88,7 @@ export class Call {
   finish() {
     if (this.#state !== RELEASING) return;
     this.#close();
-    this.#resolve(this.#result);
+    this.#settle();
   }
 
   /** Rejects the promise, unless it is settled. A callback that runs goes on, and its lock's lost signal is aborted. */
@@ -101,15 +103,12 @@ export class Call {
   /** What was granted is lost before the callback was called: the call waits again. */
   waitAgain() {
     this.#state = WAITING;
-    this.#turn += 1;
   }
 
   #callLater(lock) {
     this.#state = GRANTED;
-    this.#turn += 1;
-    const turn = this.#turn;
     runAsTask(() => {
-      if (this.#state === GRANTED && this.#turn === turn) this.#call(lock);
+      if (this.#state === GRANTED) this.#call(lock);
     });
   }
 
@@ -117,27 +116,34 @@ export class Call {
     this.#ignoreSignal();
     this.#state = HELD;
     if (lock !== null) callOfLock.set(lock, this);
-    this.#result = new Promise((resolve) => {
+    const result = new Promise((resolve) => {
       resolve(Reflect.apply(this.#asked.callback, undefined, [lock]));
     });
-    const returned = () => this.#return();
-    if (lock !== null) this.#result.then(returned, returned);
-    else this.#settleUnheld();
+    if (lock === null) {
+      this.#settleUnheld(result);
+      return;
+    }
+    result.then(
+      (value) => this.#return(() => this.#resolve(value)),
+      (reason) => this.#return(() => this.#reject(reason)),
+    );
   }
 
   /** There is no lock to release. The callback may have closed the LockManager, by which the call has ended. */
-  #settleUnheld() {
+  #settleUnheld(result) {
     if (this.#state === ENDED) {
-      this.#result.catch(() => {});
+      result.catch(() => {});
       return;
     }
     this.#close();
-    this.#resolve(this.#result);
+    this.#resolve(result);
   }
 
-  #return() {
+  /** What the callback returned has settled, and so will the promise once the release was answered. */
+  #return(settle) {
     if (this.#state !== HELD) return;
     this.#state = RELEASING;
+    this.#settle = settle;
     this.#onReturn(this);
   }
 
@@ -154,7 +160,7 @@ export class Call {
   }
 
   #ignoreSignal() {
-    if (this.#asked.signal !== undefined) ignoreAbort(this.#asked.signal, this.#heedAbort);
+    if (this.#heedAbort !== null) ignoreAbort(this.#asked.signal, this.#heedAbort);
   }
 }
 

@@ -4,7 +4,7 @@ import { readArguments, refusalOfCall } from "./arguments.js";
 import { lostSignalOf } from "./call.js";
 import { quotaExceededError } from "./faults.js";
 import { showAsPlatformObject } from "./lock.js";
-import { escapeName, isTooLong } from "./names.js";
+import { isTooLong } from "./names.js";
 import { Session } from "./session.js";
 
 const MAKING = Symbol("making");
@@ -106,7 +106,7 @@ export class LockManager extends EventTarget {
 
 showAsPlatformObject(LockManager, ["request", "query", "close", "closed", "setActive", "lostSignal"]);
 
-function refusalOfLength({ name }) {
-  if (!isTooLong(escapeName(name))) return null;
+function refusalOfLength({ wireName }) {
+  if (!isTooLong(wireName)) return null;
   return { reason: quotaExceededError("The name has more than 1,024 bytes of UTF-8") };
 }

@@ -1,7 +1,6 @@
 /** A request as the service has it: sent for a call, over the connection of one agent. */
 
 import { abortError, faultOfRefusal } from "./faults.js";
-import { escapeName } from "./names.js";
 
 export class LockRequest {
   #call;
@@ -38,7 +37,7 @@ export class LockRequest {
 
   /** Its message, or null where its signal needs one of the agent's, and none is ready. */
   compose(agent) {
-    const { name, mode, ifAvailable, steal, signal } = this.#call.asked;
+    const { wireName, signal } = this.#call.asked;
     if (signal !== undefined) {
       this.#loan = agent.signals.lend(signal);
       if (this.#loan === null) return null;
@@ -47,16 +46,18 @@ export class LockRequest {
     this.#isWaiting = true;
     agent.beginWaiting();
     this.#onSent(this);
-    return {
-      op: "request",
-      name: escapeName(name),
-      options: {
-        ...(ifAvailable && { ifAvailable }),
-        ...(mode === "shared" && { mode }),
-        ...(steal && { steal }),
-        ...(this.#loan !== null && { signal: this.#loan.number }),
-      },
-    };
+    return { op: "request", name: wireName, options: this.#options() };
+  }
+
+  /** What isn't as it is where nothing is said. */
+  #options() {
+    const { mode, ifAvailable, steal } = this.#call.asked;
+    const options = {};
+    if (ifAvailable) options.ifAvailable = true;
+    if (mode !== "exclusive") options.mode = mode;
+    if (steal) options.steal = true;
+    if (this.#loan !== null) options.signal = this.#loan.number;
+    return options;
   }
 
   /** Its reply: the number by which it will be told of, or a refusal. */

@@ -5,7 +5,7 @@ import { execFile } from "node:child_process";
 import { test } from "node:test";
 import { promisify } from "node:util";
 import { connect } from "../weblocks.js";
-import { assertRejects, hold, until } from "./support/holding.js";
+import { assertRejects, hold, until, watch } from "./support/holding.js";
 import { Proxy } from "./support/proxy.js";
 import { connectTo, startPolled, startPushing } from "./support/servers.js";
 import { WebSocket } from "./support/sockets.js";
@@ -39,6 +39,22 @@ test("where that handshake fails, a second one offers no subprotocol, and the se
   const locks = await connectTo(t, server, { WebSocket: Spied, poll: 5 });
   assert.deepEqual(made, [[`${server.url}/`, ["weblocks.push"]], [`${server.url}/`]]);
   assert.equal(await locks.request("db", () => 1), 1);
+});
+
+test("what a handshake meant is read from the selected subprotocol: where none is, the server is polled", async (t) => {
+  const server = await startPolled(t);
+  class Lenient extends WebSocket {
+    constructor(url) {
+      super(url);
+    }
+  }
+  const a = await connectTo(t, server, { WebSocket: Lenient, heartbeat: 600_000 });
+  const b = await connectTo(t, server);
+  const holding = await hold(b, "db");
+  const pending = watch(a.request("db", () => "told"));
+  await until(async () => (await b.query()).pending.length === 1);
+  holding.release();
+  await until(() => pending.state === "fulfilled");
 });
 
 test("each reconnection tries pushes anew", async (t) => {

@@ -144,6 +144,37 @@ test("reconnect: false ends the LockManager with the connection", async (t) => {
   holding.release();
 });
 
+test("a grant that came just before the loss calls no callback: the request is asked again", async (t) => {
+  const sockets = [];
+  /** A socket that answers by itself, and the first time ends right after the grant. */
+  class Ending {
+    readyState = 1;
+    protocol = "weblocks.push";
+
+    constructor() {
+      sockets.push(this);
+      setImmediate(() => this.onopen());
+    }
+
+    send(text) {
+      const { id, op } = JSON.parse(text);
+      const notices = op === "request" ? [{ phase: "granted", request: 1 }] : [];
+      const answers = { open: { client: "client-1" }, signal: { signal: 1 }, request: { request: 1 } };
+      const ok = answers[op] ?? { release: "released" };
+      setImmediate(() => {
+        this.onmessage?.({ data: JSON.stringify({ id, notices, ok }) });
+        if (op === "request" && sockets.length === 1) this.onclose({ code: 1006, reason: "" });
+      });
+    }
+
+    close() {}
+  }
+  const locks = await connectTo(t, { url: "ws://127.0.0.1:9" }, { WebSocket: Ending });
+  const calls = [];
+  await locks.request("db", () => { calls.push(sockets.length); });
+  assert.deepEqual(calls, [2]);
+});
+
 test("a window that was made inactive is inactive after a reconnection too", async (t) => {
   const { server, proxy, locks } = await startCuttable(t);
   await locks.setActive(false);
@@ -186,6 +217,23 @@ test("the server killed and started again in the middle: what waited is granted 
   assert.equal((await pending.settled).value, "granted anew");
   assert.equal((await behind.settled).value, "and behind");
   await assertFree(a);
+});
+
+test("a client id of before isn't its own any more: the server may have given it to another", async (t) => {
+  const first = await startPolled(t);
+  const locks = await connectTo(t, first);
+  const restored = next(locks, "restored");
+  await first.stop();
+  const second = await startServer({ program: PROGRAM, port: first.port });
+  t.after(() => second.stop());
+  const other = await connectTo(t, second);
+  await restored;
+  const holdings = [await hold(locks, "own"), await hold(other, "other's")];
+  const clientIds = (await locks.query()).held.map(({ clientId }) => clientId);
+  assert.equal(new Set(clientIds).size, 2);
+  assert.deepEqual((await other.query()).held.map(({ clientId }) => clientId), clientIds);
+  for (const { release } of holdings) release();
+  await Promise.all(holdings.map(({ promise }) => promise));
 });
 
 test("a server that ends tells it (1001), and its clients come again", async (t) => {
