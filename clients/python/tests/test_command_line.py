@@ -1,6 +1,7 @@
 """`python3 -m weblocks with`, `query` and `watch`, as a user of the shell meets them."""
 
 import contextlib
+import fcntl
 import os
 import pty
 import re
@@ -8,6 +9,7 @@ import signal
 import subprocess
 import sys
 import tempfile
+import termios
 import time
 import unittest
 from pathlib import Path
@@ -37,6 +39,7 @@ class CommandLineCase(unittest.TestCase):
         path = {"PYTHONPATH": str(PACKAGE / "src")}
         options.setdefault("stdout", subprocess.PIPE)
         options.setdefault("stderr", subprocess.PIPE)
+        options.setdefault("preexec_fn", reset_signals)
         process = subprocess.Popen(
             [sys.executable, "-m", "weblocks", *words],
             env={**ENVIRONMENT, **path, **(service if environment is None else environment)},
@@ -178,6 +181,16 @@ class With(CommandLineCase):
                 out, err = process.communicate(timeout=SECONDS)
                 self.assertEqual((128 + number, "", ""), (process.returncode, out, err))
                 self.wait_for(lambda: locks.query().pending == [])
+
+    def test_a_signal_that_is_ignored_when_it_starts_stays_so(self):
+        script = "kill -HUP $$; echo ran"
+        with self.connect() as locks:
+            with locks.request("db"):
+                process = self.start("with", "db", "--", "sh", "-c", script, preexec_fn=ignore_hangups)
+                self.wait_for(lambda: len(locks.query().pending) == 1)
+                process.send_signal(signal.SIGHUP)
+            self.assertEqual(("ran\n", ""), process.communicate(timeout=SECONDS))
+            self.assertEqual(0, process.returncode)
 
     def test_in_a_terminal_the_command_gets_a_keys_signal_once(self):
         leader, follower = pty.openpty()
@@ -365,11 +378,21 @@ def end_group(leader):
         os.killpg(leader, signal.SIGKILL)
 
 
+def reset_signals():
+    """Whatever runs the tests may ignore some, as shells have it for what they start with &."""
+    for number in (signal.SIGHUP, signal.SIGINT, signal.SIGQUIT, signal.SIGTERM):
+        signal.signal(number, signal.SIG_DFL)
+
+
+def ignore_hangups():
+    """As `nohup` does."""
+    reset_signals()
+    signal.signal(signal.SIGHUP, signal.SIG_IGN)
+
+
 def take_terminal(terminal):
     """Makes a terminal the one of this new session."""
-    import fcntl
-    import termios
-
+    reset_signals()
     fcntl.ioctl(terminal, termios.TIOCSCTTY, 0)
 
 

@@ -63,13 +63,18 @@ class Races:
 
     async def test_timeout_against_grant(self):
         counts = {"granted": 0, "too late": 0}
+        longest = 0.05
 
         async def want(locks, name):
+            # The time that a grant takes here is found out on the way, so that both come close.
+            nonlocal longest
             try:
-                async with locks.request(name, timeout=self.random.uniform(0, 0.05)):
+                async with locks.request(name, timeout=self.random.uniform(0, longest)):
                     counts["granted"] += 1
+                    longest *= 0.9
             except TimeoutError:
                 counts["too late"] += 1
+                longest *= 1.1
 
         async def once(name):
             async with other.request(name):
