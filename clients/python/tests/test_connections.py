@@ -160,6 +160,7 @@ class Handshakes(ServedCase):
 
 class Reconnections(ServedCase):
     async def asyncSetUp(self):
+        await super().asyncSetUp()
         self.own = Server()
         self.addCleanup(self.own.kill)
         self.url = self.own.url
