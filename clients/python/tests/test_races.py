@@ -126,8 +126,9 @@ class Races:
 
         async def use(locks, name, options):
             try:
-                async with locks.request(name, **options):
-                    await self.pause()
+                async with locks.request(name, **options) as lock:
+                    stays = lock is not None and self.random.randrange(4) == 0
+                    await (asyncio.sleep(1000) if stays else self.pause())
                     what = "held"
             except Exception as error:
                 what = type(error).__name__
@@ -142,8 +143,10 @@ class Races:
                 if self.random.randrange(2):
                     tasks.append(asyncio.create_task(locks.query()))
                     tasks[self.random.randrange(10)].cancel()
-                for _ in range(self.random.randrange(4)):
-                    await self.pause()
+                for _ in range(self.random.randrange(3)):
+                    # When a query is answered, so is what was requested before it.
+                    await locks.query()
+                await self.pause()
                 await locks.close()
                 _done, pending = await asyncio.wait(tasks, timeout=60)
                 self.assertEqual(set(), pending)
@@ -153,7 +156,7 @@ class Races:
         await self.race(once)
         await self.expect_nothing_left()
         self.assertLessEqual(set(ended), {"held", "Closed", "LockLost", "LockStolen"}, ended)
-        self.assertGreaterEqual(len(ended), 3, ended)
+        self.assertLessEqual({"held", "Closed", "LockLost"}, set(ended), ended)
 
 
 class RacesOverPolls(Races, ServedCase):
