@@ -2,7 +2,8 @@
 """Cycles a second, beside a program that writes the same messages through the same library on one connection.
 
 A cycle is a request for a free lock and its release, each awaited. The two take turns, so that both meet the same
-load of the machine, and the median of the rounds counts.
+load of the machine. The time by the clock has the server's part in it, and means little on a machine with other work;
+the processor time is that of the client's process alone, and there the best round is the least disturbed.
 
     PYTHONPATH=clients/python/src /usr/bin/python3 clients/python/bench/cycles.py [--program ./weblocks]
 """
@@ -16,6 +17,9 @@ import statistics
 import subprocess
 import sys
 import time
+from collections.abc import Callable, Coroutine
+from dataclasses import dataclass, field
+from typing import Any
 
 import websockets
 
@@ -24,9 +28,22 @@ import weblocks
 ORIGIN = "https://bench.test"
 
 
-async def time_plain(socket: websockets.WebSocketClientProtocol, cycles: int, first: int) -> float:
-    """Seconds a cycle of a program that knows nothing but the messages."""
-    begun = time.perf_counter()
+@dataclass
+class Times:
+    """Seconds a cycle in each round, by the clock and of the processor."""
+
+    clock: list[float] = field(default_factory=list)
+    processor: list[float] = field(default_factory=list)
+
+    async def add(self, cycles: int, work: Coroutine[Any, Any, None]) -> None:
+        clock, processor = time.perf_counter(), time.process_time()
+        await work
+        self.clock.append((time.perf_counter() - clock) / cycles)
+        self.processor.append((time.process_time() - processor) / cycles)
+
+
+async def run_plain(socket: websockets.WebSocketClientProtocol, cycles: int, first: int) -> None:
+    """A program that knows nothing but the messages."""
     for number in range(first, first + cycles):
         request = {"id": number, "op": "request", "name": "db", "options": {"signal": 1}}
         await socket.send(json.dumps(request))
@@ -35,20 +52,17 @@ async def time_plain(socket: websockets.WebSocketClientProtocol, cycles: int, fi
         await socket.send(json.dumps({"id": number, "op": "release", "request": number}))
         reply = json.loads(await socket.recv())
         assert reply["ok"] == {"release": "released"}, reply
-    return (time.perf_counter() - begun) / cycles
 
 
-async def time_client(locks: weblocks.LockManager, cycles: int) -> float:
-    """Seconds a cycle of a program that uses the package."""
-    begun = time.perf_counter()
+async def run_client(locks: weblocks.LockManager, cycles: int) -> None:
+    """A program that uses the package."""
     for _ in range(cycles):
         async with locks.request("db"):
             pass
-    return (time.perf_counter() - begun) / cycles
 
 
 async def compare(url: str, cycles: int, rounds: int) -> None:
-    plain, client = [], []
+    plain, client = Times(), Times()
     async with (
         websockets.connect(url, compression=None, ping_interval=None) as socket,
         weblocks.connect(url, origin=ORIGIN, bucket="client") as locks,
@@ -57,20 +71,27 @@ async def compare(url: str, cycles: int, rounds: int) -> None:
             await socket.send(json.dumps(message))
             await socket.recv()
         for round in range(rounds):
-            plain.append(await time_plain(socket, cycles, 1 + round * cycles))
-            client.append(await time_client(locks, cycles))
-    base, ours = statistics.median(plain), statistics.median(client)
-    print(f"plain messages: {1 / base:8.0f} cycles/s, {base * 1e6:6.0f} us a cycle")
-    print(f"weblocks:       {1 / ours:8.0f} cycles/s, {ours * 1e6:6.0f} us a cycle")
-    print(f"ratio of the medians: {ours / base:.2f} (of the fastest rounds: {min(client) / min(plain):.2f})")
+            await plain.add(cycles, run_plain(socket, cycles, 1 + round * cycles))
+            await client.add(cycles, run_client(locks, cycles))
+    print(f"plain messages: {1 / statistics.median(plain.clock):6.0f} cycles/s")
+    print(f"weblocks:       {1 / statistics.median(client.clock):6.0f} cycles/s")
+    print(f"time by the clock, medians:      {compare_by(statistics.median, plain.clock, client.clock)}")
+    print(f"time by the clock, best rounds:  {compare_by(min, plain.clock, client.clock)}")
+    print(f"processor time, medians:         {compare_by(statistics.median, plain.processor, client.processor)}")
+    print(f"processor time, best rounds:     {compare_by(min, plain.processor, client.processor)}")
+
+
+def compare_by(choose: Callable[[list[float]], float], plain: list[float], client: list[float]) -> str:
+    base, ours = choose(plain), choose(client)
+    return f"{base * 1e6:6.0f} and {ours * 1e6:6.0f} us a cycle, ratio {ours / base:.2f}"
 
 
 def main() -> None:
     words = argparse.ArgumentParser(description="Cycles a second, with and without the package.")
     words.add_argument("--program", default="./weblocks", help="the program that serves (default: ./weblocks)")
     words.add_argument("--port", type=int, default=18089)
-    words.add_argument("--cycles", type=int, default=500, help="in a round (default: 500)")
-    words.add_argument("--rounds", type=int, default=20, help="of each (default: 20)")
+    words.add_argument("--cycles", type=int, default=100, help="in a round (default: 100)")
+    words.add_argument("--rounds", type=int, default=50, help="of each (default: 50)")
     given = words.parse_args()
     command = [given.program, "serve", "--port", str(given.port), "--clients", "10"]
     with subprocess.Popen(command, stdout=subprocess.PIPE) as server:

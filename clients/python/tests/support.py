@@ -245,6 +245,10 @@ class ServedCase(unittest.IsolatedAsyncioTestCase):
             self.addCleanup(logger.setLevel, logger.level)
             logger.setLevel(logging.CRITICAL)
 
+    async def asyncSetUp(self) -> None:
+        """Without the debug mode of event loops, which keeps a stack for each call and takes many times as long."""
+        asyncio.get_running_loop().set_debug(False)
+
     def connect(self, **options: Any) -> contextlib.AbstractAsyncContextManager[weblocks.LockManager]:
         """A manager of the test's origin, at the test's server."""
         options.setdefault("origin", self.origin)

@@ -160,6 +160,7 @@ class Handshakes(ServedCase):
 
 class Reconnections(ServedCase):
     async def asyncSetUp(self):
+        await super().asyncSetUp()
         self.own = Server()
         self.addCleanup(self.own.kill)
         self.url = self.own.url
@@ -285,19 +286,19 @@ class CutOff(ServedCase):
                 proxy.swallows = True
                 begun = time.monotonic()
                 await locks.close()
-                self.assertLess(time.monotonic() - begun, 5)
+                self.assertLess(time.monotonic() - begun, 10)
 
     async def test_a_server_that_answers_keeps_its_clients_over_many_heartbeats(self):
-        async with self.connect(heartbeat=0.5) as locks, locks.request("db") as lock:
-            await asyncio.sleep(3)
+        async with self.connect(heartbeat=1.5) as locks, locks.request("db") as lock:
+            await asyncio.sleep(5)
             lock.check()
 
     async def test_an_event_loop_that_was_kept_busy_for_longer_than_a_heartbeat_loses_nothing(self):
-        async with self.connect(heartbeat=0.5) as locks, locks.request("db") as lock:
+        async with self.connect(heartbeat=1) as locks, locks.request("db") as lock:
             for _ in range(3):
-                time.sleep(1.2)
+                time.sleep(2.2)
                 await asyncio.sleep(0.1)
-            await asyncio.sleep(1)
+            await asyncio.sleep(2)
             lock.check()
 
     async def test_pushes_alone_are_no_sign_of_life(self):

@@ -76,8 +76,8 @@ class Behaviour:
 
     async def test_a_timeout_that_is_not_reached_leaves_the_lock_alone(self):
         async with self.connect() as locks:
-            async with locks.request("db", timeout=0.5) as lock:
-                await asyncio.sleep(0.7)
+            async with locks.request("db", timeout=2) as lock:
+                await asyncio.sleep(2.2)
                 lock.check()
                 self.assertEqual(1, len((await locks.query()).held))
 

@@ -11,6 +11,7 @@ class Losses(ServedCase):
     """Each test has a manager behind a proxy, whose connections it cuts."""
 
     async def asyncSetUp(self):
+        await super().asyncSetUp()
         self.proxy = self.enterContext(proxied(self.server.port))
         self.locks = await self.enterAsyncContext(self.connect(url=self.proxy.url))
 

@@ -63,13 +63,18 @@ class Races:
 
     async def test_timeout_against_grant(self):
         counts = {"granted": 0, "too late": 0}
+        longest = 0.05
 
         async def want(locks, name):
+            # The time that a grant takes here is found out on the way, so that both come close.
+            nonlocal longest
             try:
-                async with locks.request(name, timeout=self.random.uniform(0, 0.05)):
+                async with locks.request(name, timeout=self.random.uniform(0, longest)):
                     counts["granted"] += 1
+                    longest *= 0.9
             except TimeoutError:
                 counts["too late"] += 1
+                longest *= 1.1
 
         async def once(name):
             async with other.request(name):
@@ -121,8 +126,9 @@ class Races:
 
         async def use(locks, name, options):
             try:
-                async with locks.request(name, **options):
-                    await self.pause()
+                async with locks.request(name, **options) as lock:
+                    stays = lock is not None and self.random.randrange(4) == 0
+                    await (asyncio.sleep(1000) if stays else self.pause())
                     what = "held"
             except Exception as error:
                 what = type(error).__name__
@@ -137,8 +143,10 @@ class Races:
                 if self.random.randrange(2):
                     tasks.append(asyncio.create_task(locks.query()))
                     tasks[self.random.randrange(10)].cancel()
-                for _ in range(self.random.randrange(4)):
-                    await self.pause()
+                for _ in range(self.random.randrange(3)):
+                    # When a query is answered, so is what was requested before it.
+                    await locks.query()
+                await self.pause()
                 await locks.close()
                 _done, pending = await asyncio.wait(tasks, timeout=60)
                 self.assertEqual(set(), pending)
@@ -148,7 +156,7 @@ class Races:
         await self.race(once)
         await self.expect_nothing_left()
         self.assertLessEqual(set(ended), {"held", "Closed", "LockLost", "LockStolen"}, ended)
-        self.assertGreaterEqual(len(ended), 3, ended)
+        self.assertLessEqual({"held", "Closed", "LockLost"}, set(ended), ended)
 
 
 class RacesOverPolls(Races, ServedCase):

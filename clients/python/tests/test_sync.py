@@ -105,6 +105,8 @@ class SyncCase(unittest.TestCase):
         self.expect_nothing_left()
 
     def test_an_interrupt_while_the_lock_is_waited_for_leaves_nothing_behind(self):
+        # Whatever runs the tests may ignore it, as shells have it for what they start with &.
+        self.addCleanup(signal.signal, signal.SIGINT, signal.signal(signal.SIGINT, signal.default_int_handler))
         with self.connect() as locks, self.connect() as other, other.request("db"):
             interrupt = threading.Timer(0.5, os.kill, (os.getpid(), signal.SIGINT))
             interrupt.start()

@@ -63,6 +63,25 @@ def split_command(words: list[str]) -> tuple[list[str], list[str] | None]:
 
 def read_words(words: list[str], command: list[str] | None) -> argparse.Namespace:
     """Reads the words, or ends the program with status 2 and the reason on standard error."""
+    parser, jobs = make_parser()
+    given = parser.parse_args(words)
+    job = jobs[given.job]
+    if given.job != "with":
+        if command is not None:
+            parser.error(f"{given.job} runs no command")
+    elif not command:
+        job.error("name the command behind --")
+    elif given.shared and given.steal:
+        job.error("--steal and --shared exclude each other: only an exclusive lock can be stolen")
+    if given.origin is None:
+        job.error("name the origin by --origin or WEBLOCKS_ORIGIN, such as https://a.test")
+    given.command = command
+    given.token = read_token(job, given.token_file)
+    return given
+
+
+def make_parser() -> tuple[argparse.ArgumentParser, dict[str, argparse.ArgumentParser]]:
+    """The parser of the words, and that of each job."""
     parser = argparse.ArgumentParser(
         prog="python3 -m weblocks", description="Locks that programs of several machines share."
     )
@@ -78,24 +97,12 @@ def read_words(words: list[str], command: list[str] | None) -> argparse.Namespac
     holding.add_argument("--shared", action="store_true", help="a shared lock, beside which others may be shared")
     holding.add_argument("--wait", type=seconds, metavar="SECONDS", help="how long to wait (without: for ever)")
     holding.add_argument("--steal", action="store_true", help="take the lock from whoever holds it")
-    showing = jobs.add_parser("query", help="show what is held and pending")
+    jobs.add_parser("query", help="show what is held and pending")
     watching = jobs.add_parser("watch", help="show what is held and pending, as it changes")
     watching.add_argument("--every", type=seconds, default=1.0, metavar="SECONDS", help="how often to look (1)")
-    for job in (holding, showing, watching):
+    for job in jobs.choices.values():
         add_service(job)
-    given = parser.parse_args(words)
-    if given.job == "with":
-        if not command:
-            holding.error("name the command behind --")
-        if given.shared and given.steal:
-            holding.error("--steal and --shared exclude each other: only an exclusive lock can be stolen")
-        given.command = command
-    elif command is not None:
-        parser.error(f"{given.job} runs no command")
-    if given.origin is None:
-        jobs.choices[given.job].error("name the origin by --origin or WEBLOCKS_ORIGIN, such as https://a.test")
-    given.token = read_token(jobs.choices[given.job], given.token_file)
-    return given
+    return parser, dict(jobs.choices)
 
 
 def add_service(job: argparse.ArgumentParser) -> None:

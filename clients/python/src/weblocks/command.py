@@ -58,14 +58,15 @@ class Signals:
 
     @contextlib.contextmanager
     def taken(self) -> Iterator[None]:
-        """While the block runs."""
+        """While the block runs. Those that are ignored, as by `nohup`, stay so, here and in the command."""
         loop = asyncio.get_running_loop()
-        for number in PASSED_ON:
+        numbers = [number for number in PASSED_ON if signal.getsignal(number) is not signal.SIG_IGN]
+        for number in numbers:
             loop.add_signal_handler(number, self._take, number)
         try:
             yield
         finally:
-            for number in PASSED_ON:
+            for number in numbers:
                 loop.remove_signal_handler(number)
 
     def _take(self, number: int) -> None:
