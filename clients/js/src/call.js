@@ -1,7 +1,7 @@
 /** One call of `request`, as its page sees it: its promise, its callback and its signal. */
 
 import { abortReason, heedAbort, ignoreAbort } from "./aborts.js";
-import { makeLock } from "./lock.js";
+import { holderOf, makeLock } from "./lock.js";
 import { runAsTask } from "./tasks.js";
 
 /** What a call has come to. */
@@ -10,9 +10,6 @@ const GRANTED = "granted"; // its callback is about to be called
 const HELD = "held"; // its callback was called
 const RELEASING = "releasing"; // what that returned has settled
 const ENDED = "ended"; // its promise is settled, or follows what the callback returned
-
-/** Which call made a lock. */
-const callOfLock = new WeakMap();
 
 export class Call {
   #asked;
@@ -75,7 +72,7 @@ export class Call {
   /** The lock is held: calls the callback, in a task of its own. False where the call has ended before. */
   grant() {
     if (this.#state === ENDED) return false;
-    this.#callLater(makeLock(this.#asked.name, this.#asked.mode));
+    this.#callLater(makeLock(this.#asked.name, this.#asked.mode, this));
     return true;
   }
 
@@ -115,7 +112,6 @@ export class Call {
   #call(lock) {
     this.#ignoreSignal();
     this.#state = HELD;
-    if (lock !== null) callOfLock.set(lock, this);
     const result = new Promise((resolve) => {
       resolve(Reflect.apply(this.#asked.callback, undefined, [lock]));
     });
@@ -166,5 +162,5 @@ export class Call {
 
 /** The signal that says that a lock was stolen or lost, or undefined for what isn't a lock. */
 export function lostSignalOf(lock) {
-  return callOfLock.get(lock)?.lostSignal;
+  return holderOf(lock)?.lostSignal;
 }

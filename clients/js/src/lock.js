@@ -2,15 +2,24 @@
 
 const MAKING = Symbol("making");
 
+/**
+ * What holds a lock, or undefined for what isn't one.
+ *
+ * @type {(lock: unknown) => object | undefined}
+ */
+export let holderOf;
+
 export class Lock {
   #name;
   #mode;
+  #holder;
 
   /** Pages make no locks: they request them. */
-  constructor(key, name, mode) {
+  constructor(key, name, mode, holder) {
     if (key !== MAKING) throw new TypeError("Illegal constructor");
     this.#name = name;
     this.#mode = mode;
+    this.#holder = holder;
   }
 
   /** The name that was asked for. */
@@ -22,13 +31,21 @@ export class Lock {
   get mode() {
     return this.#mode;
   }
+
+  static {
+    holderOf = (lock) => (isObject(lock) && #holder in lock ? lock.#holder : undefined);
+  }
 }
 
 showAsPlatformObject(Lock, ["name", "mode"]);
 
-/** A lock that is held. */
-export function makeLock(name, mode) {
-  return new Lock(MAKING, name, mode);
+/** A lock that is held by what is given, a call. */
+export function makeLock(name, mode, holder) {
+  return new Lock(MAKING, name, mode, holder);
+}
+
+function isObject(value) {
+  return typeof value === "object" && value !== null;
 }
 
 /** Gives a class's members and objects the looks that Web IDL gives those of an interface. */
