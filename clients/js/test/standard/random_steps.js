@@ -3,8 +3,8 @@
  * the client's must be the same.
  *
  * After each step all that it led to is awaited, and noted request by request, since agents are told side by side: so
- * nothing is by chance in what is compared. One step is left out, as Chromium does otherwise than the standard says: the
- * abort of an exclusive request that waits for shared locks (`deviations.js`).
+ * nothing is by chance in what is compared. One step is left out, as Chromium does otherwise than the standard says:
+ * the abort of an exclusive request that waits for shared locks (`deviations.js`).
  */
 
 import { deferred, settled } from "./holding.js";
