@@ -1,13 +1,12 @@
 /** Random steps, of which the same comes on Chromium's own locks, on the package and on the polyfill's. */
 
 import assert from "node:assert/strict";
-import { after, before, test } from "node:test";
+import { test } from "node:test";
 
 import { connect } from "../weblocks.js";
-import { Chromium } from "./browser/chromium.js";
 import { callInPage } from "./browser/comparing.js";
-import { serveFiles } from "./browser/files.js";
 import { FAST } from "./browser/settings.js";
+import { useChromium } from "./browser/using.js";
 import { connectionEnvironment } from "./standard/connections.js";
 import { logOfSteps } from "./standard/random_steps.js";
 import { startPolled, startPushing } from "./support/servers.js";
@@ -17,17 +16,7 @@ import { WebSocket } from "./support/sockets.js";
 const SEEDS = [7919, 104_729, 1_299_709, 15_485_863, 2_038_074_743];
 const STEPS = 50;
 
-let files;
-let chromium;
-
-before(async () => {
-  files = await serveFiles();
-  chromium = await Chromium.start();
-});
-
-after(async () => {
-  await Promise.all([files, chromium].map((it) => it?.end()));
-});
+const used = useChromium();
 
 async function logInNode(options, seed) {
   const environment = connectionEnvironment(connect, { WebSocket, ...options });
@@ -41,7 +30,8 @@ async function logInNode(options, seed) {
 for (const seed of SEEDS) {
   test(`of ${STEPS} random steps the same comes everywhere, by the seed ${seed}`, async (it) => {
     const [polled, pushing] = [await startPolled(it), await startPushing(it)];
-    const logInPage = (name, options) => callInPage(chromium, files.url, "logOfStepsOn", name, options, seed, STEPS);
+    const logInPage = (name, options) =>
+      callInPage(used.chromium, used.files.url, "logOfStepsOn", name, options, seed, STEPS);
     const wanted = await logInPage("browser", null);
     assert.deepEqual(await logInNode({ url: polled.url, ...FAST }, seed), wanted, "in Node, polled");
     assert.deepEqual(await logInNode({ url: pushing.url }, seed), wanted, "in Node, pushed");

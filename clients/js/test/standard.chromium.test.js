@@ -1,45 +1,34 @@
 /** The standard's cases in Chromium: on its own locks, on the package as it stands, and on the polyfill's. */
 
-import { after, before, test } from "node:test";
+import { test } from "node:test";
 
-import { Chromium } from "./browser/chromium.js";
 import { byName, callInPage, resultsInPage, testEach, testEachBut } from "./browser/comparing.js";
-import { serveFiles } from "./browser/files.js";
 import { FAST } from "./browser/settings.js";
+import { useChromium } from "./browser/using.js";
 import { CHROMIUM_VERSION, chromiumDeviations } from "./standard/deviations.js";
 import { startPolled, startPushing } from "./support/servers.js";
 
 /** What a case may take on the browser's own locks: two deviations are such that it never ends. */
 const BROWSER_MILLISECONDS = 5000;
 
-let files;
-let chromium;
-
-before(async () => {
-  files = await serveFiles();
-  chromium = await Chromium.start();
-});
-
-after(async () => {
-  await Promise.all([files, chromium].map((it) => it?.end()));
-});
+const used = useChromium();
 
 test("the standard's cases in Chromium, on its own navigator.locks", async (it) => {
-  const version = await chromium.version();
+  const version = await used.chromium.version();
   it.diagnostic(version);
-  const results = await resultsInPage(chromium, files.url, "browser", null, BROWSER_MILLISECONDS);
+  const results = await resultsInPage(used.chromium, used.files.url, "browser", null, BROWSER_MILLISECONDS);
   await testEachBut(it, results, chromiumDeviations, version.includes(`/${CHROMIUM_VERSION}.`));
 });
 
 for (const name of ["package", "polyfill"]) {
   test(`the standard's cases in Chromium, on the ${name}, over a server that is polled`, async (it) => {
     const { url } = await startPolled(it);
-    await testEach(it, await resultsInPage(chromium, files.url, name, { url, ...FAST }));
+    await testEach(it, await resultsInPage(used.chromium, used.files.url, name, { url, ...FAST }));
   });
 
   test(`the standard's cases in Chromium, on the ${name}, over a server that pushes`, async (it) => {
     const { url } = await startPushing(it);
-    await testEach(it, await resultsInPage(chromium, files.url, name, { url }));
+    await testEach(it, await resultsInPage(used.chromium, used.files.url, name, { url }));
   });
 }
 
@@ -47,5 +36,5 @@ test("the standard's cases in a worker of Chromium, on the package, over a serve
   const { url } = await startPushing(it);
   // (only a window can be made inactive, as two cases have it)
   const options = { url, kind: "window" };
-  await testEach(it, byName(await callInPage(chromium, files.url, "runCasesInWorker", options)));
+  await testEach(it, byName(await callInPage(used.chromium, used.files.url, "runCasesInWorker", options)));
 });

@@ -9,23 +9,15 @@ import sys
 import tempfile
 import termios
 import time
-import unittest
 from pathlib import Path
 
 import weblocks.sync
-from support import PACKAGE, SECONDS, Server, StandIn, new_origin
+from support import PACKAGE, SECONDS, BothServersCase, new_origin
 
 ENVIRONMENT = {name: value for name, value in os.environ.items() if not name.startswith("WEBLOCKS_")}
 
 
-class CommandLineCase(unittest.TestCase):
-    @classmethod
-    def setUpClass(cls):
-        cls.server = Server()
-        cls.addClassCleanup(cls.server.kill)
-        cls.stand_in = StandIn(cls.server.url)
-        cls.addClassCleanup(cls.stand_in.end)
-
+class CommandLineCase(BothServersCase):
     def setUp(self):
         self.origin = new_origin()
         self.folder = Path(self.enterContext(tempfile.TemporaryDirectory()))

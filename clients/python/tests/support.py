@@ -222,6 +222,20 @@ def proxied(port: int) -> Iterator[Proxy]:
         proxy.end()
 
 
+class BothServersCase(unittest.TestCase):
+    """Tests that have a server that is polled, and a stand-in before it that pushes."""
+
+    server: Server
+    stand_in: StandIn
+
+    @classmethod
+    def setUpClass(cls) -> None:
+        cls.server = Server()
+        cls.addClassCleanup(cls.server.kill)
+        cls.stand_in = StandIn(cls.server.url)
+        cls.addClassCleanup(cls.stand_in.end)
+
+
 class ServedCase(unittest.IsolatedAsyncioTestCase):
     """Tests that have a server for all of them, and an origin for each; what is logged is only asserted."""
 

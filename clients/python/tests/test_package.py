@@ -10,7 +10,7 @@ import unittest
 from datetime import UTC, datetime
 from pathlib import Path
 
-from support import PACKAGE, PROGRAM, SECONDS, TOP, Server, StandIn
+from support import PACKAGE, PROGRAM, SECONDS, TOP, BothServersCase, Server
 
 README = PACKAGE / "README.md"
 OFFLINE = {"PIP_NO_INDEX": "1", "PIP_DISABLE_PIP_VERSION_CHECK": "1", "PIP_NO_INPUT": "1"}
@@ -139,14 +139,7 @@ class Types(unittest.TestCase):
         self.assertIn("Found 1 error", ended.stdout)
 
 
-class Examples(unittest.TestCase):
-    @classmethod
-    def setUpClass(cls):
-        cls.server = Server()
-        cls.addClassCleanup(cls.server.kill)
-        cls.stand_in = StandIn(cls.server.url)
-        cls.addClassCleanup(cls.stand_in.end)
-
+class Examples(BothServersCase):
     def test_a_cron_job_on_two_machines_runs_once(self):
         folder = Path(self.enterContext(tempfile.TemporaryDirectory()))
         job = folder / "job"

@@ -9,17 +9,10 @@ from concurrent.futures import ThreadPoolExecutor
 
 import weblocks
 import weblocks.sync
-from support import SECONDS, Server, StandIn, new_origin, proxied
+from support import SECONDS, BothServersCase, new_origin, proxied
 
 
-class SyncCase(unittest.TestCase):
-    @classmethod
-    def setUpClass(cls):
-        cls.server = Server()
-        cls.addClassCleanup(cls.server.kill)
-        cls.stand_in = StandIn(cls.server.url)
-        cls.addClassCleanup(cls.stand_in.end)
-
+class SyncCase(BothServersCase):
     def setUp(self):
         self.origin = new_origin()
 
