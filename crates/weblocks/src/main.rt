@@ -65,18 +65,18 @@ fn texts_of(alloc: Global, words: &[String]) -> Result<Vec<&str>, AllocError> {
 }
 
 /// Answers the script on standard input.
-fn run<R: io::Input + Print + Eprint + AllocGlobal>(rt: &R) -> ExitCode {
+fn run<R: io::Input + Print + Eprint + AllocGlobal + RandomSource>(rt: &R) -> ExitCode {
     let mut reader = Reader::new(rt.reader());
     let mut writer = Writer::new(io::writer(rt));
-    let ended = wl_script::run(rt.alloc(), &mut reader, &mut writer);
+    let ended = wl_script::run(rt, &mut reader, &mut writer);
     end(rt, writer, ended)
 }
 
 /// Audits the script on standard input.
-fn audit<R: io::Input + Print + Eprint + AllocGlobal>(rt: &R) -> ExitCode {
+fn audit<R: io::Input + Print + Eprint + AllocGlobal + RandomSource>(rt: &R) -> ExitCode {
     let mut reader = Reader::new(rt.reader());
     let mut writer = Writer::new(io::writer(rt));
-    let ended = wl_script::audit(rt.alloc(), &mut reader, &mut writer);
+    let ended = wl_script::audit(rt, &mut reader, &mut writer);
     end(rt, writer, ended)
 }
 

@@ -72,6 +72,7 @@ where
         + Wait
         + Sync
         + Print
+        + RandomSource
         + AllocGlobal,
 {
     let Ok(listener) = TcpListener::bind(rt, (Ipv4Addr::LOCALHOST, port)) else {

@@ -13,7 +13,10 @@ use wl_types::{Kind, Memory};
 #[test]
 fn a_book_does_the_lists(rt: HostRuntime) -> Result<(), Fail> {
     for list in LISTS {
-        assert_eq!(rt; came::<Book<PlainCore>>(rt.alloc(), list)?.as_str(), list);
+        assert_eq!(rt;
+            came::<Book<PlainCore>>(rt.alloc(), (), list)?.as_str(),
+            list
+        );
     }
     Ok(())
 }
@@ -43,7 +46,7 @@ fn word(entry: &Entry) -> &'static str {
 /// are `count` (how many entries it has, and how many it has had), `entries`, `cut` (the entries that it hands out),
 /// `audit` (of the entries, from the base), `base` (whether that is the state) and `sight` (of the first agent).
 fn done_by_book(alloc: Global, list: &str) -> Result<String, Memory> {
-    let mut book: Book<PlainCore> = opening(alloc);
+    let mut book: Book<PlainCore> = opening(alloc, ());
     let mut came = String::new(alloc);
     for line in list.lines() {
         let (call, _) = line.split_once(" -> ").unwrap_or((line, ""));
@@ -129,7 +132,7 @@ fn a_book_records_what_was_accepted(rt: HostRuntime) -> Result<(), Fail> {
 }
 
 fn one_lock(alloc: Global) -> Result<Vec<Entry>, Memory> {
-    let mut book: Book<PlainCore> = opening(alloc);
+    let mut book: Book<PlainCore> = opening(alloc, ());
     done(
         alloc,
         &mut book,
@@ -150,7 +153,7 @@ fn spoil(entries: &mut [Entry], places: &[usize]) {
 fn audit_spoilt(alloc: Global, places: &[usize]) -> Result<Result<(), AuditFault>, Memory> {
     let mut entries = one_lock(alloc)?;
     spoil(&mut entries, places);
-    Ok(audit(&opening::<PlainCore>(alloc), &entries))
+    Ok(audit(&opening::<PlainCore>(alloc, ()), &entries))
 }
 
 /// Places of entries whose replies are wrong, and what an audit says: it tells the first.

@@ -13,33 +13,32 @@ use Rattle.std.proofs.lemmas.List.Elements.{recursion_from_All}
 use Rattle.wl_machine.specs.declared.rows.HeldRow.{HeldRow}
 use Rattle.wl_machine.specs.Least.{IsLeast, above}
 use Rattle.wl_machine.specs.Standing.{is_in}
-use Rattle.wl_machine.specs.Step.{is_abortable}
 use Rattle.wl_machine.proofs.Covers.{rising_filter}
 use Rattle.wl_machine.proofs.Least.{least_alike, least_found, in_filter}
 use Rattle.wl_machine.proofs.Lists.{filters_commute, any_map}
-use Rattle.wl_index.specs.declared.ending.Owner.TheVariants.{Signal}
-use Rattle.wl_index.specs.declared.ending.Standing.TheVariants.{Holds}
-use Rattle.wl_index.specs.declared.order.Place.{Place}
-use Rattle.wl_index.specs.declared.table.Request.{Request}
+use Rattle.wl_index.specs.declared.request.Owner.{Owner}
+use Rattle.wl_index.specs.declared.request.Standing.TheVariants.{Holds}
+use Rattle.wl_index.specs.declared.request.Place.{Place}
+use Rattle.wl_index.specs.declared.request.Request.{Request}
 use Rattle.wl_index.specs.Stamps.{by_stamp}
 use Rattle.wl_index.specs.Rows.{Entry, holding, stamp_of, lock_row, held_of}
 use Rattle.wl_index.specs.Order.{place_of}
-use Rattle.wl_index.specs.Ends.{IsOwners, ends_entry, place_if, numbers_of}
+use Rattle.wl_index.specs.Ends.{IsOwners, ends_entry, ends_lock, place_if, numbers_of}
 use Rattle.wl_index.specs.Untaken.{finds_untaken}
 use Rattle.wl_index.proofs.Lists.{any_by_stamp, filter_whole}
 use Rattle.wl_index.proofs.Rows.{held_filter}
 use Rattle.wl_index.proofs.Picks.{pick, picked, all_picked}
 use Rattle.wl_index.proofs.Owned.{both_filters}
 
-module _ (agent signal : ℕ) (es : List Entry) where
+module _ (owner : Owner) (es : List Entry) where
   abbrev ends : Entry → Bool
-  ends = ends_entry (Signal agent signal) Holds
+  ends = ends_entry owner Holds
 
   abbrev finds : ℕ → Bool
-  finds = finds_untaken agent signal es
+  finds = finds_untaken owner es
 
   abbrev pub untaken : List ℕ
-  untaken = map (λ (lock : HeldRow). lock.number) (filter (is_abortable agent signal) (held_of es))
+  untaken = map (λ (lock : HeldRow). lock.number) (filter (ends_lock owner) (held_of es))
 
   -- ---- the numbers of a list that find such a lock
 
@@ -62,16 +61,16 @@ module _ (agent signal : ℕ) (es : List Entry) where
       by false rest = rest
 
   -- where the list has all of the signal's, they are the numbers of its untaken locks
-  same_numbers : (ns : List ℕ) → IsStrictlySortedBy nat_cmp (keys_of es) → IsStrictlySortedBy nat_cmp ns → IsOwners (Signal agent signal) es ns → (n : ℕ) → is_in n untaken ≡ is_in n (filter finds ns)
+  same_numbers : (ns : List ℕ) → IsStrictlySortedBy nat_cmp (keys_of es) → IsStrictlySortedBy nat_cmp ns → IsOwners owner es ns → (n : ℕ) → is_in n untaken ≡ is_in n (filter finds ns)
   same_numbers ns sorted rising all n =
-      let q : Entry → Bool = λ e. is_abortable agent signal (lock_row e) in
-      ap (λ locks. is_in n (map (λ (lock : HeldRow). lock.number) locks)) (sym (held_filter (is_abortable agent signal) es))
+      let q : Entry → Bool = λ e. ends_lock owner (lock_row e) in
+      ap (λ locks. is_in n (map (λ (lock : HeldRow). lock.number) locks)) (sym (held_filter (ends_lock owner) es))
       ∙ any_map (λ m. m == n) (λ (lock : HeldRow). lock.number) (held_of (filter q es))
       ∙ any_map (λ (lock : HeldRow). lock.number == n) lock_row (by_stamp stamp_of (filter holding (filter q es)))
       ∙ any_by_stamp stamp_of (λ (e : Entry). e.0 == n) (filter holding (filter q es))
       ∙ ap (list_any (λ (e : Entry). e.0 == n)) (filters_commute holding q es ∙ sym (both_filters holding q es))
       ∙ sym (any_map (λ m. m == n) (λ (p : Place). p.number) (map place_of (filter ends es)) ∙ any_map (λ (p : Place). p.number == n) place_of (filter ends es))
-      ∙ ap (is_in n) (ap numbers_of (sym (all_picked (Signal agent signal) Holds es sorted ns rising all)) ∙ numbers_picked ns)
+      ∙ ap (is_in n) (ap numbers_of (sym (all_picked owner Holds es sorted ns rising all)) ∙ numbers_picked ns)
 
 -- what stands behind the place that halving finds is above
 drop_above : (after : ℕ) (ns : List ℕ) (i : ℕ) → IsPartitionPoint (λ n. leb n after ≡ true) (λ n. leb n after ≡ false) ns i → drop i ns ≡ above after ns
@@ -83,12 +82,12 @@ drop_above after (n ∷ ns) (suc i) point =
     rw low (drop_above after ns i ((λ k d from to. point.0 (suc k) d (omega arith) (omega arith)), (λ k d from to. point.1 (suc k) d (omega arith) (omega arith))))
 
 -- the first that finds one there is the least
-pub least_behind : (agent signal after : ℕ) (es : List Entry) (ns : List ℕ) (i : ℕ) → IsStrictlySortedBy nat_cmp (keys_of es) → IsStrictlySortedBy nat_cmp ns → IsOwners (Signal agent signal) es ns
-    → IsPartitionPoint (λ n. leb n after ≡ true) (λ n. leb n after ≡ false) ns i → IsLeast (above after (untaken agent signal es)) (find (finds_untaken agent signal es) (drop i ns))
-least_behind agent signal after es ns i sorted rising all point =
-    let found = finds_untaken agent signal es in
+pub least_behind : (owner : Owner) (after : ℕ) (es : List Entry) (ns : List ℕ) (i : ℕ) → IsStrictlySortedBy nat_cmp (keys_of es) → IsStrictlySortedBy nat_cmp ns → IsOwners owner es ns
+    → IsPartitionPoint (λ n. leb n after ≡ true) (λ n. leb n after ≡ false) ns i → IsLeast (above after (untaken owner es)) (find (finds_untaken owner es) (drop i ns))
+least_behind owner after es ns i sorted rising all point =
+    let found = finds_untaken owner es in
     let least = least_found found (above after ns) (rising_filter (nat_lt after) ns rising) in
-    subst (λ l. IsLeast (above after (untaken agent signal es)) (find found l)) (sym (drop_above after ns i point))
-    (least_alike (filter found (above after ns)) (above after (untaken agent signal es)) (find found (above after ns))
-    (λ n. in_filter (nat_lt after) (untaken agent signal es) n ∙ ap (λ b. b && nat_lt after n) (same_numbers agent signal es ns sorted rising all n) ∙ sym (in_filter (nat_lt after) (filter found ns) n) ∙ ap (is_in n) (filters_commute (nat_lt after) found ns))
+    subst (λ l. IsLeast (above after (untaken owner es)) (find found l)) (sym (drop_above after ns i point))
+    (least_alike (filter found (above after ns)) (above after (untaken owner es)) (find found (above after ns))
+    (λ n. in_filter (nat_lt after) (untaken owner es) n ∙ ap (λ b. b && nat_lt after n) (same_numbers owner es ns sorted rising all n) ∙ sym (in_filter (nat_lt after) (filter found ns) n) ∙ ap (is_in n) (filters_commute (nat_lt after) found ns))
     least)

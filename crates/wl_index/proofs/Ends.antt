@@ -1,31 +1,31 @@
--- A request or a lock ends: what its line, and the names, then say.
-use Rattle.std.proofs.Common.{◌≡◌, ℕ, suc, ◌+◌, ◌==◌, Bool, true, false, cond, List, [], ◌∷◌, ◌++◌, length, map, refl, ap, subst, sym, ◌∙◌, arith}
-use Rattle.std.specs.Prelude.{not, ◌&&◌, ◌||◌, filter, Option, Some}
+-- A request or a lock ends, or takes its name: what its queue, and the names, then say.
+use Rattle.std.proofs.Common.{◌≡◌, ℕ, suc, ◌+◌, ◌==◌, Bool, true, false, cond, List, [], ◌∷◌, ◌++◌, length, map, refl, ap, subst, sym, ◌∙◌, append-nil, arith}
+use Rattle.std.specs.Prelude.{not, filter, Option, Some, None}
+use Rattle.std.specs.Option.{IsSome}
 use Rattle.std.specs.Str.{bytes_eq}
 use Rattle.std.specs.List.{list_any, AllByRecursion}
-use Rattle.std.specs.Map.{set_value}
+use Rattle.std.specs.List.Sorted.{IsStrictlySortedBy}
+use Rattle.std.specs.Map.{keys_of, lookup}
 use Rattle.std.specs.BTreeMap.{is_at}
 use Rattle.std.specs.Ordering.{nat_cmp}
-use Rattle.std.specs.Option.{IsSome}
-use Rattle.std.specs.Cmp.Lexicographic.{same_text}
-use Rattle.std.proofs.lemmas.List.Folds.{list_any-append}
-use Rattle.std.proofs.lemmas.List.{map-append, length-append}
+use Rattle.std.proofs.lemmas.List.{length-append}
 use Rattle.std.proofs.lemmas.List.Elements.{filter-append}
+use Rattle.wl_types.specs.declared.words.Mode.TheVariants.{Exclusive}
 use Rattle.wl_machine.specs.declared.rows.HeldRow.{HeldRow}
 use Rattle.wl_machine.specs.declared.rows.PendingRow.{PendingRow}
-use Rattle.wl_machine.specs.Grants.{any_exclusive, in_use, locks, queue}
-use Rattle.wl_machine.proofs.Alone.{alone_filter}
-use Rattle.wl_machine.proofs.Lists.{or_false, other_bytes, same_bytes, filters_commute, filter_map}
-use Rattle.wl_index.specs.declared.table.Request.{Request}
+use Rattle.wl_machine.specs.Grants.{granted_lock, locks, queue}
+use Rattle.wl_machine.proofs.Lists.{same_bytes, filters_commute, filter_map}
+use Rattle.wl_numbered.proofs.Keyed.{Found, found, number_same}
+use Rattle.wl_index.specs.declared.request.Request.{Request}
 use Rattle.wl_index.specs.Stamps.{by_stamp, by_stamp_all}
 use Rattle.wl_index.specs.Rows.{Entry, other, waiting, holding, stamp_of, request_row, lock_row, held_of, pending_of}
-use Rattle.wl_index.specs.Lines.{Waiting, Matches, without, other_than, number_and_mode, lock_and_mode}
-use Rattle.wl_index.specs.Names.{Placed, names_of, among, has_place, is_touched, IsNames, Ready}
-use Rattle.wl_index.proofs.Lists.{filter_whole, all_weaker, all_append, all_front, all_back, all_filter, all_map}
-use Rattle.wl_numbered.proofs.Keyed.{Found, number_same}
-use Rattle.wl_index.proofs.Rows.{pending_filter, held_filter, live_count}
-use Rattle.wl_index.proofs.Placed.{At, at_place, of_line, name_found, written_names, written_is}
-use Rattle.wl_index.proofs.Used.{in_use_same}
+use Rattle.wl_index.specs.Queue.{Waiting, Matches, without, other_than, number_and_mode, lock_and_mode, seized}
+use Rattle.wl_index.specs.Queues.{Placed, place_of, updated}
+use Rattle.wl_index.specs.Locks.{Stands, WaitsAlone}
+use Rattle.wl_index.proofs.Lists.{filter_whole, all_weaker, all_append, all_filter, all_map}
+use Rattle.wl_index.proofs.Rows.{is_request, pending_filter, held_filter, pending_there, live_count}
+use Rattle.wl_index.proofs.Grants.{pending_one}
+use Rattle.wl_index.proofs.Standing.{one_touched}
 
 abbrev pub other_lock : ℕ → HeldRow → Bool
 other_lock number lock = not (lock.number == number)
@@ -68,134 +68,12 @@ locks_apart number r es m f differs = stays_of (λ (lock : HeldRow). lock.number
 pub queue_apart : (number : ℕ) (r : Request) (es : List Entry) (m : List ℕ) → Found number es r → bytes_eq r.name m ≡ false → queue m (filter (other_request number) (pending_of es)) ≡ queue m (pending_of es)
 queue_apart number r es m f differs = stays_of (λ (request : PendingRow). request.number) (λ request. request.name) number r.name m (pending_of es) differs (pending_one_name number r es f)
 
--- ---- lines
-
--- a line without a number says what the lists say without it
+-- a queue without a number says what the lists say without it
 pub without_matches : (w : Waiting) (number : ℕ) (held : List HeldRow) (pending : List PendingRow) → Matches w held pending → Matches (without number w) (filter (other_lock number) held) (filter (other_request number) pending)
 without_matches w number held pending matches = record {
   waits = ap (filter (other_than number)) matches.waits ∙ filter_map (other_than number) number_and_mode (queue w.name pending) ∙ ap (map number_and_mode) (filters_commute (other_request number) (λ (x : PendingRow). bytes_eq x.name w.name) pending);
   holders = ap (filter (other_than number)) matches.holders ∙ filter_map (other_than number) lock_and_mode (locks w.name held) ∙ ap (map lock_and_mode) (filters_commute (other_lock number) (λ (x : HeldRow). bytes_eq x.name w.name) held);
 }
-
-same_matches : (w : Waiting) (held held' : List HeldRow) (pending pending' : List PendingRow) → locks w.name held' ≡ locks w.name held → queue w.name pending' ≡ queue w.name pending → Matches w held pending → Matches w held' pending'
-same_matches w held held' pending pending' l q matches = record { waits = matches.waits ∙ ap (map number_and_mode) (sym q); holders = matches.holders ∙ ap (map lock_and_mode) (sym l) }
-
-others_matched : (name : List ℕ) (lines : List Placed) (held held' : List HeldRow) (pending pending' : List PendingRow)
-    → ((m : List ℕ) → bytes_eq name m ≡ false → (locks m held' ≡ locks m held) × (queue m pending' ≡ queue m pending))
-    → AllByRecursion (λ (e : Placed). bytes_eq e.1.name name ≡ false) lines → AllByRecursion (λ (e : Placed). Matches e.1 held pending) lines → AllByRecursion (λ (e : Placed). Matches e.1 held' pending') lines
-others_matched name [] held held' pending pending' same differ all = tt
-others_matched name (e ∷ lines) held held' pending pending' same differ all =
-    let s = same e.1.name (other_bytes name e.1.name differ.0) in
-    (same_matches e.1 held held' pending pending' s.0 s.1 all.0, others_matched name lines held held' pending pending' same differ.1 all.1)
-
--- ---- touched places
-
-has_more : (touched : List ℕ) (place p : ℕ) → has_place (touched ++ place ∷ []) p ≡ (has_place touched p || (place == p))
-has_more touched place p = list_any-append (λ q. q == p) touched (place ∷ []) ∙ ap (λ b. has_place touched p || b) (or_nothing (place == p))
-  where
-    or_nothing : (b : Bool) → (b || false) ≡ b
-    or_nothing true = refl
-    or_nothing false = refl
-
--- what is untouched with one place more was untouched, and is not the name there
-pub untouched_less : (touched : List ℕ) (place : ℕ) (m : List ℕ) (lines : List Placed) → is_touched (touched ++ place ∷ []) lines m ≡ false → is_touched touched lines m ≡ false
-untouched_less touched place m [] out = refl
-untouched_less touched place m (e ∷ lines) out = by (bytes_eq e.1.name m) refl (untouched_less touched place m lines)
-  where
-    by : (b : Bool) → bytes_eq e.1.name m ≡ b → (is_touched (touched ++ place ∷ []) lines m ≡ false → is_touched touched lines m ≡ false) → ((bytes_eq e.1.name m && has_place touched e.0) || is_touched touched lines m) ≡ false
-    by true h rest =
-        let parts = or_false (has_place (touched ++ place ∷ []) e.0) (is_touched (touched ++ place ∷ []) lines m) (sym (ap (λ b. (b && has_place (touched ++ place ∷ []) e.0) || is_touched (touched ++ place ∷ []) lines m) h) ∙ out) in
-        let before = or_false (has_place touched e.0) (place == e.0) (sym (has_more touched place e.0) ∙ parts.0) in
-        rw (h, before.0) (rest parts.1)
-    by false h rest = rw h (rest (sym (ap (λ b. (b && has_place (touched ++ place ∷ []) e.0) || is_touched (touched ++ place ∷ []) lines m) h) ∙ out))
-
-untouched_other : (touched : List ℕ) (place : ℕ) (w : Waiting) (m : List ℕ) (front back : List Placed) → is_touched (touched ++ place ∷ []) (front ++ (place, w) ∷ back) m ≡ false → bytes_eq w.name m ≡ false
-untouched_other touched place w m front back out =
-    let parts = or_false (is_touched (touched ++ place ∷ []) front m) (is_touched (touched ++ place ∷ []) ((place, w) ∷ back) m) (sym (list_any-append (λ (e : Placed). bytes_eq e.1.name m && has_place (touched ++ place ∷ []) e.0) front ((place, w) ∷ back)) ∙ out) in
-    let here = or_false (bytes_eq w.name m && has_place (touched ++ place ∷ []) place) (is_touched (touched ++ place ∷ []) back m) parts.1 in
-    by (bytes_eq w.name m) refl (has_more touched place place ∙ rw (number_same place) (or_true (has_place touched place))) here.0
-  where
-    or_true : (b : Bool) → (b || true) ≡ true
-    or_true true = refl
-    or_true false = refl
-
-    by : (b : Bool) → bytes_eq w.name m ≡ b → has_place (touched ++ place ∷ []) place ≡ true → (bytes_eq w.name m && has_place (touched ++ place ∷ []) place) ≡ false → bytes_eq w.name m ≡ false
-    by true h there none = absurd (let no : true ≡ false = sym there ∙ sym (ap (λ b. b && has_place (touched ++ place ∷ []) place) h) ∙ none in cc)
-    by false h there none = h
-
--- ---- what is left to say of the names, where one name's lists changed and its place is touched
-
--- lists that differ in one name alone
-pub record Differ (name : List ℕ) (held held' : List HeldRow) (pending pending' : List PendingRow) : Type 0 where
-  pub same : (m : List ℕ) → bytes_eq name m ≡ false → (locks m held' ≡ locks m held) × (queue m pending' ≡ queue m pending)
-  pub alone : any_exclusive (locks name held') ≡ true → length (locks name held') ≡ 1
-
-used_more : (name : List ℕ) (place : ℕ) (touched : List ℕ) (held held' : List HeldRow) (pending pending' : List PendingRow) (lines : List Placed) → Differ name held held' pending pending'
-    → AllByRecursion (λ (e : Placed). bytes_eq e.1.name name ≡ false) lines → AllByRecursion (λ (e : Placed). has_place touched e.0 ≡ false → in_use held pending e.1.name ≡ true) lines
-    → AllByRecursion (λ (e : Placed). has_place (touched ++ place ∷ []) e.0 ≡ false → in_use held' pending' e.1.name ≡ true) lines
-used_more name place touched held held' pending pending' [] d differ all = tt
-used_more name place touched held held' pending pending' (e ∷ lines) d differ all =
-    let s = d.same e.1.name (other_bytes name e.1.name differ.0) in
-    ((λ out. in_use_same e.1.name held' held pending' pending s.0 s.1 ∙ all.0 (or_false (has_place touched e.0) (place == e.0) (sym (has_more touched place e.0) ∙ out)).0), used_more name place touched held held' pending pending' lines d differ.1 all.1)
-
-pub one_touched : (name : List ℕ) (place : ℕ) (touched : List ℕ) (lines : List Placed) (line : Waiting) (held held' : List HeldRow) (pending pending' : List PendingRow) → (a : At name place lines) → Differ name held held' pending pending' → Ready lines held pending touched
-    → line.name ≡ a.line.name → Matches line held' pending' → Ready (set_value (is_at (nat_cmp place)) lines line) held' pending' (touched ++ place ∷ [])
-one_touched name place touched lines line held held' pending pending' a d ready named matches =
-    let M : Placed → Type 0 = λ e. Matches e.1 held pending in
-    let U : Placed → Type 0 = λ e. has_place touched e.0 ≡ false → in_use held pending e.1.name ≡ true in
-    let all = subst (AllByRecursion M) a.split.whole ready.matched in
-    let uses_all = subst (AllByRecursion U) a.split.whole ready.used in
-    let own : line.name ≡ name = named ∙ a.named in
-    record {
-      matched = rw (a.split.set line) (all_append (λ (e : Placed). Matches e.1 held' pending') a.split.front ((place, line) ∷ a.split.back)
-          (others_matched name a.split.front held held' pending pending' d.same a.front_differs (all_front M a.split.front ((place, a.line) ∷ a.split.back) all))
-          (matches, others_matched name a.split.back held held' pending pending' d.same a.back_differs (all_back M a.split.front ((place, a.line) ∷ a.split.back) all).1));
-      still = λ m out.
-          let seen = subst (λ l. is_touched (touched ++ place ∷ []) l m ≡ false) (a.split.set line) out in
-          let differs : bytes_eq name m ≡ false = ap (λ n. bytes_eq n m) (sym own) ∙ untouched_other touched place line m a.split.front a.split.back seen in
-          let s = d.same m differs in
-          rw (s.0, s.1) (ready.still m (as_before m differs (untouched_less touched place m (set_value (is_at (nat_cmp place)) lines line) out)));
-      alone = λ m. by_name m (bytes_eq name m) refl;
-      known = λ m out.
-          let among_before : among m (names_of lines) ≡ false = ap (among m) (sym (written_names name place lines line a named)) ∙ out in
-          let differs : bytes_eq name m ≡ false = not_there m (bytes_eq name m) refl among_before in
-          let s = d.same m differs in
-          let k = ready.known m among_before in
-          (s.0 ∙ k.0, s.1 ∙ k.1);
-      used = rw (a.split.set line) (all_append (λ (e : Placed). has_place (touched ++ place ∷ []) e.0 ≡ false → in_use held' pending' e.1.name ≡ true) a.split.front ((place, line) ∷ a.split.back)
-          (used_more name place touched held held' pending pending' a.split.front d a.front_differs (all_front U a.split.front ((place, a.line) ∷ a.split.back) uses_all))
-          ((λ out. absurd (let there = has_here in cc (there, out))), used_more name place touched held held' pending pending' a.split.back d a.back_differs (all_back U a.split.front ((place, a.line) ∷ a.split.back) uses_all).1));
-    }
-  where
-    or_true : (b : Bool) → (b || true) ≡ true
-    or_true true = refl
-    or_true false = refl
-
-    has_here : has_place (touched ++ place ∷ []) place ≡ true
-    has_here = has_more touched place place ∙ rw (number_same place) (or_true (has_place touched place))
-
-    by_name : (m : List ℕ) (b : Bool) → bytes_eq name m ≡ b → any_exclusive (locks m held') ≡ true → length (locks m held') ≡ 1
-    by_name m true is = let same : name ≡ m = same_text name m (sym is) in subst (λ n. any_exclusive (locks n held') ≡ true → length (locks n held') ≡ 1) same d.alone
-    by_name m false is = let s = d.same m is in rw s.0 (ready.alone m)
-
-    not_there : (m : List ℕ) (b : Bool) → bytes_eq name m ≡ b → among m (names_of lines) ≡ false → bytes_eq name m ≡ false
-    not_there m false is out = is
-    not_there m true is out = absurd (
-        let same : name ≡ m = same_text name m (sym is) in
-        let there : among name (names_of lines) ≡ true = ap (λ l. among name (names_of l)) a.split.whole ∙ ap (among name) (map-append (λ (e : Placed). e.1.name) a.split.front ((place, a.line) ∷ a.split.back)) ∙ list_any-append (λ n. bytes_eq n name) (names_of a.split.front) (a.line.name ∷ names_of a.split.back) ∙ rw (ap (λ n. bytes_eq n name) a.named ∙ same_bytes name) (or_true (among name (names_of a.split.front))) in
-        let no : among name (names_of lines) ≡ false = subst (λ n. among n (names_of lines) ≡ false) (sym same) out in
-        cc (there, no))
-
-    as_before : (m : List ℕ) → bytes_eq name m ≡ false → is_touched touched (set_value (is_at (nat_cmp place)) lines line) m ≡ false → is_touched touched lines m ≡ false
-    as_before m differs out =
-        let T : Placed → Bool = λ e. bytes_eq e.1.name m && has_place touched e.0 in
-        let one : bytes_eq line.name m ≡ false = ap (λ n. bytes_eq n m) (named ∙ a.named) ∙ differs in
-        let two : bytes_eq a.line.name m ≡ false = ap (λ n. bytes_eq n m) a.named ∙ differs in
-        let old : is_touched touched lines m ≡ (list_any T a.split.front || list_any T a.split.back) = ap (λ l. is_touched touched l m) a.split.whole ∙ list_any-append T a.split.front ((place, a.line) ∷ a.split.back) ∙ rw two refl in
-        let new : is_touched touched (set_value (is_at (nat_cmp place)) lines line) m ≡ (list_any T a.split.front || list_any T a.split.back) = ap (λ l. is_touched touched l m) (a.split.set line) ∙ list_any-append T a.split.front ((place, line) ∷ a.split.back) ∙ rw one refl in
-        old ∙ sym new ∙ out
-
--- ---- one ends
 
 pub held_without : (number : ℕ) (es : List Entry) → held_of (filter (other number) es) ≡ filter (other_lock number) (held_of es)
 held_without number es = held_filter (other_lock number) es
@@ -203,16 +81,9 @@ held_without number es = held_filter (other_lock number) es
 pub pending_without : (number : ℕ) (es : List Entry) → pending_of (filter (other number) es) ≡ filter (other_request number) (pending_of es)
 pending_without number es = pending_filter (other_request number) es
 
-end_differs : (number : ℕ) (r : Request) (es : List Entry) (lines : List Placed) (touched : List ℕ) → Found number es r → Ready lines (held_of es) (pending_of es) touched
-    → Differ r.name (held_of es) (filter (other_lock number) (held_of es)) (pending_of es) (filter (other_request number) (pending_of es))
-end_differs number r es lines touched f ready = record {
-  same = λ m differs. (locks_apart number r es m f differs, queue_apart number r es m f differs);
-  alone = subst (λ l. any_exclusive l ≡ true → length l ≡ 1) (filters_commute (other_lock number) (λ (x : HeldRow). bytes_eq x.name r.name) (held_of es)) (alone_filter (other_lock number) (locks r.name (held_of es)) (ready.alone r.name));
-}
-
--- a request that is live has a name with a line
-pub live_among : (number : ℕ) (r : Request) (es : List Entry) (lines : List Placed) (touched : List ℕ) → Found number es r → Ready lines (held_of es) (pending_of es) touched → among r.name (names_of lines) ≡ true
-live_among number r es lines touched f ready = by (among r.name (names_of lines)) refl
+-- a live request's name has a queue
+pub live_named : (number : ℕ) (r : Request) (es : List Entry) (queues : List Placed) (touched : List ℕ) → Found number es r → Stands queues (held_of es) (pending_of es) touched → IsSome (place_of r.name queues)
+live_named number r es queues touched f stands = by (place_of r.name queues) refl
   where
     N : Entry → Bool
     N e = bytes_eq e.1.name r.name
@@ -220,33 +91,86 @@ live_among number r es lines touched f ready = by (among r.name (names_of lines)
     some_live : length (filter N es) ≡ length (filter N f.front) + suc (length (filter N f.back))
     some_live = ap (λ l. length (filter N l)) f.whole ∙ ap length (filter-append N f.front ((number, r) ∷ f.back) ∙ rw (same_bytes r.name) refl) ∙ length-append (filter N f.front) ((number, r) ∷ filter N f.back)
 
-    by : (b : Bool) → among r.name (names_of lines) ≡ b → among r.name (names_of lines) ≡ true
-    by true h = h
-    by false h = absurd (
-        let k = ready.known r.name h in
+    by : (o : Option ℕ) → place_of r.name queues ≡ o → IsSome (place_of r.name queues)
+    by (Some place) at = subst IsSome (sym at) refl
+    by None none = absurd (
+        let k = stands.known r.name none in
         let no_locks : length (held_of (filter N es)) ≡ 0 = ap length (held_filter (λ (l : HeldRow). bytes_eq l.name r.name) es ∙ k.0) in
         let no_queue : length (pending_of (filter N es)) ≡ 0 = ap length (pending_filter (λ (q : PendingRow). bytes_eq q.name r.name) es ∙ k.1) in
         let count = live_count (filter N es) in
         let some = some_live in
         omega (arith, no_locks, no_queue, count, some))
 
-pub record Ended (number : ℕ) (place : ℕ) (es : List Entry) (lines : List Placed) (lines' : List Placed) (touched : List ℕ) (uses : List ℕ → Option ℕ) : Type 0 where
-  pub ready : Ready lines' (held_of (filter (other number) es)) (pending_of (filter (other number) es)) (touched ++ place ∷ [])
-  pub names_stay : names_of lines' ≡ names_of lines
-  pub names_found : IsNames lines' uses
+pub without_keeps : (number : ℕ) (w : Waiting) → (without number w).name ≡ w.name
+without_keeps number w = refl
 
 -- the request or the lock of this number ends
-pub one_ended : (number : ℕ) (r : Request) (place : ℕ) (es : List Entry) (lines lines' : List Placed) (touched : List ℕ) (uses : List ℕ → Option ℕ) → Found number es r → IsNames lines uses → (a : At r.name place lines)
-    → Ready lines (held_of es) (pending_of es) touched → lines' ≡ set_value (is_at (nat_cmp place)) lines (without number a.line) → Ended number place es lines lines' touched uses
-one_ended number r place es lines lines' touched uses f names a ready set =
-    let M : Placed → Type 0 = λ e. Matches e.1 (held_of es) (pending_of es) in
-    let matches = without_matches a.line number (held_of es) (pending_of es) (of_line M a ready.matched) in
+pub one_ended : (number : ℕ) (r : Request) (place : ℕ) (es : List Entry) (queues : List Placed) (touched : List ℕ) → Found number es r → place_of r.name queues ≡ Some place → Stands queues (held_of es) (pending_of es) touched
+    → Stands (updated place (without number) queues) (held_of (filter (other number) es)) (pending_of (filter (other number) es)) (place ∷ touched)
+one_ended number r place es queues touched f at stands =
+    rw (held_without number es, pending_without number es)
+    (one_touched r.name place (without number) queues (held_of es) (filter (other_lock number) (held_of es)) (pending_of es) (filter (other_request number) (pending_of es)) touched (without_keeps number)
+    (λ m differs. (locks_apart number r es m f differs, queue_apart number r es m f differs)) at (λ w named matches. without_matches w number (held_of es) (pending_of es) matches) stands)
+
+-- ---- a request takes its name
+
+-- the request that waits alone
+pub record Waiter (number : ℕ) (name : List ℕ) (es : List Entry) : Type 0 where
+  pub request : Request
+  pub there : lookup (is_at (nat_cmp number)) es ≡ Some request
+  pub named : request.name ≡ name
+  pub mode : request.mode ≡ Exclusive
+  pub only : filter (is_request number) (pending_of es) ≡ request_row (number, request) ∷ []
+
+pub any_from : {X : Type 0} (p : X → Bool) (l : List X) (x : X) → filter p l ≡ x ∷ [] → list_any p l ≡ true
+any_from p [] x only = absurd (cc)
+any_from p (y ∷ l) x only = by (p y) refl (any_from p l x)
+  where
+    by : (b : Bool) → p y ≡ b → (filter p l ≡ x ∷ [] → list_any p l ≡ true) → list_any p (y ∷ l) ≡ true
+    by true h rest = rw h refl
+    by false h rest = rw h (rest (rw h at only))
+
+pub waiter : (number : ℕ) (name : List ℕ) (es : List Entry) → IsStrictlySortedBy nat_cmp (keys_of es) → WaitsAlone number name (pending_of es) → Waiter number name es
+waiter number name es sorted w =
+    let t = pending_there number es sorted (any_from (is_request number) (pending_of es) w.row w.only) in
+    let f = found number es t.0 sorted t.1 in
+    let only : filter (is_request number) (pending_of es) ≡ request_row (number, t.0) ∷ [] = ap (λ l. filter (is_request number) (pending_of l)) f.whole ∙ pending_one f.front f.back number t.0 t.2 f.low f.high in
+    let same : request_row (number, t.0) ≡ w.row = first_same (request_row (number, t.0)) w.row (sym only ∙ w.only) in
     record {
-      ready = rw (set, held_without number es, pending_without number es)
-          (one_touched r.name place touched lines (without number a.line) (held_of es) (filter (other_lock number) (held_of es)) (pending_of es) (filter (other_request number) (pending_of es)) a (end_differs number r es lines touched f ready) ready refl matches);
-      names_stay = rw set (written_names r.name place lines (without number a.line) a refl);
-      names_found = rw set (written_is r.name place lines uses (without number a.line) a refl names);
+      request = t.0;
+      there = t.1;
+      named = ap (λ (r : PendingRow). r.name) same ∙ w.named;
+      mode = ap (λ (r : PendingRow). r.mode) same ∙ w.mode;
+      only = only;
     }
+  where
+    first_same : (x y : PendingRow) → x ∷ [] ≡ y ∷ [] → x ≡ y
+    first_same x y e = cc (e)
+
+pub seized_keeps : (number : ℕ) (w : Waiting) → (seized number w).name ≡ w.name
+seized_keeps number w = refl
+
+pub one_seized : (number place : ℕ) (name : List ℕ) (es es' : List Entry) (queues : List Placed) (touched : List ℕ) → IsStrictlySortedBy nat_cmp (keys_of es) → Waiter number name es → place_of name queues ≡ Some place → locks name (held_of es) ≡ []
+    → held_of es' ≡ held_of es ++ map granted_lock (filter (is_request number) (pending_of es)) → pending_of es' ≡ filter (other_request number) (pending_of es) → Stands queues (held_of es) (pending_of es) touched
+    → Stands (updated place (seized number) queues) (held_of es') (pending_of es') (place ∷ touched)
+one_seized number place name es es' queues touched sorted w at gone held pending stands =
+    let f = found number es w.request sorted w.there in
+    let row = request_row (number, w.request) in
+    let held_is : held_of es' ≡ held_of es ++ granted_lock row ∷ [] = held ∙ ap (λ l. held_of es ++ map granted_lock l) w.only in
+    let one : locks name (held_of es') ≡ granted_lock row ∷ [] = ap (locks name) held_is ∙ filter-append (λ (l : HeldRow). bytes_eq l.name name) (held_of es) (granted_lock row ∷ []) ∙ ap (λ l. l ++ locks name (granted_lock row ∷ [])) gone ∙ ap (λ b. cond b (granted_lock row ∷ []) []) (ap (λ n. bytes_eq n name) w.named ∙ same_bytes name) in
+    one_touched name place (seized number) queues (held_of es) (held_of es') (pending_of es) (pending_of es') touched (seized_keeps number)
+    (λ m differs. (
+      ap (locks m) held_is ∙ filter-append (λ (l : HeldRow). bytes_eq l.name m) (held_of es) (granted_lock row ∷ []) ∙ ap (λ b. locks m (held_of es) ++ cond b (granted_lock row ∷ []) []) (ap (λ n. bytes_eq n m) w.named ∙ differs) ∙ append-nil (locks m (held_of es)),
+      ap (queue m) pending ∙ queue_apart number w.request es m f (ap (λ n. bytes_eq n m) w.named ∙ differs),
+    ))
+    at
+    (λ v named matches. record {
+      waits = (without_matches v number (held_of es) (pending_of es) matches).waits ∙ ap (λ p. map number_and_mode (queue v.name p)) (sym pending);
+      holders = sym (ap (λ n. map lock_and_mode (locks n (held_of es'))) named ∙ ap (map lock_and_mode) one ∙ ap (λ m. (number, m) ∷ []) w.mode);
+    })
+    stands
+
+-- ---- counts
 
 -- one is fewer
 pub one_fewer : (number : ℕ) (r : Request) (es : List Entry) → Found number es r → length (filter (other number) es) + 1 ≡ length es
@@ -257,10 +181,3 @@ one_fewer number r es f =
     let all = ap length f.whole in
     let more = length-append f.front ((number, r) ∷ f.back) in
     omega (arith, less, sum, all, more)
-
--- the name of a live request has a line, where it is found
-pub live_at : (number : ℕ) (r : Request) (es : List Entry) (lines : List Placed) (touched : List ℕ) (find : List ℕ → Option ℕ) (place : ℕ) → Found number es r → IsNames lines find → Ready lines (held_of es) (pending_of es) touched → find r.name ≡ Some place → At r.name place lines
-live_at number r es lines touched find place f names ready at = at_place r.name place lines find names (live_among number r es lines touched f ready) at
-
-pub place_found : (number : ℕ) (r : Request) (es : List Entry) (lines : List Placed) (touched : List ℕ) (find : List ℕ → Option ℕ) → Found number es r → IsNames lines find → Ready lines (held_of es) (pending_of es) touched → IsSome (find r.name)
-place_found number r es lines touched find f names ready = name_found r.name lines find names.listed (live_among number r es lines touched f ready)

@@ -13,8 +13,8 @@ use Rattle.std.proofs.lemmas.List.{map-append, length-append}
 use Rattle.std.proofs.lemmas.List.Elements.{filter-append}
 use Rattle.wl_machine.specs.declared.rows.PendingRow.{PendingRow}
 use Rattle.wl_machine.specs.Grants.{granted_lock}
-use Rattle.wl_index.specs.declared.table.Request.{Request}
-use Rattle.wl_index.specs.declared.table.Stage.TheVariants.{Pending, Held}
+use Rattle.wl_index.specs.declared.request.Request.{Request}
+use Rattle.wl_index.specs.declared.request.Stage.TheVariants.{Pending, Held}
 use Rattle.wl_index.specs.Stamps.{Distinct, by_stamp, by_stamp_last}
 use Rattle.wl_index.specs.Rows.{Entry, holds, waiting, holding, stamp_of, request_row, lock_row, pending_of, held_of, IsTable}
 use Rattle.wl_index.proofs.Distinct.{distinct_last_come}

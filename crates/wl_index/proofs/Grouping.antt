@@ -8,7 +8,9 @@ use Rattle.std.specs.BTreeMap.{is_at}
 use Rattle.std.specs.Ordering.{nat_cmp}
 use Rattle.std.proofs.lemmas.Bool.Decides.{nat_tests}
 use Rattle.wl_machine.proofs.Covers.{alike, less, rising_filter, rising_more}
-use Rattle.wl_index.specs.Groups.{at, IsRising}
+use Rattle.wl_index.specs.Lists.{at, list_at, numbers_on, IsRising, KeepsLive}
+use Rattle.wl_index.specs.Rows.{Entry}
+use Rattle.std.specs.declared.vec.Vec.{Vec}
 use Rattle.wl_numbered.proofs.Keyed.{same_number}
 use Rattle.wl_index.proofs.Lists.{all_weaker, filter_passed, filter_whole}
 
@@ -48,14 +50,15 @@ updated {X} P k w old new is here others q = subst (P q) (sym (is q)) (by (q == 
     by true h = rw (same_number k q, h) (subst (λ n. P n w) (sym (alike q k h)) here)
     by false h = rw (same_number k q, h) (others q)
 
--- ---- short lists
+-- one list was written, and keeps what is live
+pub one_list : {Z : Type 0} (live : List Entry) (k : ℕ) (was list : Vec ℕ Z) (old new : List (ℕ × Vec ℕ Z)) → at k old ≡ Some was → ((q : ℕ) → at q new ≡ cond (is_at (nat_cmp k) q) (Some list) (at q old)) → IsStrictlySortedBy nat_cmp list.items → KeepsLive live was.items list.items
+    → ((q : ℕ) → IsStrictlySortedBy nat_cmp (list_at q old)) → ((q : ℕ) → IsStrictlySortedBy nat_cmp (list_at q new)) × ((q : ℕ) → KeepsLive live (list_at q old) (list_at q new))
+one_list live k was list old new there is rises keeps rising = (
+  updated (λ q o. IsStrictlySortedBy nat_cmp (numbers_on o)) k (Some list) old new is rises rising,
+  updated (λ q o. KeepsLive live (list_at q old) (numbers_on o)) k (Some list) old new is (λ n live has. keeps n live (subst (λ o. Contains (numbers_on o) n) there has)) (λ q n live has. has),
+)
 
-pub one_rises : (n : ℕ) → IsStrictlySortedBy nat_cmp (n ∷ [])
-unfolding IsStrictlySortedBy
-one_rises n = (tt, tt)
-
-pub nothing_in : (n : ℕ) → Contains [] n → ⊥
-nothing_in n has = omega (arith, has.1)
+-- ---- no lists
 
 pub no_group_rises : IsRising None
 unfolding IsStrictlySortedBy

@@ -16,10 +16,10 @@ use Rattle.wl_machine.specs.declared.rows.SignalRow.{SignalRow}
 use Rattle.wl_machine.specs.Refusals.{signals_of}
 use Rattle.wl_machine.specs.Step.{with_reason}
 use Rattle.wl_machine.proofs.Lists.{filter_map, map_twice}
-use Rattle.wl_index.specs.declared.owners.Member.{Member}
-use Rattle.wl_index.specs.declared.owners.Signal.{Signal}
+use Rattle.wl_index.specs.declared.agents.Agent.{Agent}
+use Rattle.wl_index.specs.declared.agents.Signal.{Signal}
 use Rattle.wl_index.specs.Roll.{agent_row, signal_row, made_by, IsRoll, aborted}
-use Rattle.wl_index.specs.Groups.{spared}
+use Rattle.wl_index.specs.Lists.{spared}
 use Rattle.wl_index.proofs.Lists.{all_append, all_front, all_back, all_weaker, all_filter}
 use Rattle.wl_numbered.proofs.Keyed.{Found, same_number, number_same, removed_at}
 use Rattle.wl_index.proofs.Spared.{spared_fail}
@@ -73,7 +73,7 @@ made_written a signal (e ∷ front) back s now same = by (e.1.agent == a) (made_
     by true rest = ap (λ l. e.0 ∷ l) rest
     by false rest = rest
 
-pub reason_roll : (agent signal : ℕ) (reason : Reason) (es : List (ℕ × Member)) (signals : List (ℕ × Signal)) (next_agent next_signal : ℕ) (s : Signal) → IsRoll es signals next_agent next_signal → Found signal signals s
+pub reason_roll : (agent signal : ℕ) (reason : Reason) (es : List (ℕ × Agent)) (signals : List (ℕ × Signal)) (next_agent next_signal : ℕ) (s : Signal) → IsRoll es signals next_agent next_signal → Found signal signals s
     → IsRoll es (set_value (is_at (nat_cmp signal)) signals (aborted agent reason s)) next_agent next_signal
 reason_roll agent signal reason es signals next_agent next_signal s is f =
     let now : Signal = aborted agent reason s in
@@ -89,7 +89,7 @@ reason_roll agent signal reason es signals next_agent next_signal s is f =
       members_below = is.members_below;
       signals_below = rw (f.set now) (all_append B f.front ((signal, now) ∷ f.back) (all_front B f.front ((signal, s) ∷ f.back) below) (all_back B f.front ((signal, s) ∷ f.back) below));
       owners_below = rw (f.set now) (all_append A f.front ((signal, now) ∷ f.back) (all_front A f.front ((signal, s) ∷ f.back) owned) (subst (λ a. a < next_agent) (sym (aborted_agent agent reason s)) own.0, own.1));
-      listed = all_weaker (λ (e : ℕ × Member). keys_of e.1.signals.entries ≡ made_by e.0 signals) (λ (e : ℕ × Member). keys_of e.1.signals.entries ≡ made_by e.0 (set_value (is_at (nat_cmp signal)) signals now)) es (λ e h. h ∙ sym (same e.0)) is.listed;
+      listed = all_weaker (λ (e : ℕ × Agent). keys_of e.1.signals.entries ≡ made_by e.0 signals) (λ (e : ℕ × Agent). keys_of e.1.signals.entries ≡ made_by e.0 (set_value (is_at (nat_cmp signal)) signals now)) es (λ e h. h ∙ sym (same e.0)) is.listed;
     }
 
 -- ---- an agent leaves
@@ -104,7 +104,7 @@ own_spared agent signals sorted =
     let made : made_by agent signals ≡ keys_of (filter mine signals) = ap (map (λ (row : SignalRow). row.number)) (filter_map (λ (row : SignalRow). row.agent == agent) signal_row signals) ∙ map_twice (λ (row : SignalRow). row.number) signal_row (filter mine signals) in
     ap (λ ns. filter (spared ns) signals) made ∙ spared_fail mine signals sorted
 
-pub left_agents : (agent : ℕ) (es : List (ℕ × Member)) → IsStrictlySortedBy nat_cmp (keys_of es) → map agent_row (remove_entry (is_at (nat_cmp agent)) es) ≡ filter (λ row. not (row.number == agent)) (map agent_row es)
+pub left_agents : (agent : ℕ) (es : List (ℕ × Agent)) → IsStrictlySortedBy nat_cmp (keys_of es) → map agent_row (remove_entry (is_at (nat_cmp agent)) es) ≡ filter (λ row. not (row.number == agent)) (map agent_row es)
 left_agents agent es sorted = ap (map agent_row) (removed_at agent es sorted) ∙ sym (filter_map (λ (row : AgentRow). not (row.number == agent)) agent_row es)
 
 pub left_signals : (agent : ℕ) (signals : List (ℕ × Signal)) → map signal_row (filter (of_another agent) signals) ≡ filter (λ row. not (row.agent == agent)) (map signal_row signals)
@@ -124,24 +124,24 @@ made_others a agent (e ∷ signals) apart = by (e.1.agent == agent) refl (e.1.ag
     by false h true k rest = rw (h, k) (ap (λ l. e.0 ∷ l) rest)
     by false h false k rest = rw (h, k) rest
 
-pub left_roll : (agent : ℕ) (es es' : List (ℕ × Member)) (signals signals' : List (ℕ × Signal)) (next_agent next_signal : ℕ) → IsRoll es signals next_agent next_signal → es' ≡ remove_entry (is_at (nat_cmp agent)) es → signals' ≡ filter (of_another agent) signals
+pub left_roll : (agent : ℕ) (es es' : List (ℕ × Agent)) (signals signals' : List (ℕ × Signal)) (next_agent next_signal : ℕ) → IsRoll es signals next_agent next_signal → es' ≡ remove_entry (is_at (nat_cmp agent)) es → signals' ≡ filter (of_another agent) signals
     → IsStrictlySortedBy nat_cmp (keys_of es') → IsStrictlySortedBy nat_cmp (keys_of signals') → IsRoll es' signals' next_agent next_signal
 left_roll agent es es' signals signals' next_agent next_signal is members_set signals_set members_sorted signals_sorted =
-    let gone : es' ≡ filter (λ (e : ℕ × Member). not (e.0 == agent)) es = members_set ∙ removed_at agent es is.members_ordered in
+    let gone : es' ≡ filter (λ (e : ℕ × Agent). not (e.0 == agent)) es = members_set ∙ removed_at agent es is.members_ordered in
     record {
       members_ordered = members_sorted;
       signals_ordered = signals_sorted;
-      members_below = rw gone (all_filter (λ (e : ℕ × Member). e.0 < next_agent) (λ e. not (e.0 == agent)) es is.members_below);
+      members_below = rw gone (all_filter (λ (e : ℕ × Agent). e.0 < next_agent) (λ e. not (e.0 == agent)) es is.members_below);
       signals_below = rw signals_set (all_filter (λ (e : ℕ × Signal). e.0 < next_signal) (of_another agent) signals is.signals_below);
       owners_below = rw signals_set (all_filter (λ (e : ℕ × Signal). e.1.agent < next_agent) (of_another agent) signals is.owners_below);
       listed = rw (gone, signals_set) (still_listed es is.listed);
     }
   where
-    still_listed : (l : List (ℕ × Member)) → AllByRecursion (λ (e : ℕ × Member). keys_of e.1.signals.entries ≡ made_by e.0 signals) l → AllByRecursion (λ (e : ℕ × Member). keys_of e.1.signals.entries ≡ made_by e.0 (filter (of_another agent) signals)) (filter (λ (e : ℕ × Member). not (e.0 == agent)) l)
+    still_listed : (l : List (ℕ × Agent)) → AllByRecursion (λ (e : ℕ × Agent). keys_of e.1.signals.entries ≡ made_by e.0 signals) l → AllByRecursion (λ (e : ℕ × Agent). keys_of e.1.signals.entries ≡ made_by e.0 (filter (of_another agent) signals)) (filter (λ (e : ℕ × Agent). not (e.0 == agent)) l)
     still_listed [] all = tt
     still_listed (e ∷ l) all = by (e.0 == agent) refl (still_listed l all.1)
       where
-        by : (b : Bool) → (e.0 == agent) ≡ b → AllByRecursion (λ (x : ℕ × Member). keys_of x.1.signals.entries ≡ made_by x.0 (filter (of_another agent) signals)) (filter (λ (x : ℕ × Member). not (x.0 == agent)) l)
-            → AllByRecursion (λ (x : ℕ × Member). keys_of x.1.signals.entries ≡ made_by x.0 (filter (of_another agent) signals)) (cond (not b) (e ∷ filter (λ (x : ℕ × Member). not (x.0 == agent)) l) (filter (λ (x : ℕ × Member). not (x.0 == agent)) l))
+        by : (b : Bool) → (e.0 == agent) ≡ b → AllByRecursion (λ (x : ℕ × Agent). keys_of x.1.signals.entries ≡ made_by x.0 (filter (of_another agent) signals)) (filter (λ (x : ℕ × Agent). not (x.0 == agent)) l)
+            → AllByRecursion (λ (x : ℕ × Agent). keys_of x.1.signals.entries ≡ made_by x.0 (filter (of_another agent) signals)) (cond (not b) (e ∷ filter (λ (x : ℕ × Agent). not (x.0 == agent)) l) (filter (λ (x : ℕ × Agent). not (x.0 == agent)) l))
         by true h rest = rest
         by false h rest = (all.0 ∙ sym (made_others e.0 agent signals h), rest)

@@ -1,8 +1,8 @@
--- Settling the names that an event touched is settling all names.
-use Rattle.std.proofs.Common.{◌≡◌, ℕ, Bool, true, false, cond, List, [], ◌∷◌, refl, ap, sym, ◌∙◌, append-nil}
-use Rattle.std.specs.Prelude.{not, ◌||◌, filter}
+-- Settling names of which only some have anything to grant.
+use Rattle.std.proofs.Common.{◌≡◌, ℕ, Bool, true, false, List, [], ◌∷◌, refl, ap, sym, ◌∙◌, append-nil}
+use Rattle.std.specs.Prelude.{◌||◌}
 use Rattle.std.specs.Str.{bytes_eq}
-use Rattle.std.specs.List.{list_any, AllByRecursion}
+use Rattle.std.specs.List.{list_any}
 use Rattle.std.specs.Cmp.Lexicographic.{same_text}
 use Rattle.wl_machine.specs.Grants.{Lists, settle_name, settle_names}
 use Rattle.wl_machine.proofs.Quiet.{quiet, settled_quiet, settles_keep}
@@ -10,18 +10,6 @@ use Rattle.wl_machine.proofs.Quiet.{quiet, settled_quiet, settles_keep}
 -- settling a name with nothing to grant changes nothing
 pub settle_quiet : (lists : Lists) (name : List ℕ) → quiet lists name ≡ [] → settle_name lists name ≡ lists
 settle_quiet lists name none = rw (none, append-nil lists.held, append-nil lists.changes) refl
-
--- the names outside a set have nothing to grant, so the others are settled alone
-pub settle_touched : (touched : List ℕ → Bool) (names : List (List ℕ)) (lists : Lists) → ((m : List ℕ) → touched m ≡ false → quiet lists m ≡ [])
-    → settle_names lists names ≡ settle_names lists (filter touched names)
-settle_touched touched [] lists still = refl
-settle_touched touched (n ∷ names) lists still =
-    by (touched n) refl (settle_touched touched names (settle_name lists n) (λ m out. settles_keep (n ∷ []) lists m (still m out))) (settle_touched touched names lists still)
-  where
-    by : (b : Bool) → touched n ≡ b → settle_names (settle_name lists n) names ≡ settle_names (settle_name lists n) (filter touched names) → settle_names lists names ≡ settle_names lists (filter touched names)
-        → settle_names (settle_name lists n) names ≡ settle_names lists (cond b (n ∷ filter touched names) (filter touched names))
-    by true h after before = after
-    by false h after before = ap (λ l. settle_names l names) (settle_quiet lists n (still n h)) ∙ before
 
 -- settling names with nothing to grant
 pub settle_all_quiet : (names : List (List ℕ)) (lists : Lists) → ((m : List ℕ) → quiet lists m ≡ []) → settle_names lists names ≡ lists
@@ -46,13 +34,22 @@ settle_one_name name (n ∷ names) lists there still = by (bytes_eq n name) refl
         let later : list_any (λ n. bytes_eq n name) names ≡ true = sym (ap (λ b. b || list_any (λ n. bytes_eq n name) names) h) ∙ there in
         ap (λ l. settle_names l names) (settle_quiet lists n (still n h)) ∙ rest later
 
--- names that stay in use, but for one
-pub used_but_one : (used : List ℕ → Bool) (name : List ℕ) (names : List (List ℕ)) → AllByRecursion (λ m. bytes_eq m name ≡ false → used m ≡ true) names
-    → filter used names ≡ filter (λ m. not (bytes_eq m name) || used name) names
-used_but_one used name [] all = refl
-used_but_one used name (n ∷ names) all = by (bytes_eq n name) refl (used_but_one used name names all.1)
+-- in front of a name, nothing is left to grant
+abbrev pub FrontQuiet : Lists → List ℕ → List (List ℕ) → Type 0
+FrontQuiet lists name [] = Unit {0}
+FrontQuiet lists name (n ∷ names) = bytes_eq n name ≡ false → (quiet lists n ≡ []) × FrontQuiet lists name names
+
+-- such a name may be settled before all others
+pub settle_first : (name : List ℕ) (names : List (List ℕ)) (lists : Lists) → list_any (λ n. bytes_eq n name) names ≡ true → FrontQuiet lists name names → settle_names lists names ≡ settle_names (settle_name lists name) names
+settle_first name [] lists there front = absurd (cc)
+settle_first name (n ∷ names) lists there front = by (bytes_eq n name) refl (λ later rest. settle_first name names lists later rest)
   where
-    by : (b : Bool) → bytes_eq n name ≡ b → filter used names ≡ filter (λ m. not (bytes_eq m name) || used name) names
-        → cond (used n) (n ∷ filter used names) (filter used names) ≡ cond (not (bytes_eq n name) || used name) (n ∷ filter (λ m. not (bytes_eq m name) || used name) names) (filter (λ m. not (bytes_eq m name) || used name) names)
-    by true h rest = let same : n ≡ name = same_text n name (sym h) in rw (h, ap used same, rest) refl
-    by false h rest = rw (h, all.0 h, rest) refl
+    by : (b : Bool) → bytes_eq n name ≡ b → (list_any (λ n. bytes_eq n name) names ≡ true → FrontQuiet lists name names → settle_names lists names ≡ settle_names (settle_name lists name) names)
+        → settle_names (settle_name lists n) names ≡ settle_names (settle_name (settle_name lists name) n) names
+    by true h rest =
+        let same : n ≡ name = same_text n name (sym h) in
+        ap (λ m. settle_names (settle_name lists m) names) same ∙ sym (ap (λ m. settle_names (settle_name (settle_name lists name) m) names) same ∙ ap (λ l. settle_names l names) (settle_quiet (settle_name lists name) name (settled_quiet lists name)))
+    by false h rest =
+        let f = front h in
+        let later : list_any (λ n. bytes_eq n name) names ≡ true = sym (ap (λ b. b || list_any (λ n. bytes_eq n name) names) h) ∙ there in
+        ap (λ l. settle_names l names) (settle_quiet lists n f.0) ∙ rest later f.1 ∙ sym (ap (λ l. settle_names l names) (settle_quiet (settle_name lists name) n (settles_keep (name ∷ []) lists n f.0)))

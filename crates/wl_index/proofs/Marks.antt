@@ -11,9 +11,9 @@ use Rattle.std.proofs.lemmas.Option.{none-some}
 use Rattle.std.proofs.lemmas.List.{map-append}
 use Rattle.wl_machine.specs.Step.{is_untaken, with_taken}
 use Rattle.wl_machine.proofs.Lists.{filter_map, any_map}
-use Rattle.wl_index.specs.declared.table.Request.{Request}
-use Rattle.wl_index.specs.declared.table.Stage.{Stage}
-use Rattle.wl_index.specs.declared.table.Stage.TheVariants.{Pending, Held}
+use Rattle.wl_index.specs.declared.request.Request.{Request}
+use Rattle.wl_index.specs.declared.request.Stage.{Stage}
+use Rattle.wl_index.specs.declared.request.Stage.TheVariants.{Pending, Held}
 use Rattle.wl_index.specs.Stamps.{by_stamp, by_stamp_all}
 use Rattle.wl_index.specs.Rows.{Entry, tag, tags_of, is_fresh, taken_stage, waits, holds, stamp, waiting, holding, stamp_of, request_row, lock_row, pending_of, held_of, IsTable}
 use Rattle.wl_index.proofs.Distinct.{distinct_map}

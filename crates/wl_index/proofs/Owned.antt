@@ -9,16 +9,16 @@ use Rattle.wl_machine.specs.declared.rows.HeldRow.{HeldRow}
 use Rattle.wl_machine.specs.declared.rows.PendingRow.{PendingRow}
 use Rattle.wl_machine.specs.Step.{request_ends, lock_ends}
 use Rattle.wl_machine.proofs.Lists.{filter_map, map_twice, any_map}
-use Rattle.wl_index.specs.declared.ending.Owner.{Owner}
-use Rattle.wl_index.specs.declared.ending.Standing.TheVariants.{Waits, Holds}
-use Rattle.wl_index.specs.declared.order.Place.{Place}
-use Rattle.wl_index.specs.declared.table.Stage.{Stage}
-use Rattle.wl_index.specs.declared.table.Stage.TheVariants.{Pending, Held}
+use Rattle.wl_index.specs.declared.request.Owner.{Owner}
+use Rattle.wl_index.specs.declared.request.Standing.TheVariants.{Waits, Holds}
+use Rattle.wl_index.specs.declared.request.Place.{Place}
+use Rattle.wl_index.specs.declared.request.Stage.{Stage}
+use Rattle.wl_index.specs.declared.request.Stage.TheVariants.{Pending, Held}
 use Rattle.wl_index.specs.Stamps.{Distinct, by_stamp, filter_by_stamp}
 use Rattle.wl_index.specs.Rows.{Entry, waits, holds, waiting, holding, stamp_of, request_row, lock_row, pending_of, held_of}
-use Rattle.wl_index.specs.Groups.{spared}
+use Rattle.wl_index.specs.Lists.{spared}
 use Rattle.wl_index.specs.Order.{place_of}
-use Rattle.wl_index.specs.Ends.{ends_request, ends_lock, ends_entry, numbers_of, place_ends, AreLive}
+use Rattle.wl_index.specs.Ends.{ends_request, ends_lock, ends_entry, numbers_of, place_ends, without_ends, AreLive}
 use Rattle.wl_index.proofs.Lists.{filter_like, map_by_stamp, any_by_stamp}
 use Rattle.wl_index.proofs.Rows.{holds_or_waits}
 use Rattle.wl_index.proofs.Distinct.{distinct_filter, distinct_map}
@@ -64,6 +64,16 @@ waits_or_holds : (s : Stage) → waits s ≡ not (holds s)
 waits_or_holds Pending = refl
 waits_or_holds (Held at taken) = refl
 
+-- the lists without the locks that pass a test
+pub held_within : (q : HeldRow → Bool) (es : List Entry) → held_of (filter (λ e. not (holding e && q (lock_row e))) es) ≡ filter (λ lock. not (q lock)) (held_of es)
+held_within q es =
+    ap (λ l. map lock_row (by_stamp stamp_of l)) (left_within holding (λ e. q (lock_row e)) es)
+    ∙ ap (map lock_row) (filter_by_stamp stamp_of (λ e. not (q (lock_row e))) (filter holding es))
+    ∙ sym (filter_map (λ (lock : HeldRow). not (q lock)) lock_row (by_stamp stamp_of (filter holding es)))
+
+pub pending_beside : (q : HeldRow → Bool) (es : List Entry) → pending_of (filter (λ e. not (holding e && q (lock_row e))) es) ≡ pending_of es
+pending_beside q es = ap (map request_row) (left_beside holding waiting (λ e. q (lock_row e)) es (λ e. waits_or_holds e.1.stage))
+
 -- ---- requests that wait
 
 module _ (owner : Owner) (es : List Entry) where
@@ -76,19 +86,16 @@ module _ (owner : Owner) (es : List Entry) where
   pub requests_live : IsStrictlySortedBy nat_cmp (keys_of es) → AreLive (numbers_of (map place_of (filter among_requests es))) es
   requests_live sorted = subst (λ ns. AreLive ns es) (sym requests_numbers) (passed_in_turn among_requests es sorted)
 
-  requests_gone : IsStrictlySortedBy nat_cmp (keys_of es) → filter (spared (numbers_of (map place_of (filter among_requests es)))) es ≡ filter (λ e. not (among_requests e)) es
+  pub requests_gone : IsStrictlySortedBy nat_cmp (keys_of es) → filter (spared (numbers_of (map place_of (filter among_requests es)))) es ≡ without_ends owner Waits es
   requests_gone sorted = ap (λ ns. filter (spared ns) es) requests_numbers ∙ spared_fail among_requests es sorted
 
-  pub requests_pending : IsStrictlySortedBy nat_cmp (keys_of es) → pending_of (filter (spared (numbers_of (map place_of (filter among_requests es)))) es) ≡ filter (λ request. not (ends_request owner request)) (pending_of es)
-  requests_pending sorted =
-      ap pending_of (requests_gone sorted)
-      ∙ ap (map request_row) (left_within waiting (λ e. ends_request owner (request_row e)) es)
+  pub requests_pending : pending_of (without_ends owner Waits es) ≡ filter (λ request. not (ends_request owner request)) (pending_of es)
+  requests_pending =
+      ap (map request_row) (left_within waiting (λ e. ends_request owner (request_row e)) es)
       ∙ sym (filter_map (λ (request : PendingRow). not (ends_request owner request)) request_row (filter waiting es))
 
-  pub requests_held : IsStrictlySortedBy nat_cmp (keys_of es) → held_of (filter (spared (numbers_of (map place_of (filter among_requests es)))) es) ≡ held_of es
-  requests_held sorted =
-      ap held_of (requests_gone sorted)
-      ∙ ap (λ l. map lock_row (by_stamp stamp_of l)) (left_beside waiting holding (λ e. ends_request owner (request_row e)) es (λ e. holds_or_waits e.1.stage))
+  pub requests_held : held_of (without_ends owner Waits es) ≡ held_of es
+  requests_held = ap (λ l. map lock_row (by_stamp stamp_of l)) (left_beside waiting holding (λ e. ends_request owner (request_row e)) es (λ e. holds_or_waits e.1.stage))
 
   pub requests_told : (phase : Phase) → place_ends phase (map place_of (filter among_requests es)) ≡ request_ends phase (filter (ends_request owner) (pending_of es))
   requests_told phase =
@@ -124,24 +131,17 @@ module _ (owner : Owner) (es : List Entry) where
   same_spared e =
       ap not (any_map (λ n. n == e.0) (λ (x : Entry). x.0) (by_stamp stamp_of (filter among_locks es)) ∙ any_by_stamp stamp_of (λ (x : Entry). x.0 == e.0) (filter among_locks es) ∙ sym (any_map (λ n. n == e.0) (λ (x : Entry). x.0) (filter among_locks es)))
 
-  locks_gone : IsStrictlySortedBy nat_cmp (keys_of es) → filter (spared (numbers_of lock_places)) es ≡ filter (λ e. not (among_locks e)) es
+  pub locks_gone : IsStrictlySortedBy nat_cmp (keys_of es) → filter (spared (numbers_of lock_places)) es ≡ without_ends owner Holds es
   locks_gone sorted =
       ap (λ ns. filter (spared ns) es) locks_numbers
       ∙ filter_like (spared (keys_of (by_stamp stamp_of (filter among_locks es)))) (spared (keys_of (filter among_locks es))) same_spared es
       ∙ spared_fail among_locks es sorted
 
-  pub locks_held : IsStrictlySortedBy nat_cmp (keys_of es) → held_of (filter (spared (numbers_of lock_places)) es) ≡ filter (λ lock. not (ends_lock owner lock)) (held_of es)
-  locks_held sorted =
-      let q : Entry → Bool = λ e. not (ends_lock owner (lock_row e)) in
-      ap held_of (locks_gone sorted)
-      ∙ ap (λ l. map lock_row (by_stamp stamp_of l)) (left_within holding (λ e. ends_lock owner (lock_row e)) es)
-      ∙ ap (map lock_row) (filter_by_stamp stamp_of q (filter holding es))
-      ∙ sym (filter_map (λ (lock : HeldRow). not (ends_lock owner lock)) lock_row (by_stamp stamp_of (filter holding es)))
+  pub locks_held : held_of (without_ends owner Holds es) ≡ filter (λ lock. not (ends_lock owner lock)) (held_of es)
+  locks_held = held_within (λ lock. ends_lock owner lock) es
 
-  pub locks_pending : IsStrictlySortedBy nat_cmp (keys_of es) → pending_of (filter (spared (numbers_of lock_places)) es) ≡ pending_of es
-  locks_pending sorted =
-      ap pending_of (locks_gone sorted)
-      ∙ ap (map request_row) (left_beside holding waiting (λ e. ends_lock owner (lock_row e)) es (λ e. waits_or_holds e.1.stage))
+  pub locks_pending : pending_of (without_ends owner Holds es) ≡ pending_of es
+  locks_pending = pending_beside (λ lock. ends_lock owner lock) es
 
   pub locks_told : (phase : Phase) → place_ends phase lock_places ≡ lock_ends phase (filter (ends_lock owner) (held_of es))
   locks_told phase =

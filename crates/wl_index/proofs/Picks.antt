@@ -13,13 +13,13 @@ use Rattle.std.proofs.lemmas.Map.Views.{Contains-keys_from_lookup, tells_apart}
 use Rattle.wl_machine.specs.Step.{is_signal}
 use Rattle.wl_machine.proofs.Covers.{looked_alike}
 use Rattle.wl_machine.proofs.Lists.{and_first, and_second}
-use Rattle.wl_core.proofs.Moves.{length-filter-not}
-use Rattle.wl_index.specs.declared.ending.Owner.{Owner}
-use Rattle.wl_index.specs.declared.ending.Owner.TheVariants.{Signal, Agent}
-use Rattle.wl_index.specs.declared.ending.Standing.{Standing}
-use Rattle.wl_index.specs.declared.ending.Standing.TheVariants.{Waits, Holds}
-use Rattle.wl_index.specs.declared.order.Place.{Place}
-use Rattle.wl_index.specs.declared.table.Request.{Request}
+use Rattle.wl_index.proofs.Counting.{length-filter-not}
+use Rattle.wl_index.specs.declared.request.Owner.{Owner}
+use Rattle.wl_index.specs.declared.request.Owner.TheVariants.{Signal, Agent}
+use Rattle.wl_index.specs.declared.request.Standing.{Standing}
+use Rattle.wl_index.specs.declared.request.Standing.TheVariants.{Waits, Holds}
+use Rattle.wl_index.specs.declared.request.Place.{Place}
+use Rattle.wl_index.specs.declared.request.Request.{Request}
 use Rattle.wl_index.specs.Rows.{Entry, is_taken, waiting, holding}
 use Rattle.wl_index.specs.Order.{place_of}
 use Rattle.wl_index.specs.Ends.{IsOwners, ends_entry, is_owned, place_if}

@@ -1,20 +1,13 @@
 -- The places of locks, and the order of grants.
-use Rattle.std.proofs.Common.{◌≡◌, Bool, true, false, cond, List, [], ◌∷◌, ◌++◌, refl, sym, ap, ◌∙◌, map, filter}
+use Rattle.std.proofs.Common.{◌≡◌, List, refl, sym, ap, ◌∙◌, map, filter}
 use Rattle.wl_machine.specs.declared.rows.HeldRow.{HeldRow}
 use Rattle.wl_machine.proofs.Lists.{map_twice}
-use Rattle.wl_index.specs.declared.order.Place.{Place}
+use Rattle.wl_index.specs.declared.request.Place.{Place}
 use Rattle.wl_index.specs.Stamps.{by_stamp, Distinct}
 use Rattle.wl_index.specs.Rows.{Entry, holding, stamp_of, lock_row}
 use Rattle.wl_index.specs.Order.{place_of, places_of}
 use Rattle.wl_index.proofs.Lists.{map_by_stamp}
 use Rattle.wl_index.proofs.Distinct.{distinct_map}
-
-pub places_first : (e : Entry) (es : List Entry) → places_of (e ∷ es) ≡ places_of (e ∷ []) ++ places_of es
-places_first e es = by (holding e)
-  where
-    by : (b : Bool) → map place_of (cond b (e ∷ filter holding es) (filter holding es)) ≡ map place_of (cond b (e ∷ []) []) ++ places_of es
-    by true = refl
-    by false = refl
 
 pub places_distinct : (es : List Entry) → Distinct stamp_of (filter holding es) → Distinct (λ (p : Place). p.stamp) (places_of es)
 places_distinct es distinct = distinct_map stamp_of (λ (p : Place). p.stamp) place_of (λ e. refl) (filter holding es) distinct

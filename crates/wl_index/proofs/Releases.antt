@@ -10,9 +10,9 @@ use Rattle.std.proofs.lemmas.Map.Keys.{sorted_head, sorted_tail}
 use Rattle.std.proofs.lemmas.List.Elements.{filter-append}
 use Rattle.wl_machine.specs.Step.{is_lock_of}
 use Rattle.wl_machine.proofs.Lists.{any_map}
-use Rattle.wl_index.specs.declared.table.Request.{Request}
-use Rattle.wl_index.specs.declared.table.Stage.{Stage}
-use Rattle.wl_index.specs.declared.table.Stage.TheVariants.{Pending, Held}
+use Rattle.wl_index.specs.declared.request.Request.{Request}
+use Rattle.wl_index.specs.declared.request.Stage.{Stage}
+use Rattle.wl_index.specs.declared.request.Stage.TheVariants.{Pending, Held}
 use Rattle.wl_index.specs.Stamps.{by_stamp}
 use Rattle.wl_index.specs.Rows.{Entry, other, waits, holds, holding, stamp_of, lock_row, pending_of, held_of, IsLock}
 use Rattle.wl_index.proofs.Lists.{filter_whole, filter_none, all_weaker, any_by_stamp}

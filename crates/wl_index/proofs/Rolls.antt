@@ -10,6 +10,7 @@ use Rattle.std.specs.Ordering.{nat_cmp}
 use Rattle.std.proofs.lemmas.Bool.Decides.{nat_tests}
 use Rattle.std.proofs.lemmas.Map.Keys.{sorted_head, sorted_tail}
 use Rattle.std.proofs.lemmas.Map.{keys-set_value}
+use Rattle.std.proofs.lemmas.Map.Made.{is_some-lookup}
 use Rattle.std.proofs.lemmas.List.{map-append}
 use Rattle.std.proofs.lemmas.List.Elements.{filter-append}
 use Rattle.wl_types.specs.declared.words.Reason.{Reason}
@@ -18,9 +19,9 @@ use Rattle.wl_machine.specs.declared.rows.AgentRow.{AgentRow}
 use Rattle.wl_machine.specs.declared.rows.SignalRow.{SignalRow}
 use Rattle.wl_machine.specs.Refusals.{is_window, reason_in, signals_of}
 use Rattle.wl_machine.specs.Step.{with_active}
-use Rattle.wl_machine.proofs.Lists.{any_map}
-use Rattle.wl_index.specs.declared.owners.Member.{Member}
-use Rattle.wl_index.specs.declared.owners.Signal.{Signal}
+use Rattle.wl_machine.proofs.Lists.{any_both, any_map, any_same}
+use Rattle.wl_index.specs.declared.agents.Agent.{Agent}
+use Rattle.wl_index.specs.declared.agents.Signal.{Signal}
 use Rattle.wl_index.specs.Roll.{agent_row, signal_row, made_by, IsRoll, at_some, reason_at}
 use Rattle.wl_index.proofs.Lists.{all_append, all_front, all_back, all_weaker}
 use Rattle.wl_numbered.proofs.Keyed.{Found, found, entry_last, same_number, number_same, above_apart}
@@ -63,14 +64,14 @@ there : {X : Type 0} (o : Option X) → at_some (λ x. true) o ≡ is_some o
 there None = refl
 there (Some x) = refl
 
-pub agent_there : (agent : ℕ) (es : List (ℕ × Member)) → IsStrictlySortedBy nat_cmp (keys_of es) → list_any (λ row. row.number == agent) (map agent_row es) ≡ is_some (lookup (is_at (nat_cmp agent)) es)
+pub agent_there : (agent : ℕ) (es : List (ℕ × Agent)) → IsStrictlySortedBy nat_cmp (keys_of es) → list_any (λ row. row.number == agent) (map agent_row es) ≡ is_some (lookup (is_at (nat_cmp agent)) es)
 agent_there agent es sorted =
     any_map (λ (row : AgentRow). row.number == agent) agent_row es
-    ∙ any_like (λ (e : ℕ × Member). e.0 == agent) (λ e. (e.0 == agent) && true) (λ e. sym (and_true (e.0 == agent))) es
-    ∙ any_at (λ (m : Member). true) agent es sorted ∙ there (lookup (is_at (nat_cmp agent)) es)
+    ∙ any_like (λ (e : ℕ × Agent). e.0 == agent) (λ e. (e.0 == agent) && true) (λ e. sym (and_true (e.0 == agent))) es
+    ∙ any_at (λ (m : Agent). true) agent es sorted ∙ there (lookup (is_at (nat_cmp agent)) es)
 
-pub agent_test : (q : Kind → Bool → Bool) (agent : ℕ) (es : List (ℕ × Member)) → IsStrictlySortedBy nat_cmp (keys_of es) → list_any (λ row. (row.number == agent) && q row.kind row.active) (map agent_row es) ≡ at_some (λ m. q m.kind m.active) (lookup (is_at (nat_cmp agent)) es)
-agent_test q agent es sorted = any_map (λ (row : AgentRow). (row.number == agent) && q row.kind row.active) agent_row es ∙ any_at (λ (m : Member). q m.kind m.active) agent es sorted
+pub agent_test : (q : Kind → Bool → Bool) (agent : ℕ) (es : List (ℕ × Agent)) → IsStrictlySortedBy nat_cmp (keys_of es) → list_any (λ row. (row.number == agent) && q row.kind row.active) (map agent_row es) ≡ at_some (λ m. q m.kind m.active) (lookup (is_at (nat_cmp agent)) es)
+agent_test q agent es sorted = any_map (λ (row : AgentRow). (row.number == agent) && q row.kind row.active) agent_row es ∙ any_at (λ (m : Agent). q m.kind m.active) agent es sorted
 
 pub signal_there : (agent signal : ℕ) (es : List (ℕ × Signal)) → IsStrictlySortedBy nat_cmp (keys_of es) → list_any (λ row. (row.agent == agent) && (row.number == signal)) (map signal_row es) ≡ at_some (λ s. s.agent == agent) (lookup (is_at (nat_cmp signal)) es)
 signal_there agent signal es sorted =
@@ -99,17 +100,17 @@ reason_found agent signal (e ∷ es) sorted = by (e.0 == signal) refl (e.1.agent
 
 -- ---- one agent made active or inactive
 
-pub active_set : (agent : ℕ) (active : Bool) (es : List (ℕ × Member)) (m : Member) → Found agent es m → map agent_row (set_value (is_at (nat_cmp agent)) es (record m { active = active })) ≡ map (with_active agent active) (map agent_row es)
+pub active_set : (agent : ℕ) (active : Bool) (es : List (ℕ × Agent)) (m : Agent) → Found agent es m → map agent_row (set_value (is_at (nat_cmp agent)) es (record m { active = active })) ≡ map (with_active agent active) (map agent_row es)
 active_set agent active es m f =
-    let now : Member = record m { active = active } in
+    let now : Agent = record m { active = active } in
     ap (map agent_row) (f.set now) ∙ map-append agent_row f.front ((agent, now) ∷ f.back)
     ∙ sym (ap (λ l. map (with_active agent active) (map agent_row l)) f.whole ∙ ap (map (with_active agent active)) (map-append agent_row f.front ((agent, m) ∷ f.back)) ∙ map-append (with_active agent active) (map agent_row f.front) (agent_row (agent, m) ∷ map agent_row f.back) ∙ rw (apart_same f.front f.low, number_same agent, apart_same f.back f.high) refl)
   where
-    apart_same : (l : List (ℕ × Member)) → AllByRecursion (λ (e : ℕ × Member). (e.0 == agent) ≡ false) l → map (with_active agent active) (map agent_row l) ≡ map agent_row l
+    apart_same : (l : List (ℕ × Agent)) → AllByRecursion (λ (e : ℕ × Agent). (e.0 == agent) ≡ false) l → map (with_active agent active) (map agent_row l) ≡ map agent_row l
     apart_same [] all = refl
     apart_same (e ∷ l) all = rw (all.0, apart_same l all.1) refl
 
-pub active_none : (agent : ℕ) (active : Bool) (es : List (ℕ × Member)) → lookup (is_at (nat_cmp agent)) es ≡ None → map (with_active agent active) (map agent_row es) ≡ map agent_row es
+pub active_none : (agent : ℕ) (active : Bool) (es : List (ℕ × Agent)) → lookup (is_at (nat_cmp agent)) es ≡ None → map (with_active agent active) (map agent_row es) ≡ map agent_row es
 active_none agent active [] none = refl
 active_none agent active (e ∷ es) none = by (e.0 == agent) refl (active_none agent active es)
   where
@@ -121,10 +122,10 @@ active_none agent active (e ∷ es) none = by (e.0 == agent) refl (active_none a
     by false h rest = rw (h, rest (seen false h)) refl
 
 -- an agent written with the same list of signals
-pub roll_stays : (agent : ℕ) (es : List (ℕ × Member)) (signals : List (ℕ × Signal)) (next_agent next_signal : ℕ) (m now : Member) → IsRoll es signals next_agent next_signal → Found agent es m → now.signals.entries ≡ m.signals.entries → IsRoll (set_value (is_at (nat_cmp agent)) es now) signals next_agent next_signal
+pub roll_stays : (agent : ℕ) (es : List (ℕ × Agent)) (signals : List (ℕ × Signal)) (next_agent next_signal : ℕ) (m now : Agent) → IsRoll es signals next_agent next_signal → Found agent es m → keys_of now.signals.entries ≡ keys_of m.signals.entries → IsRoll (set_value (is_at (nat_cmp agent)) es now) signals next_agent next_signal
 roll_stays agent es signals next_agent next_signal m now is f same =
-    let B : ℕ × Member → Type 0 = λ e. e.0 < next_agent in
-    let L : ℕ × Member → Type 0 = λ e. keys_of e.1.signals.entries ≡ made_by e.0 signals in
+    let B : ℕ × Agent → Type 0 = λ e. e.0 < next_agent in
+    let L : ℕ × Agent → Type 0 = λ e. keys_of e.1.signals.entries ≡ made_by e.0 signals in
     let below = subst (AllByRecursion B) f.whole is.members_below in
     let listed = subst (AllByRecursion L) f.whole is.listed in
     let back = all_back L f.front ((agent, m) ∷ f.back) listed in
@@ -134,10 +135,10 @@ roll_stays agent es signals next_agent next_signal m now is f same =
       members_below = rw (f.set now) (all_append B f.front ((agent, now) ∷ f.back) (all_front B f.front ((agent, m) ∷ f.back) below) (all_back B f.front ((agent, m) ∷ f.back) below));
       signals_below = is.signals_below;
       owners_below = is.owners_below;
-      listed = rw (f.set now) (all_append L f.front ((agent, now) ∷ f.back) (all_front L f.front ((agent, m) ∷ f.back) listed) (ap keys_of same ∙ back.0, back.1));
+      listed = rw (f.set now) (all_append L f.front ((agent, now) ∷ f.back) (all_front L f.front ((agent, m) ∷ f.back) listed) (same ∙ back.0, back.1));
     }
 
-pub active_roll : (agent : ℕ) (active : Bool) (es : List (ℕ × Member)) (signals : List (ℕ × Signal)) (next_agent next_signal : ℕ) (m : Member) → IsRoll es signals next_agent next_signal → lookup (is_at (nat_cmp agent)) es ≡ Some m
+pub active_roll : (agent : ℕ) (active : Bool) (es : List (ℕ × Agent)) (signals : List (ℕ × Signal)) (next_agent next_signal : ℕ) (m : Agent) → IsRoll es signals next_agent next_signal → lookup (is_at (nat_cmp agent)) es ≡ Some m
     → IsRoll (set_value (is_at (nat_cmp agent)) es (record m { active = active })) signals next_agent next_signal
 active_roll agent active es signals next_agent next_signal m is at = roll_stays agent es signals next_agent next_signal m (record m { active = active }) is (found agent es m is.members_ordered at) refl
 
@@ -149,21 +150,21 @@ no_signals agent (e ∷ es) all =
     let no : (e.1.agent == agent) ≡ false = (let less = all.0 in grind (arith, nat_tests, less)) in
     rw no (no_signals agent es all.1)
 
-pub entered_roll : (es es' : List (ℕ × Member)) (signals : List (ℕ × Signal)) (next_agent next_signal : ℕ) (m : Member) → IsRoll es signals next_agent next_signal → keys_of m.signals.entries ≡ [] → es' ≡ insert_entry nat_cmp es next_agent m → IsStrictlySortedBy nat_cmp (keys_of es')
+pub entered_roll : (es es' : List (ℕ × Agent)) (signals : List (ℕ × Signal)) (next_agent next_signal : ℕ) (m : Agent) → IsRoll es signals next_agent next_signal → keys_of m.signals.entries ≡ [] → es' ≡ insert_entry nat_cmp es next_agent m → IsStrictlySortedBy nat_cmp (keys_of es')
     → IsRoll es' signals (next_agent + 1) next_signal
 entered_roll es es' signals next_agent next_signal m is none set sorted =
     let last : es' ≡ es ++ (next_agent, m) ∷ [] = set ∙ entry_last es next_agent m is.members_below in
-    let L : ℕ × Member → Type 0 = λ e. keys_of e.1.signals.entries ≡ made_by e.0 signals in
+    let L : ℕ × Agent → Type 0 = λ e. keys_of e.1.signals.entries ≡ made_by e.0 signals in
     record {
       members_ordered = sorted;
       signals_ordered = is.signals_ordered;
-      members_below = rw last (all_append (λ (e : ℕ × Member). e.0 < next_agent + 1) es ((next_agent, m) ∷ []) (all_weaker (λ (e : ℕ × Member). e.0 < next_agent) (λ e. e.0 < next_agent + 1) es (λ e less. omega (arith, less)) is.members_below) (omega arith, tt));
+      members_below = rw last (all_append (λ (e : ℕ × Agent). e.0 < next_agent + 1) es ((next_agent, m) ∷ []) (all_weaker (λ (e : ℕ × Agent). e.0 < next_agent) (λ e. e.0 < next_agent + 1) es (λ e less. omega (arith, less)) is.members_below) (omega arith, tt));
       signals_below = is.signals_below;
       owners_below = all_weaker (λ (e : ℕ × Signal). e.1.agent < next_agent) (λ e. e.1.agent < next_agent + 1) signals (λ e less. omega (arith, less)) is.owners_below;
       listed = rw last (all_append L es ((next_agent, m) ∷ []) is.listed (none ∙ sym (no_signals next_agent signals is.owners_below), tt));
     }
 
-pub entered_rows : (es es' : List (ℕ × Member)) (next_agent : ℕ) (m : Member) → AllByRecursion (λ (e : ℕ × Member). e.0 < next_agent) es → es' ≡ insert_entry nat_cmp es next_agent m → map agent_row es' ≡ map agent_row es ++ agent_row (next_agent, m) ∷ []
+pub entered_rows : (es es' : List (ℕ × Agent)) (next_agent : ℕ) (m : Agent) → AllByRecursion (λ (e : ℕ × Agent). e.0 < next_agent) es → es' ≡ insert_entry nat_cmp es next_agent m → map agent_row es' ≡ map agent_row es ++ agent_row (next_agent, m) ∷ []
 entered_rows es es' next_agent m below set = ap (map agent_row) (set ∙ entry_last es next_agent m below) ∙ map-append agent_row es ((next_agent, m) ∷ [])
 
 pub keys_length : {X : Type 0} (es : List (ℕ × X)) → length (keys_of es) ≡ length es
@@ -175,17 +176,25 @@ some_is None h = absurd (cc)
 some_is (Some x) h = refl
 
 -- an agent's list of signals
-pub listed_at : (agent : ℕ) (es : List (ℕ × Member)) (signals : List (ℕ × Signal)) (next_agent next_signal : ℕ) (m : Member) → IsRoll es signals next_agent next_signal → lookup (is_at (nat_cmp agent)) es ≡ Some m → keys_of m.signals.entries ≡ made_by agent signals
+pub listed_at : (agent : ℕ) (es : List (ℕ × Agent)) (signals : List (ℕ × Signal)) (next_agent next_signal : ℕ) (m : Agent) → IsRoll es signals next_agent next_signal → lookup (is_at (nat_cmp agent)) es ≡ Some m → keys_of m.signals.entries ≡ made_by agent signals
 listed_at agent es signals next_agent next_signal m is at =
     let f = found agent es m is.members_ordered at in
-    let L : ℕ × Member → Type 0 = λ e. keys_of e.1.signals.entries ≡ made_by e.0 signals in
+    let L : ℕ × Agent → Type 0 = λ e. keys_of e.1.signals.entries ≡ made_by e.0 signals in
     (all_back L f.front ((agent, m) ∷ f.back) (subst (AllByRecursion L) f.whole is.listed)).0
+
+-- a signal that an agent made is on that list
+pub signal_made : (agent signal : ℕ) (m : Agent) (signals : List (ℕ × Signal)) → keys_of m.signals.entries ≡ made_by agent signals → list_any (λ row. (row.agent == agent) && (row.number == signal)) (map signal_row signals) ≡ true → IsSome (lookup (is_at (nat_cmp signal)) m.signals.entries)
+signal_made agent signal m signals listed made =
+    let rows = map signal_row signals in
+    some_is _ (is_some-lookup (is_at (nat_cmp signal)) m.signals.entries ∙ ap (list_any (is_at (nat_cmp signal))) listed ∙ any_map (is_at (nat_cmp signal)) (λ (row : SignalRow). row.number) (signals_of agent rows)
+    ∙ sym (any_both (λ (row : SignalRow). row.agent == agent) (λ row. is_at (nat_cmp signal) row.number) rows)
+    ∙ any_same (λ (row : SignalRow). (row.agent == agent) && is_at (nat_cmp signal) row.number) (λ row. (row.agent == agent) && (row.number == signal)) rows (λ row. rw (same_number signal row.number) refl) ∙ made)
 
 and_assoc : (a b c : Bool) → ((a && b) && c) ≡ (a && (b && c))
 and_assoc true b c = refl
 and_assoc false b c = refl
 
-pub agent_inactive : (agent : ℕ) (es : List (ℕ × Member)) → IsStrictlySortedBy nat_cmp (keys_of es) → list_any (λ row. ((row.number == agent) && is_window row.kind) && not row.active) (map agent_row es) ≡ at_some (λ m. is_window m.kind && not m.active) (lookup (is_at (nat_cmp agent)) es)
+pub agent_inactive : (agent : ℕ) (es : List (ℕ × Agent)) → IsStrictlySortedBy nat_cmp (keys_of es) → list_any (λ row. ((row.number == agent) && is_window row.kind) && not row.active) (map agent_row es) ≡ at_some (λ m. is_window m.kind && not m.active) (lookup (is_at (nat_cmp agent)) es)
 agent_inactive agent es sorted =
     any_like (λ (row : AgentRow). ((row.number == agent) && is_window row.kind) && not row.active) (λ row. (row.number == agent) && (is_window row.kind && not row.active)) (λ row. and_assoc (row.number == agent) (is_window row.kind) (not row.active)) (map agent_row es)
     ∙ agent_test (λ kind active. is_window kind && not active) agent es sorted
@@ -198,7 +207,7 @@ row_of n k a = record { number = n; kind = k; active = a }
 same_row : (n : ℕ) (k k' : Kind) (a a' : Bool) → k ≡ k' → a ≡ a' → row_of n k a ≡ row_of n k' a'
 same_row n k k' a a' one two = rw (one, two) refl
 
-pub rows_stay : (agent : ℕ) (es : List (ℕ × Member)) (m now : Member) → Found agent es m → now.kind ≡ m.kind → now.active ≡ m.active → map agent_row (set_value (is_at (nat_cmp agent)) es now) ≡ map agent_row es
+pub rows_stay : (agent : ℕ) (es : List (ℕ × Agent)) (m now : Agent) → Found agent es m → now.kind ≡ m.kind → now.active ≡ m.active → map agent_row (set_value (is_at (nat_cmp agent)) es now) ≡ map agent_row es
 rows_stay agent es m now f kind active =
     ap (map agent_row) (f.set now) ∙ map-append agent_row f.front ((agent, now) ∷ f.back) ∙ ap (λ r. map agent_row f.front ++ r ∷ map agent_row f.back) (same_row agent now.kind m.kind now.active m.active kind active)
     ∙ sym (ap (map agent_row) f.whole ∙ map-append agent_row f.front ((agent, m) ∷ f.back))
@@ -226,28 +235,36 @@ keys_all : {X : Type 0} (P : ℕ → Type 0) (es : List (ℕ × X)) → AllByRec
 keys_all P [] all = tt
 keys_all P (e ∷ es) all = (all.0, keys_all P es all.1)
 
-others_listed : (agent number : ℕ) (reason : Option Reason) (signals : List (ℕ × Signal)) (l : List (ℕ × Member)) → AllByRecursion (λ (e : ℕ × Member). (e.0 == agent) ≡ false) l → AllByRecursion (λ (e : ℕ × Member). keys_of e.1.signals.entries ≡ made_by e.0 signals) l
-    → AllByRecursion (λ (e : ℕ × Member). keys_of e.1.signals.entries ≡ made_by e.0 (signals ++ (number, record { agent = agent; reason = reason }) ∷ [])) l
+others_listed : (agent number : ℕ) (reason : Option Reason) (signals : List (ℕ × Signal)) (l : List (ℕ × Agent)) → AllByRecursion (λ (e : ℕ × Agent). (e.0 == agent) ≡ false) l → AllByRecursion (λ (e : ℕ × Agent). keys_of e.1.signals.entries ≡ made_by e.0 signals) l
+    → AllByRecursion (λ (e : ℕ × Agent). keys_of e.1.signals.entries ≡ made_by e.0 (signals ++ (number, record { agent = agent; reason = reason }) ∷ [])) l
 others_listed agent number reason signals [] apart all = tt
 others_listed agent number reason signals (e ∷ l) apart all =
     let no : (agent == e.0) ≡ false = (let h = apart.0 in grind (arith, nat_tests, h)) in
     (all.0 ∙ sym (made_more e.0 agent number reason signals ∙ ap (λ b. made_by e.0 signals ++ cond b (number ∷ []) []) no ∙ append-nil (made_by e.0 signals)), others_listed agent number reason signals l apart.1 all.1)
 
-pub signalled : (agent : ℕ) (es es' : List (ℕ × Member)) (signals signals' : List (ℕ × Signal)) (next_agent next_signal : ℕ) (m now : Member) → IsRoll es signals next_agent next_signal → Found agent es m → es' ≡ set_value (is_at (nat_cmp agent)) es now
-    → now.signals.entries ≡ insert_entry nat_cmp m.signals.entries next_signal tt → signals' ≡ insert_entry nat_cmp signals next_signal (record { agent = agent; reason = None }) → IsStrictlySortedBy nat_cmp (keys_of signals') → IsRoll es' signals' next_agent (next_signal + 1)
+-- an agent's signals are below the next
+pub signals_lower : (agent next : ℕ) (m : Agent) (signals : List (ℕ × Signal)) → keys_of m.signals.entries ≡ made_by agent signals → AllByRecursion (λ (e : ℕ × Signal). e.0 < next) signals → AllByRecursion (λ e. e.0 < next) m.signals.entries
+signals_lower agent next m signals listed below = keys_all (λ k. k < next) m.signals.entries (rw listed (made_below agent next signals below))
+
+-- a key above all goes last
+pub keys_last : {X : Type 0} (es es' : List (ℕ × X)) (k : ℕ) (x : X) → es' ≡ insert_entry nat_cmp es k x → AllByRecursion (λ n. n < k) (keys_of es) → keys_of es' ≡ keys_of es ++ k ∷ []
+keys_last es es' k x is low = ap keys_of (is ∙ entry_last es k x (keys_all (λ n. n < k) es low)) ∙ map-append (λ e. e.0) es ((k, x) ∷ [])
+
+pub signalled : (agent : ℕ) (es es' : List (ℕ × Agent)) (signals signals' : List (ℕ × Signal)) (next_agent next_signal : ℕ) (m now : Agent) → IsRoll es signals next_agent next_signal → Found agent es m → es' ≡ set_value (is_at (nat_cmp agent)) es now
+    → (AllByRecursion (λ k. k < next_signal) (keys_of m.signals.entries) → keys_of now.signals.entries ≡ keys_of m.signals.entries ++ next_signal ∷ []) → signals' ≡ insert_entry nat_cmp signals next_signal (record { agent = agent; reason = None }) → IsStrictlySortedBy nat_cmp (keys_of signals') → IsRoll es' signals' next_agent (next_signal + 1)
 signalled agent es es' signals signals' next_agent next_signal m now is f set listed_now more sorted =
     let sig : Signal = record { agent = agent; reason = None } in
     let last : signals' ≡ signals ++ (next_signal, sig) ∷ [] = more ∙ entry_last signals next_signal sig is.signals_below in
-    let B : ℕ × Member → Type 0 = λ e. e.0 < next_agent in
-    let L : ℕ × Member → Type 0 = λ e. keys_of e.1.signals.entries ≡ made_by e.0 signals in
-    let N : ℕ × Member → Type 0 = λ e. keys_of e.1.signals.entries ≡ made_by e.0 (signals ++ (next_signal, sig) ∷ []) in
+    let B : ℕ × Agent → Type 0 = λ e. e.0 < next_agent in
+    let L : ℕ × Agent → Type 0 = λ e. keys_of e.1.signals.entries ≡ made_by e.0 signals in
+    let N : ℕ × Agent → Type 0 = λ e. keys_of e.1.signals.entries ≡ made_by e.0 (signals ++ (next_signal, sig) ∷ []) in
     let below = subst (AllByRecursion B) f.whole is.members_below in
     let listed = subst (AllByRecursion L) f.whole is.listed in
     let front = all_front L f.front ((agent, m) ∷ f.back) listed in
     let back = all_back L f.front ((agent, m) ∷ f.back) listed in
     let low : AllByRecursion (λ k. k < next_signal) (keys_of m.signals.entries) = rw back.0 (made_below agent next_signal signals is.signals_below) in
     let mine : keys_of now.signals.entries ≡ made_by agent (signals ++ (next_signal, sig) ∷ []) =
-    ap keys_of (listed_now ∙ entry_last m.signals.entries next_signal tt (keys_all (λ k. k < next_signal) m.signals.entries low)) ∙ map-append (λ e. e.0) m.signals.entries ((next_signal, tt) ∷ []) ∙ ap (λ l. l ++ next_signal ∷ []) back.0
+    listed_now low ∙ ap (λ l. l ++ next_signal ∷ []) back.0
     ∙ sym (made_more agent agent next_signal None signals ∙ ap (λ b. made_by agent signals ++ cond b (next_signal ∷ []) []) (number_same agent)) in
     record {
       members_ordered = rw (set, keys-set_value (is_at (nat_cmp agent)) es now) is.members_ordered;

@@ -16,9 +16,9 @@ use Rattle.std.proofs.lemmas.List.Elements.{filter-append}
 use Rattle.wl_machine.specs.declared.rows.HeldRow.{HeldRow}
 use Rattle.wl_machine.specs.declared.rows.PendingRow.{PendingRow}
 use Rattle.wl_machine.proofs.Lists.{filter_map, filters_commute}
-use Rattle.wl_index.specs.declared.table.Request.{Request}
-use Rattle.wl_index.specs.declared.table.Stage.{Stage}
-use Rattle.wl_index.specs.declared.table.Stage.TheVariants.{Pending, Held}
+use Rattle.wl_index.specs.declared.request.Request.{Request}
+use Rattle.wl_index.specs.declared.request.Stage.{Stage}
+use Rattle.wl_index.specs.declared.request.Stage.TheVariants.{Pending, Held}
 use Rattle.wl_index.specs.Stamps.{place, by_stamp, filter_by_stamp}
 use Rattle.wl_index.specs.Rows.{Entry, Apart, tag, tags_of, other, waits, holds, waiting, holding, stamp_of, request_row, lock_row, pending_of, held_of}
 use Rattle.wl_index.proofs.Lists.{filter_whole, filter_none, all_weaker}

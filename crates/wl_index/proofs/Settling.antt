@@ -1,8 +1,9 @@
 -- Settling a name, one grant at a time.
-use Rattle.std.proofs.Common.{◌≡◌, ℕ, suc, zero, ◌+◌, ◌==◌, Bool, true, false, cond, List, [], ◌∷◌, ◌++◌, length, drop, map, refl, ap, subst, sym, ◌∙◌, append_assoc, arith}
+use Rattle.std.proofs.Common.{◌≡◌, ℕ, suc, zero, ◌+◌, ◌==◌, Bool, true, false, cond, List, [], ◌∷◌, ◌++◌, length, drop, map, refl, ap, subst, sym, ◌∙◌, append_assoc, append-nil, arith}
 use Rattle.std.specs.Prelude.{not, ◌||◌, filter, Option, Some, None}
 use Rattle.std.specs.Str.{bytes_eq}
 use Rattle.std.specs.List.{list_any, AllByRecursion}
+use Rattle.std.specs.Cmp.Lexicographic.{same_text}
 use Rattle.std.proofs.lemmas.Bool.Decides.{nat_tests}
 use Rattle.std.proofs.lemmas.List.{length-append, map-append}
 use Rattle.std.proofs.lemmas.List.Elements.{filter-append}
@@ -11,14 +12,15 @@ use Rattle.wl_machine.specs.declared.rows.PendingRow.{PendingRow}
 use Rattle.wl_machine.specs.Grants.{is_exclusive, any_exclusive, is_empty, granted_lock, grant_change, grants, locks, queue, without_first, Lists, settle_name}
 use Rattle.wl_machine.specs.Laws.{is_grantable, granted_in_turn}
 use Rattle.wl_machine.proofs.InTurn.{in_turn}
-use Rattle.wl_machine.proofs.Quiet.{queue_without}
-use Rattle.wl_core.proofs.Moves.{length-filter-not}
+use Rattle.wl_machine.proofs.Quiet.{queue_without, queue_other}
+use Rattle.wl_index.proofs.Counting.{length-filter-not}
 use Rattle.wl_types.specs.declared.phases.Phase.TheVariants.{Granted}
 use Rattle.wl_index.specs.Rows.{Apart}
-use Rattle.wl_index.specs.Lines.{Waiting, admits, next_grant, if_admitted, without_admitted, after_grant, excludes, number_and_mode, lock_and_mode, Matches}
+use Rattle.wl_index.specs.Queue.{Waiting, admits, next_grant, if_admitted, without_admitted, after_grant, excludes, number_and_mode, lock_and_mode, Matches}
 use Rattle.wl_index.proofs.Lists.{filter_whole, filter_none, filter_passed, all_weaker}
 use Rattle.wl_index.proofs.Rows.{is_request}
 use Rattle.wl_index.proofs.Local.{settle_quiet}
+use Rattle.wl_index.proofs.Standing.{Differ}
 
 -- the lists after the first request of a name was granted
 abbrev pub with_grant : Lists → List ℕ → PendingRow → Lists
@@ -231,6 +233,7 @@ pub record Step (w after : Waiting) (before now : Lists) : Type 0 where
   pub settled : settle_name now after.name ≡ settle_name before w.name
   pub matches : Matches after now.held now.pending
   pub name : after.name ≡ w.name
+  pub differ : Differ w.name before.held now.held before.pending now.pending
   pub fewer : length now.pending + 1 ≡ length before.pending
   pub more : length now.held ≡ length before.held + 1
 
@@ -254,6 +257,11 @@ step_meets w after before now number matches next after_is apart held pending ch
       settled = rw (lists, name) (sym (settle_more before w.name n.request n.rest n.is free));
       matches = rw (is, lists) (grant_matches w before n.request n.rest matches n.is n.free);
       name = name;
+      differ = λ m differs. (
+        ap (λ (l : Lists). locks m l.held) lists ∙ filter-append (λ (l : HeldRow). bytes_eq l.name m) before.held (granted_lock n.request ∷ [])
+            ∙ ap (λ b. locks m before.held ++ cond b (granted_lock n.request ∷ []) []) (ap (λ k. bytes_eq k m) (same_text n.request.name w.name (sym (first_named w.name before.pending n.rest n.request n.is))) ∙ differs) ∙ append-nil (locks m before.held),
+        ap (λ (l : Lists). queue m l.pending) lists ∙ queue_other w.name m 1 before.pending differs,
+      );
       fewer = omega (arith, both, one, left);
       more = ap length held ∙ length-append before.held (map granted_lock (filter (is_request number) before.pending)) ∙ ap (λ l. length before.held + length (map granted_lock l)) only;
     }

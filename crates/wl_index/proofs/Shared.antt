@@ -15,7 +15,7 @@ use Rattle.std.proofs.lemmas.Bool.{not-true}
 use Rattle.wl_types.specs.declared.words.Mode.{Mode}
 use Rattle.wl_types.specs.declared.words.Mode.TheVariants.{Exclusive, Shared}
 use Rattle.wl_machine.specs.Grants.{is_exclusive, is_empty}
-use Rattle.wl_index.specs.Lines.{Numbered, Waiting, excludes, admits, other_than, head_number, first_left, first_or, holders_of, holder_without, live_after, waits_from, after_grant, without_admitted, IsLine}
+use Rattle.wl_index.specs.Queue.{Numbered, Waiting, excludes, admits, other_than, head_number, first_left, first_or, holders_of, holder_without, live_after, waits_from, after_grant, without_admitted, IsQueue}
 use Rattle.wl_index.proofs.Lists.{all_append, all_filter}
 use Rattle.wl_numbered.proofs.Keyed.{removed_at, entry_last}
 use Rattle.wl_index.proofs.Waits.{seam, after_seam, heads_apart, head_left}
@@ -27,10 +27,10 @@ fronts front waits =
     let less : length (front ++ waits) - length waits ≡ length front = omega (arith, sum) in
     ap (λ n. take n (front ++ waits)) less ∙ take-append_seam front waits
 
-holders_front : (live waits : List Numbered) (first : Option ℕ) (is : IsLine live waits first None) → holders_of None live waits ≡ is.front
+holders_front : (live waits : List Numbered) (first : Option ℕ) (is : IsQueue live waits first None) → holders_of None live waits ≡ is.front
 holders_front live waits first is = ap (λ l. take (length l - length waits) l) is.whole ∙ fronts is.front waits
 
-sorted_whole : (live waits : List Numbered) (first holder : Option ℕ) → (is : IsLine live waits first holder) → IsStrictlySortedBy nat_cmp (keys_of (is.front ++ waits))
+sorted_whole : (live waits : List Numbered) (first holder : Option ℕ) → (is : IsQueue live waits first holder) → IsStrictlySortedBy nat_cmp (keys_of (is.front ++ waits))
 sorted_whole live waits first holder is = subst (λ l. IsStrictlySortedBy nat_cmp (keys_of l)) is.whole is.ordered
 
 same_head : (first : Option ℕ) → option_eq nat_eq first first ≡ true
@@ -38,7 +38,7 @@ same_head None = refl
 same_head (Some n) = grind (arith)
 
 -- the first of the live waits: nobody holds
-free_heads : (live waits : List Numbered) (first : Option ℕ) → IsLine live waits first None → option_eq nat_eq (head_number live) first ≡ is_empty (holders_of None live waits)
+free_heads : (live waits : List Numbered) (first : Option ℕ) → IsQueue live waits first None → option_eq nat_eq (head_number live) first ≡ is_empty (holders_of None live waits)
 free_heads live waits first is = ap (λ l. option_eq nat_eq (head_number l) first) is.whole ∙ ap (option_eq nat_eq (head_number (is.front ++ waits))) is.leads ∙ by is.front refl (sorted_whole live waits first None is) ∙ ap is_empty (sym (holders_front live waits first is))
   where
     by : (front : List Numbered) → is.front ≡ front → IsStrictlySortedBy nat_cmp (keys_of (is.front ++ waits)) → option_eq nat_eq (head_number (is.front ++ waits)) (head_number waits) ≡ is_empty is.front
@@ -49,25 +49,17 @@ none_shared : (front : List Numbered) → AllByRecursion (λ (e : Numbered). is_
 none_shared [] all = refl
 none_shared (e ∷ front) all = rw all.0 (none_shared front all.1)
 
-pub excluded : (live waits : List Numbered) (first holder : Option ℕ) → IsLine live waits first holder → is_some holder ≡ excludes (holders_of holder live waits)
+pub excluded : (live waits : List Numbered) (first holder : Option ℕ) → IsQueue live waits first holder → is_some holder ≡ excludes (holders_of holder live waits)
 excluded live waits first None is = sym (ap excludes (holders_front live waits first is) ∙ none_shared is.front is.shared)
 excluded live waits first (Some number) is = refl
 
-pub is_free : (live waits : List Numbered) (first holder : Option ℕ) → IsLine live waits first holder → (not (is_some holder) && option_eq nat_eq (head_number live) first) ≡ is_empty (holders_of holder live waits)
+pub is_free : (live waits : List Numbered) (first holder : Option ℕ) → IsQueue live waits first holder → (not (is_some holder) && option_eq nat_eq (head_number live) first) ≡ is_empty (holders_of holder live waits)
 is_free live waits first None is = free_heads live waits first is
 is_free live waits first (Some number) is = refl
 
--- nobody waits just where none is the first
-pub none_waits : (live waits : List Numbered) (first holder : Option ℕ) → IsLine live waits first holder → not (is_some first) ≡ is_empty waits
-none_waits live waits first holder is = ap (λ f. not (is_some f)) is.leads ∙ by waits
-  where
-    by : (ws : List Numbered) → not (is_some (head_number ws)) ≡ is_empty ws
-    by [] = refl
-    by (e ∷ ws) = refl
-
 -- ---- one more waits
 
-all_live : (live waits : List Numbered) (first holder : Option ℕ) (number : ℕ) → IsLine live waits first holder → AllByRecursion (λ (e : Numbered). e.0 < number) waits → AllByRecursion (λ (e : Numbered). e.0 < number) (holders_of holder live waits) → AllByRecursion (λ (e : Numbered). e.0 < number) live
+all_live : (live waits : List Numbered) (first holder : Option ℕ) (number : ℕ) → IsQueue live waits first holder → AllByRecursion (λ (e : Numbered). e.0 < number) waits → AllByRecursion (λ (e : Numbered). e.0 < number) (holders_of holder live waits) → AllByRecursion (λ (e : Numbered). e.0 < number) live
 all_live live waits first None number is below holders =
     rw is.whole (all_append (λ (e : Numbered). e.0 < number) is.front waits (rw (← holders_front live waits first is) holders) below)
 all_live live waits first (Some n) number is below holders = rw (is.whole, is.alone refl) below
@@ -78,21 +70,21 @@ first_of_more number mode (e ∷ waits) = refl
 
 -- a line after a step: those that wait, and the holders
 pub record Stepped (live : List Numbered) (first holder : Option ℕ) (waits holders : List Numbered) : Type 0 where
-  pub line : IsLine live (waits_from first live) first holder
+  pub line : IsQueue live (waits_from first live) first holder
   pub waits_is : waits_from first live ≡ waits
   pub holders_is : holders_of holder live (waits_from first live) ≡ holders
 
-stepped : (live waits holders : List Numbered) (first holder : Option ℕ) → IsLine live waits first holder → holders_of holder live waits ≡ holders → Stepped live first holder waits holders
+stepped : (live waits holders : List Numbered) (first holder : Option ℕ) → IsQueue live waits first holder → holders_of holder live waits ≡ holders → Stepped live first holder waits holders
 stepped live waits holders first holder is holds =
     let there : waits_from first live ≡ waits = ap (λ f. waits_from f live) is.leads ∙ ap (waits_from (head_number waits)) is.whole ∙ seam is.front waits (sorted_whole live waits first holder is) in
     record { line = rw there is; waits_is = there; holders_is = ap (holders_of holder live) there ∙ holds }
 
 -- the holders are the same where the same stand in front
-holders_same : (live waits live' waits' : List Numbered) (first first' holder : Option ℕ) (is : IsLine live waits first holder) (next : IsLine live' waits' first' holder) → next.front ≡ is.front → holders_of holder live' waits' ≡ holders_of holder live waits
+holders_same : (live waits live' waits' : List Numbered) (first first' holder : Option ℕ) (is : IsQueue live waits first holder) (next : IsQueue live' waits' first' holder) → next.front ≡ is.front → holders_of holder live' waits' ≡ holders_of holder live waits
 holders_same live waits live' waits' first first' None is next same = holders_front live' waits' first' next ∙ same ∙ sym (holders_front live waits first is)
 holders_same live waits live' waits' first first' (Some n) is next same = refl
 
-pub pushed : (live live' : List Numbered) (first holder : Option ℕ) (number : ℕ) (mode : Mode) → IsLine live (waits_from first live) first holder
+pub pushed : (live live' : List Numbered) (first holder : Option ℕ) (number : ℕ) (mode : Mode) → IsQueue live (waits_from first live) first holder
     → AllByRecursion (λ (e : Numbered). e.0 < number) (waits_from first live) → AllByRecursion (λ (e : Numbered). e.0 < number) (holders_of holder live (waits_from first live))
     → live' ≡ insert_entry nat_cmp live number mode → IsStrictlySortedBy nat_cmp (keys_of live')
     → Stepped live' (first_or number first) holder (waits_from first live ++ (number, mode) ∷ []) (holders_of holder live (waits_from first live))
@@ -100,7 +92,7 @@ pushed live live' first holder number mode is below holders inserted sorted =
     let waits = waits_from first live in
     let more : List Numbered = (number, mode) ∷ [] in
     let live_is : live' ≡ live ++ more = inserted ∙ entry_last live number mode (all_live live waits first holder number is below holders) in
-    let next : IsLine live' (waits ++ more) (first_or number first) holder = record {
+    let next : IsQueue live' (waits ++ more) (first_or number first) holder = record {
       front = is.front;
       whole = live_is ∙ ap (λ l. l ++ more) is.whole ∙ append_assoc is.front waits more;
       ordered = sorted;
@@ -112,7 +104,7 @@ pushed live live' first holder number mode is below holders inserted sorted =
 
 -- ---- one ends
 
-removed_line : (live waits : List Numbered) (first holder : Option ℕ) (number : ℕ) → IsLine live waits first holder → IsStrictlySortedBy nat_cmp (keys_of (filter (other_than number) live)) → IsLine (filter (other_than number) live) (filter (other_than number) waits) (first_left number first live) (holder_without number holder)
+removed_line : (live waits : List Numbered) (first holder : Option ℕ) (number : ℕ) → IsQueue live waits first holder → IsStrictlySortedBy nat_cmp (keys_of (filter (other_than number) live)) → IsQueue (filter (other_than number) live) (filter (other_than number) waits) (first_left number first live) (holder_without number holder)
 removed_line live waits first holder number is ordered = record {
   front = filter (other_than number) is.front;
   whole = ap (filter (other_than number)) is.whole ∙ filter-append (other_than number) is.front waits;
@@ -126,7 +118,7 @@ removed_line live waits first holder number is ordered = record {
     still None some = some
     still (Some n) some = refl
 
-removed_holders : (live waits : List Numbered) (first holder : Option ℕ) (number : ℕ) → IsLine live waits first holder
+removed_holders : (live waits : List Numbered) (first holder : Option ℕ) (number : ℕ) → IsQueue live waits first holder
     → holders_of (holder_without number holder) (filter (other_than number) live) (filter (other_than number) waits) ≡ filter (other_than number) (holders_of holder live waits)
 removed_holders live waits first None number is =
     ap (λ l. take (length l - length (filter (other_than number) waits)) l) (ap (filter (other_than number)) is.whole ∙ filter-append (other_than number) is.front waits) ∙ fronts (filter (other_than number) is.front) (filter (other_than number) waits) ∙ ap (filter (other_than number)) (sym (holders_front live waits first is))
@@ -139,7 +131,7 @@ removed_holders live waits first (Some n) number is = by (n == number) refl
     by true h = rw (h, no_live) (fronts [] (filter (other_than number) waits))
     by false h = rw h refl
 
-pub removed_from : (live live' : List Numbered) (first holder : Option ℕ) (number : ℕ) → IsLine live (waits_from first live) first holder
+pub removed_from : (live live' : List Numbered) (first holder : Option ℕ) (number : ℕ) → IsQueue live (waits_from first live) first holder
     → live' ≡ remove_entry (is_at (nat_cmp number)) live → IsStrictlySortedBy nat_cmp (keys_of live')
     → Stepped live' (first_left number first live) (holder_without number holder) (filter (other_than number) (waits_from first live)) (filter (other_than number) (holders_of holder live (waits_from first live)))
 removed_from live live' first holder number is removed sorted =
@@ -157,13 +149,13 @@ empty (x ∷ l) h = absurd (cc)
 abbrev pub line_now : List ℕ → List Numbered → List Numbered → Waiting
 line_now name waits holders = record { name = name; waits = waits; holders = holders }
 
-first_after_it : (live waits rest : List Numbered) (e : Numbered) (first holder : Option ℕ) → (is : IsLine live waits first holder) → waits ≡ e ∷ rest → head_number (live_after e.0 live) ≡ head_number rest
+first_after_it : (live waits rest : List Numbered) (e : Numbered) (first holder : Option ℕ) → (is : IsQueue live waits first holder) → waits ≡ e ∷ rest → head_number (live_after e.0 live) ≡ head_number rest
 first_after_it live waits rest e first holder is begins =
     let whole : live ≡ is.front ++ e ∷ rest = is.whole ∙ ap (λ w. is.front ++ w) begins in
     ap head_number (ap (live_after e.0) whole ∙ after_seam is.front rest e (subst (λ l. IsStrictlySortedBy nat_cmp (keys_of l)) whole is.ordered))
 
 -- a shared one
-pub shared_grant : (name : List ℕ) (live rest : List Numbered) (e : Numbered) (first holder : Option ℕ) → IsLine live (waits_from first live) first holder → waits_from first live ≡ e ∷ rest
+pub shared_grant : (name : List ℕ) (live rest : List Numbered) (e : Numbered) (first holder : Option ℕ) → IsQueue live (waits_from first live) first holder → waits_from first live ≡ e ∷ rest
     → admits (line_now name (waits_from first live) (holders_of holder live (waits_from first live))) e.1 ≡ true → is_exclusive e.1 ≡ false
     → Stepped live (head_number (live_after e.0 live)) holder rest (holders_of holder live (waits_from first live) ++ e ∷ [])
 shared_grant name live rest e first holder is begins free mode = by holder is none
@@ -177,10 +169,10 @@ shared_grant name live rest e first holder is begins free mode = by holder is no
     none : is_some holder ≡ false
     none = excluded live waits first holder is ∙ not-true (excludes (holders_of holder live waits)) admitted
 
-    by : (h : Option ℕ) → IsLine live waits first h → is_some h ≡ false → Stepped live (head_number (live_after e.0 live)) h rest (holders_of h live waits ++ e ∷ [])
+    by : (h : Option ℕ) → IsQueue live waits first h → is_some h ≡ false → Stepped live (head_number (live_after e.0 live)) h rest (holders_of h live waits ++ e ∷ [])
     by (Some n) was some = absurd (cc)
     by None was some =
-        let next : IsLine live rest (head_number (live_after e.0 live)) None = record {
+        let next : IsQueue live rest (head_number (live_after e.0 live)) None = record {
           front = was.front ++ e ∷ [];
           whole = was.whole ∙ ap (λ w. was.front ++ w) begins ∙ sym (append_assoc was.front (e ∷ []) rest);
           ordered = was.ordered;
@@ -195,7 +187,7 @@ exclusive_is Shared is = absurd (cc)
 exclusive_is Exclusive is = refl
 
 -- an exclusive one, where nobody holds: it leaves the live
-pub exclusive_grant : (name : List ℕ) (live live' rest : List Numbered) (e : Numbered) (first holder : Option ℕ) → IsLine live (waits_from first live) first holder → waits_from first live ≡ e ∷ rest
+pub exclusive_grant : (name : List ℕ) (live live' rest : List Numbered) (e : Numbered) (first holder : Option ℕ) → IsQueue live (waits_from first live) first holder → waits_from first live ≡ e ∷ rest
     → admits (line_now name (waits_from first live) (holders_of holder live (waits_from first live))) e.1 ≡ true → is_exclusive e.1 ≡ true
     → ((x : Numbered) (l : List Numbered) → live ≡ x ∷ l → live' ≡ l)
     → Stepped live' (head_number (live_after e.0 live)) (Some e.0) rest (holders_of holder live (waits_from first live) ++ e ∷ [])
@@ -204,13 +196,13 @@ exclusive_grant name live live' rest e first holder is begins free mode popped =
     waits : List Numbered
     waits = waits_from first live
 
-    by : (h : Option ℕ) → IsLine live waits first h → is_empty (holders_of h live waits) ≡ true → Stepped live' (head_number (live_after e.0 live)) (Some e.0) rest (holders_of h live waits ++ e ∷ [])
+    by : (h : Option ℕ) → IsQueue live waits first h → is_empty (holders_of h live waits) ≡ true → Stepped live' (head_number (live_after e.0 live)) (Some e.0) rest (holders_of h live waits ++ e ∷ [])
     by (Some n) was none = absurd (cc)
     by None was none =
         let front : was.front ≡ [] = empty was.front (ap is_empty (sym (holders_front live waits first was)) ∙ none) in
         let whole : live ≡ e ∷ rest = was.whole ∙ ap (λ f. f ++ waits) front ∙ begins in
         let left : live' ≡ rest = popped e rest whole in
-        let next : IsLine live' rest (head_number (live_after e.0 live)) (Some e.0) = record {
+        let next : IsQueue live' rest (head_number (live_after e.0 live)) (Some e.0) = record {
           front = [];
           whole = left;
           ordered = rw left (sorted_tail nat_cmp e.0 (keys_of rest) (subst (λ l. IsStrictlySortedBy nat_cmp (keys_of l)) whole was.ordered));

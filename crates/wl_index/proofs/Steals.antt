@@ -1,6 +1,6 @@
 -- A steal is settled at its own name alone.
 use Rattle.std.proofs.Common.{◌≡◌, ℕ, Bool, true, false, cond, List, [], ◌∷◌, ◌++◌, refl, ap, subst, sym, ◌∙◌, append-nil}
-use Rattle.std.specs.Prelude.{not, ◌&&◌, ◌||◌, filter, Option, Some, None, is_some, nat_le}
+use Rattle.std.specs.Prelude.{not, ◌&&◌, ◌||◌, filter, Option, Some, None, is_some}
 use Rattle.std.specs.Str.{bytes_eq}
 use Rattle.std.specs.List.{AllByRecursion}
 use Rattle.std.specs.Cmp.Lexicographic.{same_text}
@@ -10,22 +10,23 @@ use Rattle.wl_types.specs.declared.words.Mode.{Mode}
 use Rattle.wl_types.specs.declared.words.Mode.TheVariants.{Exclusive, Shared}
 use Rattle.wl_types.specs.declared.phases.Phase.TheVariants.{Stolen}
 use Rattle.wl_types.specs.declared.refusal.Refusal.{Refusal}
-use Rattle.wl_types.specs.declared.refusal.Refusal.TheVariants.{StealShared, InvalidState, NameTooLong, TooManyRequests, NumbersSpent, ReservedName, StealIfAvailable, SignalCombined}
+use Rattle.wl_types.specs.declared.refusal.Refusal.TheVariants.{StealShared, ReservedName, StealIfAvailable, SignalCombined}
 use Rattle.wl_types.specs.declared.ask.Ask.{Ask}
 use Rattle.wl_types.specs.Refusals.{refuse_if, first_refusal}
-use Rattle.wl_types.specs.Names.{is_long, is_reserved}
-use Rattle.wl_types.specs.Asks.{is_shared, ask_refusal}
+use Rattle.wl_types.specs.Names.{is_reserved}
+use Rattle.wl_types.specs.Asks.{is_shared}
 use Rattle.wl_machine.specs.declared.rows.HeldRow.{HeldRow}
 use Rattle.wl_machine.specs.declared.rows.PendingRow.{PendingRow}
 use Rattle.wl_machine.specs.declared.command.Command.TheVariants as command
 use Rattle.wl_machine.specs.declared.command.Reply.TheVariants as reply
 use Rattle.wl_machine.specs.State.{State}
-use Rattle.wl_machine.specs.Refusals.{refusal, known_agent, is_inactive, unknown_signal, aborted_signal, live_count, spent}
+use Rattle.wl_machine.specs.Refusals.{refusal}
 use Rattle.wl_machine.specs.Grants.{any_exclusive, grants, locks, queue, granted_lock, grant_change, Lists, lists_of, settle_name, settle_names}
 use Rattle.wl_machine.specs.Step.{Gives, with_name, new_request, steal_locks, lock_ends}
 use Rattle.wl_machine.proofs.Reachable.{among_added}
 use Rattle.wl_machine.proofs.Quiet.{quiet, grants_behind}
 use Rattle.wl_machine.proofs.Lists.{same_bytes, other_bytes, filters_commute}
+use Rattle.wl_index.proofs.Accepted.{first_none, request_accepted}
 use Rattle.wl_index.proofs.Lists.{filter_whole, filter_none, all_weaker, filter_passed}
 use Rattle.wl_index.proofs.Local.{settle_one_name, settle_all_quiet}
 use Rattle.wl_index.proofs.Events.{with_lists, settled_is}
@@ -41,7 +42,7 @@ locks_others name m held differs =
     filters_commute (λ (x : HeldRow). bytes_eq x.name m) (λ x. not (bytes_eq x.name name)) held
     ∙ filter_whole (λ (x : HeldRow). not (bytes_eq x.name name)) (locks m held) (others_apart name m (locks m held) differs (filter_passed (λ (x : HeldRow). bytes_eq x.name m) held))
 
-locks_own : (name : List ℕ) (held : List HeldRow) → locks name (without_name name held) ≡ []
+pub locks_own : (name : List ℕ) (held : List HeldRow) → locks name (without_name name held) ≡ []
 locks_own name held =
     filter_none (λ (x : HeldRow). bytes_eq x.name name) (without_name name held)
     (all_weaker (λ (x : HeldRow). not (bytes_eq x.name name) ≡ true) (λ x. bytes_eq x.name name ≡ false) (without_name name held) (λ x no. not-true (bytes_eq x.name name) no) (filter_passed (λ (x : HeldRow). not (bytes_eq x.name name)) held))
@@ -90,17 +91,12 @@ steal_gives s agent ask lists accepted steals mode still is =
 
 -- ---- a request that steals, and that nothing refuses, is exclusive
 
-first_none : (o : Option Refusal) (rest : List (Option Refusal)) → first_refusal (o ∷ rest) ≡ None → (o ≡ None) × (first_refusal rest ≡ None)
-first_none None rest none = (refl, none)
-first_none (Some r) rest none = absurd (cc)
-
 third_none : (a b c : Option Refusal) (rest : List (Option Refusal)) → first_refusal (a ∷ b ∷ c ∷ rest) ≡ None → c ≡ None
 third_none a b c rest none = (first_none c rest (first_none b (c ∷ rest) (first_none a (b ∷ c ∷ rest) none).1).1).0
 
 pub steal_exclusive : (s : State) (agent : ℕ) (ask : Ask) → refusal s (command.Request agent ask) ≡ None → ask.steal ≡ true → ask.mode ≡ Exclusive
 steal_exclusive s agent ask accepted steals =
-    let asked : ask_refusal ask ≡ None = third_none (known_agent s agent) (refuse_if (is_inactive s agent) InvalidState) (ask_refusal ask)
-    (unknown_signal s agent ask.signal ∷ aborted_signal s agent ask.signal ∷ refuse_if (is_long ask.name) NameTooLong ∷ refuse_if (nat_le 65536 (live_count s)) TooManyRequests ∷ refuse_if (spent s.next.request) NumbersSpent ∷ []) accepted in
+    let asked = (request_accepted s agent ask accepted).allowed in
     let mode : refuse_if (ask.steal && is_shared ask.mode) StealShared ≡ None = third_none (refuse_if (is_reserved ask.name) ReservedName) (refuse_if (ask.steal && ask.if_available) StealIfAvailable) (refuse_if (ask.steal && is_shared ask.mode) StealShared)
     (refuse_if (is_some ask.signal && (ask.steal || ask.if_available)) SignalCombined ∷ []) asked in
     by ask.mode refl mode

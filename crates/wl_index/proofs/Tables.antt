@@ -10,8 +10,8 @@ use Rattle.std.proofs.lemmas.Bool.Decides.{nat_tests}
 use Rattle.std.proofs.lemmas.List.{length-append}
 use Rattle.std.proofs.lemmas.List.Elements.{filter-append}
 use Rattle.wl_machine.proofs.Lists.{filters_commute}
-use Rattle.wl_index.specs.declared.table.Request.{Request}
-use Rattle.wl_index.specs.declared.table.Stage.TheVariants.{Pending}
+use Rattle.wl_index.specs.declared.request.Request.{Request}
+use Rattle.wl_index.specs.declared.request.Stage.TheVariants.{Pending}
 use Rattle.wl_index.specs.Stamps.{Distinct}
 use Rattle.wl_index.specs.Rows.{Entry, other, waiting, holding, stamp_of, IsTable}
 use Rattle.wl_index.proofs.Distinct.{distinct_filter}

@@ -1,6 +1,6 @@
 -- The live requests on the lists of their agents and signals: one more, one less, and none of an agent.
 use Rattle.std.proofs.Common.{◌≡◌, ℕ, ◌<◌, ◌==◌, Bool, true, false, cond, List, [], ◌∷◌, ◌++◌, refl, ap, subst, sym, ◌∙◌}
-use Rattle.std.specs.Prelude.{not, filter, Option, Some, None, is_some}
+use Rattle.std.specs.Prelude.{not, filter, Option, Some, None, is_some, Result, Ok, Err, OnOk, OnErr, ◌+◌}
 use Rattle.std.specs.List.{AllByRecursion, Contains, list_any}
 use Rattle.std.specs.List.Sorted.{IsStrictlySortedBy}
 use Rattle.std.specs.Map.{keys_of, lookup}
@@ -9,33 +9,32 @@ use Rattle.std.specs.Ordering.{nat_cmp}
 use Rattle.std.proofs.lemmas.List.{map-append}
 use Rattle.wl_machine.specs.declared.rows.HeldRow.{HeldRow}
 use Rattle.wl_machine.specs.declared.rows.PendingRow.{PendingRow}
-use Rattle.wl_machine.specs.Step.{is_signal}
+use Rattle.wl_types.specs.declared.ask.Ask.{Ask}
+use Rattle.wl_types.specs.declared.memory.Memory.{Memory}
+use Rattle.wl_machine.specs.Step.{is_signal, with_name}
 use Rattle.wl_machine.proofs.Covers.{alike}
-use Rattle.wl_machine.proofs.Lists.{and_first, and_second, any_map, filter_map, or_false}
-use Rattle.wl_index.specs.declared.ending.Owner.{Owner}
-use Rattle.wl_index.specs.declared.ending.Owner.TheVariants.{Signal, Agent}
-use Rattle.wl_index.specs.declared.groups.Group.{Group}
+use Rattle.wl_machine.proofs.Lists.{and_first, and_second, any_map, or_false}
+use Rattle.wl_index.specs.declared.request.Owner.{Owner}
+use Rattle.wl_index.specs.declared.request.Owner.TheVariants as owner
+use Rattle.wl_index.specs.declared.agents.Agent.{Agent}
 use Rattle.wl_index.specs.Stamps.{by_stamp}
 use Rattle.wl_index.specs.Rows.{Entry, Tag, tag, tags_of, other, waits, waiting, holding, stamp_of, request_row, lock_row, pending_of, held_of}
-use Rattle.wl_index.specs.Groups.{at, own_of, signed_of, IsOn, IsRising, Keeps, IsGrouped, without_tag}
+use Rattle.wl_index.specs.Lists.{at, own_of, signed_of, IsOn, Keeps, IsGrouped, SameLists}
 use Rattle.wl_index.specs.Ends.{ends_request, ends_lock, HasNone, IsOwners}
-use Rattle.wl_index.proofs.Lists.{all_append, all_filter, any_by_stamp}
+use Rattle.wl_index.specs.Locks.{Board, asked}
+use Rattle.wl_index.proofs.Lists.{all_append, any_by_stamp}
 use Rattle.wl_numbered.proofs.Keyed.{found_each, same_number}
-use Rattle.wl_index.proofs.Grouping.{updated, no_group_rises}
 use Rattle.wl_index.proofs.Rows.{holds_or_waits}
 
 pub tags_more : (es : List Entry) (e : Entry) → tags_of (es ++ e ∷ []) ≡ tags_of es ++ tag e ∷ []
 tags_more es e = map-append tag es (e ∷ [])
 
-pub tags_less : (number : ℕ) (es : List Entry) → tags_of (filter (other number) es) ≡ without_tag number (tags_of es)
-tags_less number es = sym (filter_map (λ (t : Tag). not (t.number == number)) tag es)
-
-abbrev is_on : List (ℕ × Group) → Tag → Type 0
-is_on groups t = IsOn (at t.agent groups) t.number t.signal
+abbrev is_on : List (ℕ × Agent) → Tag → Type 0
+is_on agents t = IsOn (at t.agent agents) t.number t.signal
 
 -- lists that keep what is live
-pub grouped_kept : (es : List Entry) (before after : List (ℕ × Group)) → IsStrictlySortedBy nat_cmp (keys_of es) → ((a : ℕ) → Keeps es (at a before) (at a after)) → ((a : ℕ) → IsRising (at a after)) → IsGrouped (tags_of es) before → IsGrouped (tags_of es) after
-grouped_kept es before after sorted keeps rising is = record { on = all es (found_each es sorted) is.on; rising = rising }
+pub grouped_kept : (es : List Entry) (before after : List (ℕ × Agent)) → IsStrictlySortedBy nat_cmp (keys_of es) → ((a : ℕ) → Keeps es (at a before) (at a after)) → IsGrouped (tags_of es) before → IsGrouped (tags_of es) after
+grouped_kept es before after sorted keeps is = all es (found_each es sorted) is
   where
     all : (l : List Entry) → AllByRecursion (λ (e : Entry). lookup (is_at (nat_cmp e.0)) es ≡ Some e.1) l → AllByRecursion (is_on before) (tags_of l) → AllByRecursion (is_on after) (tags_of l)
     all [] there on = tt
@@ -44,24 +43,34 @@ grouped_kept es before after sorted keeps rising is = record { on = all es (foun
         let k = keeps e.1.agent in
         (record { own = k.own e.0 live on.0.own; signed = λ s is. k.signed s e.0 live (on.0.signed s is) }, all l there.1 on.1)
 
--- one more
-pub grouped_more : (number agent : ℕ) (signal : Option ℕ) (tags : List Tag) (groups : List (ℕ × Group)) → IsOn (at agent groups) number signal → IsGrouped tags groups → IsGrouped (tags ++ record { number = number; agent = agent; signal = signal } ∷ []) groups
-grouped_more number agent signal tags groups on is = record { on = all_append (is_on groups) tags (record { number = number; agent = agent; signal = signal } ∷ []) is.on (on, tt); rising = is.rising }
+-- lists that stay
+pub grouped_same : (tags : List Tag) (before after : List (ℕ × Agent)) → SameLists before after → IsGrouped tags before → IsGrouped tags after
+grouped_same [] before after same on = tt
+grouped_same (t ∷ tags) before after same on =
+    let s = same t.agent in
+    (record { own = subst (λ l. Contains l t.number) (sym s.0) on.0.own; signed = λ k is. subst (λ l. Contains l t.number) (sym (s.1 k)) (on.0.signed k is) }, grouped_same tags before after same on.1)
 
--- one less
-pub grouped_less : (number : ℕ) (tags : List Tag) (groups : List (ℕ × Group)) → IsGrouped tags groups → IsGrouped (without_tag number tags) groups
-grouped_less number tags groups is = record { on = all_filter (is_on groups) (λ (t : Tag). not (t.number == number)) tags is.on; rising = is.rising }
+-- some of the live
+pub grouped_fewer : (p : Entry → Bool) (es : List Entry) (agents : List (ℕ × Agent)) → IsGrouped (tags_of es) agents → IsGrouped (tags_of (filter p es)) agents
+grouped_fewer p [] agents on = tt
+grouped_fewer p (e ∷ es) agents on = by (p e) (grouped_fewer p es agents on.1)
+  where
+    by : (b : Bool) → IsGrouped (tags_of (filter p es)) agents → IsGrouped (tags_of (cond b (e ∷ filter p es) (filter p es))) agents
+    by true rest = (on.0, rest)
+    by false rest = rest
 
 -- an agent that has none loses its lists
-pub grouped_gone : (agent : ℕ) (es : List Entry) (before after : List (ℕ × Group)) → ((q : ℕ) → at q after ≡ cond (is_at (nat_cmp agent) q) None (at q before)) → AllByRecursion (λ (e : Entry). (e.1.agent == agent) ≡ false) es → IsGrouped (tags_of es) before → IsGrouped (tags_of es) after
-grouped_gone agent es before after is none grouped =
-    record { on = all es none grouped.on; rising = updated (λ _ g. IsRising g) agent None before after is no_group_rises grouped.rising }
-  where
-    all : (l : List Entry) → AllByRecursion (λ (e : Entry). (e.1.agent == agent) ≡ false) l → AllByRecursion (is_on before) (tags_of l) → AllByRecursion (is_on after) (tags_of l)
-    all [] others on = tt
-    all (e ∷ l) others on =
-        let same : at e.1.agent after ≡ at e.1.agent before = is e.1.agent ∙ ap (λ b. cond b None (at e.1.agent before)) (same_number agent e.1.agent ∙ others.0) in
-        (subst (λ g. IsOn g e.0 e.1.signal) (sym same) on.0, all l others.1 on.1)
+pub grouped_gone : (agent : ℕ) (es : List Entry) (before after : List (ℕ × Agent)) → ((other : ℕ) → (other == agent) ≡ false → at other after ≡ at other before) → AllByRecursion (λ (e : Entry). (e.1.agent == agent) ≡ false) es → IsGrouped (tags_of es) before → IsGrouped (tags_of es) after
+grouped_gone agent [] before after others apart on = tt
+grouped_gone agent (e ∷ es) before after others apart on =
+    (subst (λ g. IsOn g e.0 e.1.signal) (sym (others e.1.agent apart.0)) on.0, grouped_gone agent es before after others apart.1 on.1)
+
+-- a request came, and its agent's lists have its number; or nothing came
+pub grouped_asked : (r : Result ℕ Memory) (before after : Board) (agent : ℕ) (ask : Ask) (members members' : List (ℕ × Agent)) → IsStrictlySortedBy nat_cmp (keys_of before.entries) → ((a : ℕ) → Keeps before.entries (at a members) (at a members')) → IsGrouped (tags_of before.entries) members
+    → IsOn (at agent members') before.next ask.signal → OnOk r (after ≡ record before { entries = before.entries ++ (before.next, asked agent ask) ∷ []; next = before.next + 1; names = with_name ask.name before.names }) → OnErr r (after ≡ before) → IsGrouped (tags_of after.entries) members'
+grouped_asked (Ok n) before after agent ask members members' sorted keeps grouped on came same =
+    rw (came, tags_more before.entries (before.next, asked agent ask)) (all_append (is_on members') (tags_of before.entries) (tag (before.next, asked agent ask) ∷ []) (grouped_kept before.entries members members' sorted keeps grouped) (on, tt))
+grouped_asked (Err e) before after agent ask members members' sorted keeps grouped on came same = rw same (grouped_kept before.entries members members' sorted keeps grouped)
 
 -- ---- what a look finds
 
@@ -81,14 +90,14 @@ with_it : (number : ℕ) (signal : Option ℕ) → is_signal number signal ≡ t
 with_it number None is = absurd (cc is)
 with_it number (Some other) is = ap Some (alike other number is)
 
-pub owners_own : (agent : ℕ) (es : List Entry) (groups : List (ℕ × Group)) → AllByRecursion (is_on groups) (tags_of es) → IsOwners (Agent agent) es (own_of (at agent groups))
-owners_own agent [] groups on = tt
-owners_own agent (e ∷ es) groups on = ((λ is. subst (λ a. Contains (own_of (at a groups)) e.0) (alike e.1.agent agent is) on.0.own), owners_own agent es groups on.1)
+pub owners_own : (agent : ℕ) (es : List Entry) (agents : List (ℕ × Agent)) → AllByRecursion (is_on agents) (tags_of es) → IsOwners (owner.Agent agent) es (own_of (at agent agents))
+owners_own agent [] agents on = tt
+owners_own agent (e ∷ es) agents on = ((λ is. subst (λ a. Contains (own_of (at a agents)) e.0) (alike e.1.agent agent is) on.0.own), owners_own agent es agents on.1)
 
-pub owners_signed : (agent signal : ℕ) (es : List Entry) (groups : List (ℕ × Group)) → AllByRecursion (is_on groups) (tags_of es) → IsOwners (Signal agent signal) es (signed_of signal (at agent groups))
-owners_signed agent signal [] groups on = tt
-owners_signed agent signal (e ∷ es) groups on =
-    ((λ is. subst (λ a. Contains (signed_of signal (at a groups)) e.0) (alike e.1.agent agent (and_first (e.1.agent == agent) (is_signal signal e.1.signal) is)) (on.0.signed signal (with_it signal e.1.signal (and_second (e.1.agent == agent) (is_signal signal e.1.signal) is)))), owners_signed agent signal es groups on.1)
+pub owners_signed : (agent signal : ℕ) (es : List Entry) (agents : List (ℕ × Agent)) → AllByRecursion (is_on agents) (tags_of es) → IsOwners (owner.Signal agent signal) es (signed_of signal (at agent agents))
+owners_signed agent signal [] agents on = tt
+owners_signed agent signal (e ∷ es) agents on =
+    ((λ is. subst (λ a. Contains (signed_of signal (at a agents)) e.0) (alike e.1.agent agent (and_first (e.1.agent == agent) (is_signal signal e.1.signal) is)) (on.0.signed signal (with_it signal e.1.signal (and_second (e.1.agent == agent) (is_signal signal e.1.signal) is)))), owners_signed agent signal es agents on.1)
 
 -- ---- none is left of an agent
 
@@ -110,8 +119,8 @@ neither p (e ∷ es) w h = by (neither p es) (waits e.1.stage) w (subst (λ b. l
     by rest false w h = let out = or_false (p e) (list_any p (filter holding es)) h in (out.0, rest w out.1)
 
 pub none_of : (owner : Owner) (es : List Entry) (pending : List PendingRow) (held : List HeldRow) → pending_of es ≡ filter (λ request. not (ends_request owner request)) pending → held_of es ≡ filter (λ lock. not (ends_lock owner lock)) held → HasNone owner es
-none_of (Signal agent signal) es pending held waits_are holds_are = tt
-none_of (Agent agent) es pending held waits_are holds_are = neither (λ (e : Entry). e.1.agent == agent) es waiting_none holding_none
+none_of (owner.Signal agent signal) es pending held waits_are holds_are = tt
+none_of (owner.Agent agent) es pending held waits_are holds_are = neither (λ (e : Entry). e.1.agent == agent) es waiting_none holding_none
   where
     asks : PendingRow → Bool
     asks request = request.agent == agent

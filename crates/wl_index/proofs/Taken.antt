@@ -1,21 +1,17 @@
--- A taken flag plays no part in what a core keeps.
-use Rattle.std.proofs.Common.{◌≡◌, ℕ, Bool, true, false, List, [], ◌∷◌, length, map, refl, ap, sym, ◌∙◌}
-use Rattle.std.specs.Prelude.{not, ◌||◌, ◌&&◌, ◌==◌}
+-- A lock is taken: nothing else changes.
+use Rattle.std.proofs.Common.{◌≡◌, ℕ, ◌==◌, Bool, true, false, List, [], ◌∷◌, map, refl, ap, sym, ◌∙◌}
+use Rattle.std.specs.Prelude.{not, ◌&&◌, ◌||◌}
 use Rattle.std.specs.Str.{bytes_eq}
-use Rattle.std.specs.List.{list_any, AllByRecursion}
-use Rattle.std.proofs.lemmas.List.{length-map}
+use Rattle.std.specs.List.{list_any}
 use Rattle.wl_machine.specs.declared.rows.HeldRow.{HeldRow}
 use Rattle.wl_machine.specs.declared.rows.PendingRow.{PendingRow}
-use Rattle.wl_machine.specs.Grants.{is_exclusive, any_exclusive, is_empty, grants, locks, queue, in_use}
-use Rattle.wl_machine.specs.declared.command.Command.TheVariants as command
-use Rattle.wl_machine.specs.declared.command.Reply.TheVariants as reply
-use Rattle.wl_types.specs.declared.answers.TakeAnswer.TheVariants as took
-use Rattle.wl_machine.specs.State.{State}
-use Rattle.wl_machine.specs.Step.{Gives, is_untaken, with_taken}
+use Rattle.wl_machine.specs.Grants.{any_exclusive, grants, in_use, is_empty, is_exclusive, locks, queue}
+use Rattle.wl_machine.specs.Step.{is_untaken, with_taken}
 use Rattle.wl_machine.proofs.Lists.{filter_map}
-use Rattle.wl_index.specs.Lines.{Matches, lock_and_mode}
-use Rattle.wl_index.specs.Names.{Placed, has_place, Ready}
-use Rattle.wl_index.proofs.Lists.{filter_like}
+use Rattle.wl_index.specs.Queue.{lock_and_mode}
+use Rattle.wl_index.specs.Queues.{Placed}
+use Rattle.wl_index.specs.Locks.{IsQuiet, QueueStands, Stands}
+use Rattle.wl_index.proofs.Lists.{all_weaker, filter_like}
 
 taken_same : {X : Type 0} (f : HeldRow → X) (id : ℕ) (l : HeldRow) → ((b : Bool) → f (record l { taken = b }) ≡ f l) → f (with_taken id l) ≡ f l
 taken_same f id l same = same (l.taken || (l.number == id))
@@ -43,33 +39,26 @@ use_taken id held pending m = ap (λ b. b || list_any (λ request. bytes_eq requ
     names_taken [] = refl
     names_taken (x ∷ l) = rw (taken_same (λ (y : HeldRow). bytes_eq y.name m) id x (λ b. refl), names_taken l) refl
 
-pub ready_taken : (id : ℕ) (lines : List Placed) (held : List HeldRow) (pending : List PendingRow) → Ready lines held pending [] → Ready lines (map (with_taken id) held) pending []
-ready_taken id lines held pending ready =
-    record {
-      matched = lines_taken lines ready.matched;
-      still = λ m out. ap (λ h. grants h (queue m pending)) (locks_taken id m held) ∙ grants_taken id (locks m held) (queue m pending) ∙ ready.still m out;
-      alone = λ m some. ap length (locks_taken id m held) ∙ length-map (locks m held) (with_taken id) ∙ ready.alone m (sym (ap any_exclusive (locks_taken id m held) ∙ exclusive_taken id (locks m held)) ∙ some);
-      known = λ m out. (locks_taken id m held ∙ ap (map (with_taken id)) (ready.known m out).0, (ready.known m out).1);
-      used = used_taken lines ready.used;
-    }
-  where
-    used_taken : (l : List Placed) → AllByRecursion (λ (e : Placed). has_place [] e.0 ≡ false → in_use held pending e.1.name ≡ true) l → AllByRecursion (λ (e : Placed). has_place [] e.0 ≡ false → in_use (map (with_taken id) held) pending e.1.name ≡ true) l
-    used_taken [] all = tt
-    used_taken (e ∷ l) all = ((λ out. use_taken id held pending e.1.name ∙ all.0 out), used_taken l all.1)
+numbered_taken : (id : ℕ) (l : List HeldRow) → map lock_and_mode (map (with_taken id) l) ≡ map lock_and_mode l
+numbered_taken id [] = refl
+numbered_taken id (x ∷ l) = ap (λ t. lock_and_mode x ∷ t) (numbered_taken id l)
 
-    numbered_taken : (l : List HeldRow) → map lock_and_mode (map (with_taken id) l) ≡ map lock_and_mode l
-    numbered_taken [] = refl
-    numbered_taken (x ∷ l) = ap (λ t. lock_and_mode x ∷ t) (numbered_taken l)
+pub stands_taken : (id : ℕ) (queues : List Placed) (held : List HeldRow) (pending : List PendingRow) (touched : List ℕ) → Stands queues held pending touched → Stands queues (map (with_taken id) held) pending touched
+stands_taken id queues held pending touched stands = record {
+  are = stands.are;
+  each = all_weaker (QueueStands held pending touched) (QueueStands (map (with_taken id) held) pending touched) queues (λ e q. record {
+    matched = record {
+      waits = q.matched.waits;
+      holders = q.matched.holders ∙ sym (ap (map lock_and_mode) (locks_taken id e.1.name held) ∙ numbered_taken id (locks e.1.name held));
+    };
+    quiet = λ out. ap (λ h. grants h (queue e.1.name pending)) (locks_taken id e.1.name held) ∙ grants_taken id (locks e.1.name held) (queue e.1.name pending) ∙ q.quiet out;
+    used = λ out. use_taken id held pending e.1.name ∙ q.used out;
+  }) stands.each;
+  known = λ m none. let k = stands.known m none in (locks_taken id m held ∙ ap (map (with_taken id)) k.0, k.1);
+}
 
-    lines_taken : (l : List Placed) → AllByRecursion (λ (e : Placed). Matches e.1 held pending) l → AllByRecursion (λ (e : Placed). Matches e.1 (map (with_taken id) held) pending) l
-    lines_taken [] all = tt
-    lines_taken (e ∷ l) all = (
-      record {
-        waits = all.0.waits;
-        holders = all.0.holders ∙ sym (ap (map lock_and_mode) (locks_taken id e.1.name held) ∙ numbered_taken (locks e.1.name held));
-      },
-      lines_taken l all.1,
-    )
+pub quiet_taken : (id : ℕ) (held : List HeldRow) (pending : List PendingRow) → IsQuiet held pending → IsQuiet (map (with_taken id) held) pending
+quiet_taken id held pending quiet m = ap (λ h. grants h (queue m pending)) (locks_taken id m held) ∙ grants_taken id (locks m held) (queue m pending) ∙ quiet m
 
 flag_stays : (here taken : Bool) → (here && not taken) ≡ false → (taken || here) ≡ taken
 flag_stays true true none = refl
@@ -85,6 +74,3 @@ taken_none id (l ∷ held) none = by (is_untaken id l) refl (taken_none id held)
     by : (b : Bool) → is_untaken id l ≡ b → (list_any (is_untaken id) held ≡ false → map (with_taken id) held ≡ held) → record l { taken = l.taken || (l.number == id) } ∷ map (with_taken id) held ≡ l ∷ held
     by true h rest = absurd (let no : true ≡ false = sym (ap (λ b. b || list_any (is_untaken id) held) h) ∙ none in cc)
     by false h rest = rw (flag_stays (l.number == id) l.taken h, rest (sym (ap (λ b. b || list_any (is_untaken id) held) h) ∙ none)) refl
-
-pub untaken_gives : (s : State) (id : ℕ) → list_any (is_untaken id) s.held ≡ false → Gives s (command.Take id) s (reply.Took took.NotGranted) []
-untaken_gives s id none = rw none refl

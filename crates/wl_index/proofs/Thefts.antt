@@ -1,6 +1,6 @@
 -- The locks of a name end, one after the other.
-use Rattle.std.proofs.Common.{◌≡◌, ℕ, ◌==◌, Bool, true, false, cond, List, [], ◌∷◌, map, refl, ap, subst, sym, ◌∙◌}
-use Rattle.std.specs.Prelude.{not, ◌||◌, filter, Option, Some, None, slice_get}
+use Rattle.std.proofs.Common.{◌≡◌, ℕ, ◌==◌, Bool, true, false, cond, List, [], ◌∷◌, ◌++◌, map, refl, ap, subst, sym, ◌∙◌}
+use Rattle.std.specs.Prelude.{not, ◌&&◌, ◌||◌, filter, Option, Some, None, slice_get}
 use Rattle.std.specs.Str.{bytes_eq}
 use Rattle.std.specs.List.{list_any, AllByRecursion}
 use Rattle.std.specs.List.Sorted.{IsStrictlySortedBy}
@@ -14,13 +14,13 @@ use Rattle.wl_machine.specs.declared.rows.HeldRow.{HeldRow}
 use Rattle.wl_machine.specs.Grants.{locks}
 use Rattle.wl_machine.specs.Step.{lock_ends}
 use Rattle.wl_machine.proofs.Lists.{any_filter, filters_commute, any_map}
-use Rattle.wl_index.specs.declared.table.Request.{Request}
+use Rattle.wl_index.specs.declared.request.Request.{Request}
 use Rattle.wl_index.specs.Stamps.{by_stamp}
-use Rattle.wl_index.specs.Rows.{Entry, other, holds, holding, stamp_of, lock_row, held_of, pending_of}
-use Rattle.wl_index.proofs.Lists.{filter_out, filter_none, any_by_stamp}
+use Rattle.wl_index.specs.Rows.{Entry, other, holds, holding, stamp_of, lock_row, held_of}
+use Rattle.wl_index.specs.Locks.{no_lock_on}
+use Rattle.wl_index.proofs.Lists.{filter_out, filter_none, filter_whole, all_weaker, any_by_stamp}
 use Rattle.wl_numbered.proofs.Keyed.{Found, found, same_number, number_same, above_apart}
 use Rattle.wl_index.proofs.Rows.{held_filter}
-use Rattle.wl_index.proofs.Releases.{lock_there, lock_at, lock_is}
 use Rattle.wl_index.proofs.Ends.{other_lock, held_without}
 
 none_among : (id : ℕ) (es : List Entry) → AllByRecursion (λ (e : Entry). (e.0 == id) ≡ false) es → list_any (λ e. e.0 == id) (filter holding es) ≡ false
@@ -71,16 +71,12 @@ none_passes p (x ∷ l) none = by (p x) refl (none_passes p l)
     by true h rest = absurd (let no : (x ∷ filter p l) ≡ [] = sym (ap (λ b. cond b (x ∷ filter p l) (filter p l)) h) ∙ none in cc)
     by false h rest = rw h (rest (sym (ap (λ b. cond b (x ∷ filter p l) (filter p l)) h) ∙ none))
 
-abbrev pub not_named : List ℕ → HeldRow → Bool
-not_named name lock = not (bytes_eq lock.name name)
-
 -- the first lock of a name ends
 pub record Theft (name : List ℕ) (id : ℕ) (es : List Entry) (more : List HeldRow) : Type 0 where
   pub request : Request
   pub there : lookup (is_at (nat_cmp id)) es ≡ Some request
+  pub stolen : no_lock_on name (id, request) ≡ false
   pub rest : locks name (held_of (filter (other id) es)) ≡ more
-  pub others : filter (not_named name) (held_of (filter (other id) es)) ≡ filter (not_named name) (held_of es)
-  pub pending : pending_of (filter (other id) es) ≡ pending_of es
 
 abbrev tail : List HeldRow → List HeldRow
 tail [] = []
@@ -96,13 +92,11 @@ theft_at name es lock more r sorted first there holds_now =
     let split : lock ∷ filter p more ≡ locks name (lock_row (id, r) ∷ []) = sym (ap (λ b. cond b (lock ∷ filter p more) (filter p more)) (number_same id)) ∙ mine in
     let own = named (bytes_eq r.name name) refl split in
     let none : filter p more ≡ [] = ap tail split ∙ ap (λ b. tail (cond b (lock_row (id, r) ∷ []) [])) own in
-    let is_lock = lock_is r.agent id es r sorted there (lock_there r.agent id es sorted ∙ ap (lock_at r.agent id) there ∙ rw (holds_now, number_same r.agent) refl) in
     record {
       request = r;
       there = there;
+      stolen = ap (λ b. not (b && bytes_eq r.name name)) holds_now ∙ ap not own;
       rest = ap (locks name) (held_without id es) ∙ filters_commute (λ (l : HeldRow). bytes_eq l.name name) (other_lock id) (held_of es) ∙ ap (filter (other_lock id)) first ∙ ap (λ b. cond (not b) (lock ∷ filter (other_lock id) more) (filter (other_lock id) more)) (number_same id) ∙ filter_out p more (none_passes p more none);
-      others = ap (filter (not_named name)) (held_without id es) ∙ filters_commute (not_named name) (other_lock id) (held_of es) ∙ filter_out p (filter (not_named name) (held_of es)) (none_passes p (filter (not_named name) (held_of es)) (filters_commute p (not_named name) (held_of es) ∙ ap (filter (not_named name)) one ∙ ap (λ b. cond (not b) (lock_row (id, r) ∷ []) []) own));
-      pending = is_lock.pending;
     }
   where
     named : (b : Bool) → bytes_eq r.name name ≡ b → lock ∷ filter (λ (l : HeldRow). l.number == lock.number) more ≡ locks name (lock_row (lock.number, r) ∷ []) → bytes_eq r.name name ≡ true
@@ -142,6 +136,26 @@ stealing name id es sorted is =
     any_of : (lock : HeldRow) (more : List HeldRow) → locks name (held_of es) ≡ lock ∷ more → list_any (λ (l : HeldRow). l.number == lock.number) (held_of es) ≡ true
     any_of lock more first = any_filter (λ (l : HeldRow). l.number == lock.number) (λ l. bytes_eq l.name name) (held_of es) (ap (list_any (λ (l : HeldRow). l.number == lock.number)) first ∙ ap (λ b. b || list_any (λ (l : HeldRow). l.number == lock.number) more) (number_same lock.number))
 
--- where a name has no lock, all are of other names
-pub all_others : (name : List ℕ) (held : List HeldRow) → locks name held ≡ [] → filter (not_named name) held ≡ held
-all_others name held none = filter_out (λ (l : HeldRow). bytes_eq l.name name) held (none_passes (λ (l : HeldRow). bytes_eq l.name name) held none)
+-- the entries but for the locks of a name: without the first of those
+pub theft_entries : (name : List ℕ) (id : ℕ) (es : List Entry) (r : Request) → Found id es r → no_lock_on name (id, r) ≡ false → filter (no_lock_on name) (filter (other id) es) ≡ filter (no_lock_on name) es
+theft_entries name id es r f stolen =
+    let p = no_lock_on name in
+    let left : filter (other id) es ≡ f.front ++ f.back = ap (filter (other id)) f.whole ∙ filter-append (other id) f.front ((id, r) ∷ f.back) ∙ rw (filter_whole (other id) f.front (all_weaker (λ (e : Entry). (e.0 == id) ≡ false) (λ e. other id e ≡ true) f.front (λ e no. rw no refl) f.low), number_same id, filter_whole (other id) f.back (all_weaker (λ (e : Entry). (e.0 == id) ≡ false) (λ e. other id e ≡ true) f.back (λ e no. rw no refl) f.high)) refl in
+    ap (filter p) left ∙ filter-append p f.front f.back
+    ∙ sym (ap (filter p) f.whole ∙ filter-append p f.front ((id, r) ∷ f.back) ∙ ap (λ b. filter p f.front ++ cond b ((id, r) ∷ filter p f.back) (filter p f.back)) stolen)
+
+any_both : {X : Type 0} (p q : X → Bool) (l : List X) → list_any (λ x. p x && q x) l ≡ list_any q (filter p l)
+any_both p q [] = refl
+any_both p q (x ∷ l) = by (p x) (any_both p q l)
+  where
+    by : (b : Bool) → list_any (λ x. p x && q x) l ≡ list_any q (filter p l) → ((b && q x) || list_any (λ x. p x && q x) l) ≡ list_any q (cond b (x ∷ filter p l) (filter p l))
+    by true rest = ap (λ c. q x || c) rest
+    by false rest = rest
+
+-- where a name has no lock, they are all
+pub no_theft : (name : List ℕ) (es : List Entry) → locks name (held_of es) ≡ [] → filter (no_lock_on name) es ≡ es
+no_theft name es none =
+    filter_out (λ (e : Entry). holding e && bytes_eq e.1.name name) es (
+    any_both holding (λ (e : Entry). bytes_eq e.1.name name) es
+    ∙ sym (any_map (λ (l : HeldRow). bytes_eq l.name name) lock_row (by_stamp stamp_of (filter holding es)) ∙ any_by_stamp stamp_of (λ (e : Entry). bytes_eq e.1.name name) (filter holding es))
+    ∙ none_passes (λ (l : HeldRow). bytes_eq l.name name) (held_of es) none)

@@ -15,8 +15,8 @@ use Rattle.wl_types.specs.declared.infos.LockInfo.{LockInfo}
 use Rattle.wl_machine.specs.Grants.{queue}
 use Rattle.wl_machine.specs.Step.{lock_info, request_info}
 use Rattle.wl_machine.proofs.Lists.{filter_map, map_twice}
-use Rattle.wl_index.specs.declared.table.Request.{Request}
-use Rattle.wl_index.specs.Lines.{Numbered, number_and_mode}
+use Rattle.wl_index.specs.declared.request.Request.{Request}
+use Rattle.wl_index.specs.Queue.{Numbered, number_and_mode}
 use Rattle.wl_index.specs.Stamps.{by_stamp, by_stamp_all}
 use Rattle.wl_index.specs.Rows.{Entry, waiting, holding, stamp_of, request_row, lock_row, pending_of, held_of}
 use Rattle.wl_index.proofs.Lists.{all_filter}

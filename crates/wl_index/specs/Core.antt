@@ -1,27 +1,24 @@
 -- What an indexed core is, and what it keeps (own).
-use Rattle.std.specs.Prelude.{ℕ, ◌≤◌, ◌<◌, List, [], length}
-use Rattle.std.specs.List.{AllByRecursion}
+use Rattle.std.specs.Prelude.{ℕ, ◌≤◌, length}
 use Rattle.wl_machine.specs.State.{State}
-use Rattle.wl_index.specs.Roll.{Roll}
-use Rattle.wl_index.specs.Rows.{Entry, Rows, held_of, pending_of}
-use Rattle.wl_index.specs.Names.{Placed, Ready, names_of}
+use Rattle.wl_index.specs.Lists.{IsGrouped}
+use Rattle.wl_index.specs.Locks.{Board, IsQuiet}
+use Rattle.wl_index.specs.Roll.{Register, Roll}
+use Rattle.wl_index.specs.Rows.{held_of, pending_of, tags_of}
 
 -- the machine's state
-abbrev pub machine_state : Roll → List Placed → Rows → State
-machine_state roll lines rows = record {
+abbrev pub machine_state : Roll → Board → State
+machine_state roll board = record {
   agents = roll.agents;
   signals = roll.signals;
-  names = names_of lines;
-  held = held_of rows.entries;
-  pending = pending_of rows.entries;
-  next = record { agent = roll.next_agent; request = rows.next; signal = roll.next_signal };
+  names = board.names;
+  held = held_of board.entries;
+  pending = pending_of board.entries;
+  next = record { agent = roll.next_agent; request = board.next; signal = roll.next_signal };
 }
 
--- the lines say what the lists say, nothing is left to grant, each line has the number of a
--- request as its place, and there is room for the end of each live request
-pub record IsCore (lines : List Placed) (es : List Entry) (next changes touched ending : ℕ) : Type 0 where
-  pub placed : AllByRecursion (λ e. e.0 < next) lines
-  pub ready : Ready lines (held_of es) (pending_of es) []
-  pub changes_room : length es ≤ changes
-  pub touched_room : length es ≤ touched
-  pub ending_room : length es ≤ ending
+-- nothing is left to grant, each live request is on the lists of its agent, and there is room for the places of all
+pub record IsCore (agents : Register) (board : Board) (ending : ℕ) : Type 0 where
+  pub quiet : IsQuiet (held_of board.entries) (pending_of board.entries)
+  pub grouped : IsGrouped (tags_of board.entries) agents.members
+  pub ending_room : length board.entries ≤ ending

@@ -1,26 +1,24 @@
 -- What an abort or a termination ends (own).
-use Rattle.std.specs.Prelude.{◌≡◌, ℕ, ◌+◌, ◌≤◌, ◌<◌, Bool, true, false, ◌==◌, not, ◌&&◌, List, [], ◌∷◌, ◌++◌, length, map, filter, vec_len, vec_capacity, Option, Some, None, if◌then◌else◌}
+use Rattle.std.specs.Prelude.{◌≡◌, ℕ, Bool, true, false, ◌==◌, not, ◌&&◌, List, [], ◌∷◌, ◌++◌, map, filter, Option, Some, None, if◌then◌else◌}
 use Rattle.std.specs.List.{AllByRecursion, Contains}
 use Rattle.std.specs.Map.{lookup}
 use Rattle.std.specs.BTreeMap.{is_at}
 use Rattle.std.specs.Option.{IsSome}
 use Rattle.std.specs.Ordering.{nat_cmp}
-use Rattle.std.specs.declared.vec.Vec.{Vec}
 use Rattle.wl_types.specs.declared.phases.Phase.{Phase}
 use Rattle.wl_types.specs.declared.phases.Change.{Change}
 use Rattle.wl_machine.specs.declared.rows.HeldRow.{HeldRow}
 use Rattle.wl_machine.specs.declared.rows.PendingRow.{PendingRow}
 use Rattle.wl_machine.specs.State.{State}
 use Rattle.wl_machine.specs.Step.{is_signal, is_waiting_on, is_abortable, request_ends, lock_ends}
-use Rattle.wl_index.specs.declared.ending.Owner.{Owner}
-use Rattle.wl_index.specs.declared.ending.Owner.TheVariants.{Signal, Agent}
-use Rattle.wl_index.specs.declared.ending.Standing.{Standing}
-use Rattle.wl_index.specs.declared.ending.Standing.TheVariants.{Waits, Holds}
-use Rattle.wl_index.specs.declared.order.Place.{Place}
-use Rattle.wl_index.specs.declared.table.Request.{Request}
-use Rattle.wl_index.specs.Rows.{Entry, Rows, waiting, holding, request_row, lock_row, other, held_of, pending_of}
+use Rattle.wl_index.specs.declared.request.Owner.{Owner}
+use Rattle.wl_index.specs.declared.request.Owner.TheVariants.{Signal, Agent}
+use Rattle.wl_index.specs.declared.request.Standing.{Standing}
+use Rattle.wl_index.specs.declared.request.Standing.TheVariants.{Waits, Holds}
+use Rattle.wl_index.specs.declared.request.Place.{Place}
+use Rattle.wl_index.specs.declared.request.Request.{Request}
+use Rattle.wl_index.specs.Rows.{Entry, waiting, holding, request_row, lock_row, other}
 use Rattle.wl_index.specs.Order.{place_of}
-use Rattle.wl_index.specs.Names.{Placed, Ready, names_of}
 
 -- the requests that end with their owner
 abbrev pub ends_request : Owner → PendingRow → Bool
@@ -51,6 +49,14 @@ abbrev pub ends_entry : Owner → Standing → Entry → Bool
 ends_entry owner Waits e = waiting e && ends_request owner (request_row e)
 ends_entry owner Holds e = holding e && ends_lock owner (lock_row e)
 
+-- without those
+abbrev pub without_ends : Owner → Standing → List Entry → List Entry
+without_ends owner standing es = filter (λ e. not (ends_entry owner standing e)) es
+
+-- the places of the locks that end with their owner, by number
+abbrev pub untaken_places : Owner → List Entry → List Place
+untaken_places owner es = map place_of (filter (λ e. ends_lock owner (lock_row e)) (filter holding es))
+
 -- the place of a request of this number that passes
 abbrev pub place_if : (Entry → Bool) → ℕ → Option Request → Option Place
 place_if passes number None = None
@@ -79,21 +85,3 @@ without_owned owner s = record s {
 -- those requests, and then those locks
 abbrev pub owned_ends : Owner → Phase → Phase → State → List Change
 owned_ends owner waiting held s = request_ends waiting (filter (ends_request owner) s.pending) ++ lock_ends held (filter (ends_lock owner) s.held)
-
--- there is room to tell the end of each live request, and to touch its name's place
-pub record CanEnd {Y Z : Type 0} (lines : List Placed) (rows : Rows) (changes : Vec Change Y) (touched : Vec ℕ Z) : Type 0 where
-  pub ready : Ready lines (held_of rows.entries) (pending_of rows.entries) touched.items
-  pub changes_room : vec_len changes + length rows.entries ≤ vec_capacity changes
-  pub touched_room : vec_len touched + length rows.entries ≤ vec_capacity touched
-
--- some have ended: for each, a change was told and a place touched. No name came into use, and none left
-pub record HasEnded {Y Z : Type 0} (lines lines' : List Placed) (rows rows' : Rows) (changes changes' : Vec Change Y) (touched touched' : Vec ℕ Z) : Type 0 where
-  pub ready : Ready lines' (held_of rows'.entries) (pending_of rows'.entries) touched'.items
-  pub names : names_of lines' ≡ names_of lines
-  pub places : (n : ℕ) → AllByRecursion (λ e. e.0 < n) lines → AllByRecursion (λ e. e.0 < n) lines'
-  pub next : rows'.next ≡ rows.next
-  pub fewer : length rows'.entries ≤ length rows.entries
-  pub changes_sum : vec_len changes' + length rows'.entries ≡ vec_len changes + length rows.entries
-  pub touched_sum : vec_len touched' + length rows'.entries ≡ vec_len touched + length rows.entries
-  pub changes_capacity : vec_capacity changes ≤ vec_capacity changes'
-  pub touched_capacity : vec_capacity touched ≤ vec_capacity touched'

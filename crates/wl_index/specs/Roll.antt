@@ -8,8 +8,8 @@ use Rattle.wl_types.specs.declared.words.Reason.{Reason}
 use Rattle.wl_machine.specs.declared.rows.AgentRow.{AgentRow}
 use Rattle.wl_machine.specs.declared.rows.SignalRow.{SignalRow}
 use Rattle.wl_machine.specs.Refusals.{signals_of}
-use Rattle.wl_index.specs.declared.owners.Member.{Member}
-use Rattle.wl_index.specs.declared.owners.Signal.{Signal}
+use Rattle.wl_index.specs.declared.agents.Agent.{Agent}
+use Rattle.wl_index.specs.declared.agents.Signal.{Signal}
 
 -- the machine's agents and signals, and the numbers that are given next
 pub record Roll : Type 0 where
@@ -18,7 +18,12 @@ pub record Roll : Type 0 where
   pub next_agent : ℕ
   pub next_signal : ℕ
 
-abbrev pub agent_row : ℕ × Member → AgentRow
+-- these, and the live agents with their lists
+pub record Register : Type 0 where
+  pub rows : Roll
+  pub members : List (ℕ × Agent)
+
+abbrev pub agent_row : ℕ × Agent → AgentRow
 agent_row e = record { number = e.0; kind = e.1.kind; active = e.1.active }
 
 abbrev pub signal_row : ℕ × Signal → SignalRow
@@ -29,7 +34,7 @@ abbrev pub made_by : ℕ → List (ℕ × Signal) → List ℕ
 made_by agent signals = map (λ row. row.number) (signals_of agent (map signal_row signals))
 
 -- numbers rise, and are below the next ones; each agent has the list of its signals
-pub record IsRoll (members : List (ℕ × Member)) (signals : List (ℕ × Signal)) (next_agent next_signal : ℕ) : Type 0 where
+pub record IsRoll (members : List (ℕ × Agent)) (signals : List (ℕ × Signal)) (next_agent next_signal : ℕ) : Type 0 where
   pub members_ordered : IsStrictlySortedBy nat_cmp (keys_of members)
   pub signals_ordered : IsStrictlySortedBy nat_cmp (keys_of signals)
   pub members_below : AllByRecursion (λ e. e.0 < next_agent) members

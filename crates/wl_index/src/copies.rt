@@ -7,34 +7,36 @@ ghost use Rattle.std.specs.BTreeMap.{is_at};
 ghost use Rattle.std.specs.Ordering.{nat_cmp};
 ghost use Rattle.wl_machine.specs.declared.rows.HeldRow.{HeldRow};
 ghost use Rattle.wl_index.specs.Rows.{held_of, pending_of, lock_row, is_taken};
-ghost use Rattle.wl_index.specs.Names.{names_of};
+ghost use Rattle.wl_index.specs.Queues.{names_of};
 ghost use Rattle.wl_index.specs.Core.{machine_state};
 
-use crate::names::Names;
-use crate::owners::Owners;
-use crate::table::{Request, Stage, Table};
+use crate::agents::Agents;
+use crate::locks::Locks;
+use crate::queues::Queues;
+use crate::request::{Request, Stage, is_taken};
+use crate::requests::Requests;
 use std::alloc::Global;
 use wl_core::{PlainCore, PlainDraft};
 use wl_machine::{AgentRow, HeldRow, PendingRow, SignalRow};
 use wl_types::{Memory, Numbers};
 
-fn add_agents(alloc: Global, draft: &mut PlainDraft, owners: &Owners) -> Result<(), Memory>
-    ensures { OnOk result (draft.new ≡ record draft.old { agents = draft.old.agents ++ owners.now.agents }) }
+fn add_agents(alloc: Global, draft: &mut PlainDraft, agents: &Agents) -> Result<(), Memory>
+    ensures { OnOk result (draft.new ≡ record draft.old { agents = draft.old.agents ++ agents.now.rows.agents }) }
 {
-    for (number, member) in owners.members(alloc)? {
+    for (number, agent) in agents.rows(alloc)? {
         draft.agent(AgentRow {
             number,
-            kind: member.kind,
-            active: member.active,
+            kind: agent.kind,
+            active: agent.active,
         })?;
     }
     Ok(())
 }
 
-fn add_signals(alloc: Global, draft: &mut PlainDraft, owners: &Owners) -> Result<(), Memory>
-    ensures { OnOk result (draft.new ≡ record draft.old { signals = draft.old.signals ++ owners.now.signals }) }
+fn add_signals(alloc: Global, draft: &mut PlainDraft, agents: &Agents) -> Result<(), Memory>
+    ensures { OnOk result (draft.new ≡ record draft.old { signals = draft.old.signals ++ agents.now.rows.signals }) }
 {
-    for (number, signal) in owners.signals(alloc)? {
+    for (number, signal) in agents.signals(alloc)? {
         draft.signal(SignalRow {
             agent: signal.agent,
             number,
@@ -44,31 +46,21 @@ fn add_signals(alloc: Global, draft: &mut PlainDraft, owners: &Owners) -> Result
     Ok(())
 }
 
-fn add_names(alloc: Global, draft: &mut PlainDraft, names: &Names) -> Result<(), Memory>
-    ensures { OnOk result (draft.new ≡ record draft.old { names = draft.old.names ++ names_of names.now }) }
+fn add_names(alloc: Global, draft: &mut PlainDraft, queues: &Queues) -> Result<(), Memory>
+    ensures { OnOk result (draft.new ≡ record draft.old { names = draft.old.names ++ names_of queues.now }) }
 {
-    for (_, line) in names.lines(alloc)? {
-        draft.name(line.name())?;
+    for (_, queue) in queues.rows(alloc)? {
+        draft.name(queue.name())?;
     }
     Ok(())
 }
 
-/// Whether a lock was taken.
-fn is_taken(stage: Stage) -> bool
-    ensures { result ≡ is_taken stage }
-{
-    match stage {
-        Stage::Held(_, taken) => taken,
-        Stage::Pending => false,
-    }
-}
-
 /// The lock of this number.
-fn lock_of(alloc: Global, table: &Table, number: u64) -> Result<HeldRow, Memory>
-    requires { IsSome (lookup (is_at (nat_cmp number)) table.now.entries) }
-    ensures { IfOk result (λ row. IfSome (lookup (is_at (nat_cmp number)) table.now.entries) (λ r. row ≡ lock_row (number, r))) }
+fn lock_of(alloc: Global, requests: &Requests, number: u64) -> Result<HeldRow, Memory>
+    requires { IsSome (lookup (is_at (nat_cmp number)) requests.now.entries) }
+    ensures { IfOk result (λ row. IfSome (lookup (is_at (nat_cmp number)) requests.now.entries) (λ r. row ≡ lock_row (number, r))) }
 {
-    let request = table.get(number).unwrap();
+    let request = requests.get(number).unwrap();
     Ok(HeldRow {
         number,
         agent: request.agent,
@@ -83,15 +75,15 @@ fn lock_of(alloc: Global, table: &Table, number: u64) -> Result<HeldRow, Memory>
 fn add_locks(
     alloc: Global,
     draft: &mut PlainDraft,
-    table: &Table,
+    requests: &Requests,
     numbers: Vec<u64>,
 ) -> Result<(), Memory>
-    requires ordered { IsStrictlySortedBy nat_cmp (keys_of table.now.entries) }
-    requires locks { numbers.items ≡ map (λ (lock : HeldRow). lock.number) (held_of table.now.entries) }
-    ensures { OnOk result (draft.new ≡ record draft.old { held = draft.old.held ++ held_of table.now.entries }) }
+    requires ordered { IsStrictlySortedBy nat_cmp (keys_of requests.now.entries) }
+    requires locks { numbers.items ≡ map (λ (lock : HeldRow). lock.number) (held_of requests.now.entries) }
+    ensures { OnOk result (draft.new ≡ record draft.old { held = draft.old.held ++ held_of requests.now.entries }) }
 {
     for number in numbers {
-        draft.held(lock_of(alloc, table, number)?)?;
+        draft.held(lock_of(alloc, requests, number)?)?;
     }
     Ok(())
 }
@@ -117,36 +109,32 @@ fn add_request(
     })
 }
 
-fn add_requests(alloc: Global, draft: &mut PlainDraft, table: &Table) -> Result<(), Memory>
-    ensures { OnOk result (draft.new ≡ record draft.old { pending = draft.old.pending ++ pending_of table.now.entries }) }
+fn add_requests(alloc: Global, draft: &mut PlainDraft, requests: &Requests) -> Result<(), Memory>
+    ensures { OnOk result (draft.new ≡ record draft.old { pending = draft.old.pending ++ pending_of requests.now.entries }) }
 {
-    for (number, request) in table.rows(alloc)? {
+    for (number, request) in requests.rows(alloc)? {
         add_request(alloc, draft, number, request)?;
     }
     Ok(())
 }
 
 /// A plain core of the same lists and next numbers.
-pub(crate) fn plain_copy(
-    alloc: Global,
-    owners: &Owners,
-    names: &Names,
-    table: &Table,
-) -> Result<PlainCore, Memory>
-    ensures state { IfOk result (λ copy. copy.state ≡ machine_state owners.now names.now table.now) }
+pub(crate) fn plain_copy(alloc: Global, agents: &Agents, locks: &Locks) -> Result<PlainCore, Memory>
+    ensures state { IfOk result (λ copy. copy.state ≡ machine_state agents.now.rows locks.now) }
     ensures recent { IfOk result (λ copy. copy.recent ≡ []) }
 {
+    let requests = locks.requests();
     let next = Numbers {
-        agent: owners.next_agent(),
-        request: table.next(),
-        signal: owners.next_signal(),
+        agent: agents.next_agent(),
+        request: requests.next(),
+        signal: agents.next_signal(),
     };
-    let mut draft = PlainDraft::new(alloc, next, table.len())?;
-    add_agents(alloc, &mut draft, owners)?;
-    add_signals(alloc, &mut draft, owners)?;
-    add_names(alloc, &mut draft, names)?;
-    let locks = table.locks_in_order(alloc)?;
-    add_locks(alloc, &mut draft, table, locks)?;
-    add_requests(alloc, &mut draft, table)?;
+    let mut draft = PlainDraft::new(alloc, next, requests.len())?;
+    add_agents(alloc, &mut draft, agents)?;
+    add_signals(alloc, &mut draft, agents)?;
+    add_names(alloc, &mut draft, locks.queues())?;
+    let in_order = requests.locks_in_order(alloc)?;
+    add_locks(alloc, &mut draft, requests, in_order)?;
+    add_requests(alloc, &mut draft, requests)?;
     draft.done()
 }

@@ -1,23 +1,26 @@
 //! The machine over indexes.
-ghost use Rattle.std.specs.Prelude.{◌≡◌, ℕ, ◌+◌, [], IfOk, OnErr, Option, Some, None, true, false, not, ◌&&◌};
+ghost use Rattle.std.specs.Prelude.{◌≡◌, ℕ, ◌+◌, ◌<◌, ◌&&◌, not, [], ◌∷◌, ◌++◌, IfOk, OnOk, OnErr, Option, None, true, false};
+ghost use Rattle.std.specs.List.{AllByRecursion};
 ghost use Rattle.wl_machine.specs.Refusals.{refusal};
-ghost use Rattle.wl_machine.specs.Step.{Gives, settled, available, new_request};
-ghost use Rattle.wl_index.specs.Ends.{without_owned, owned_ends};
+ghost use Rattle.wl_machine.specs.Step.{Gives, available, new_request, with_name};
+ghost use Rattle.wl_index.specs.Core.{machine_state};
+ghost use Rattle.wl_index.specs.Lists.{IsGrouped};
+ghost use Rattle.wl_index.specs.Locks.{asked};
+ghost use Rattle.wl_index.specs.Rows.{tags_of};
 
-use crate::by_number::least_untaken;
+use crate::agents::Agents;
 use crate::copies::plain_copy;
-use crate::ending::{Owner, end_locks, end_requests};
-use crate::names::Names;
-use crate::order::Place;
-use crate::owners::Owners;
+use crate::ending::{Ending, end_owned};
+use crate::locks::Locks;
+use crate::request::{Owner, Place};
 use crate::snapshots::shown;
-use crate::table::Table;
 use std::alloc::Global;
+use std::hash::RandomState;
 use std::marker::Model;
-use wl_core::{LockCore, PlainCore, push_in_room};
+use wl_core::{LockCore, PlainCore};
 use wl_machine::{Command, Reply};
 use wl_types::{
-    AbortAnswer, Ask, Change, Kind, Memory, Name, Numbers, Phase, Reason, Refusal, ReleaseAnswer,
+    AbortAnswer, Ask, Change, Kind, Memory, Numbers, Phase, Reason, Refusal, ReleaseAnswer,
     Snapshot, TakeAnswer,
 };
 
@@ -27,11 +30,9 @@ mod refusals;
 /// of each live request needs.
 #[derive(Drop)]
 pub struct IndexCore {
-    owners: Owners,
-    names: Names,
-    table: Table,
-    changes: Vec<Change>,
-    touched: Vec<u64>,
+    agents: Agents,
+    locks: Locks,
+    // Where what ends stands, while it ends.
     ending: Vec<Place>,
     alloc: Global,
 }
@@ -43,50 +44,20 @@ impl Model for IndexCore {
 
     ghost Value = { Content };
 
-    ghost view = { λ c. record { state = machine_state c.owners c.names c.table; recent = c.changes.items } };
+    ghost view = { λ c. record { state = machine_state c.agents.rows c.locks; recent = c.locks.changes } };
 
-    ghost invariant = { λ c. IsCore c.names c.table.entries c.table.next (vec_capacity c.changes) (vec_capacity c.touched) (vec_capacity c.ending) × (c.touched.items ≡ []) × (c.ending.items ≡ []) };
+    ghost invariant = { λ c. IsCore c.agents c.locks (vec_capacity c.ending) × (c.ending.items ≡ []) };
 }
 
 impl IndexCore {
-    /// Ends what an owner has: its requests, in order, and then its locks, in the order of their grants. Then the queues
-    /// of their names are processed.
-    fn end_owned(&mut self, owner: Owner, waiting: Phase, held: Phase)
-        requires { self.old.recent ≡ [] }
-        ensures { (reply : Reply) → settled (without_owned owner self.old.state) (owned_ends owner waiting held self.old.state) reply ≡ record { state = self.new.state; reply = reply; changes = self.new.recent } }
-    {
-        end_requests(
-            &mut self.names,
-            owner,
-            waiting,
-            &mut self.table,
-            &mut self.changes,
-            &mut self.touched,
-            &mut self.ending,
-        );
-        end_locks(
-            &mut self.names,
-            owner,
-            held,
-            &mut self.table,
-            &mut self.changes,
-            &mut self.touched,
-            &mut self.ending,
-        );
-        self.table.let_go(owner);
-        self.names
-            .settle(&mut self.table, &mut self.changes, &mut self.touched);
-    }
-
     /// Whether a request is to be granted at once or not at all, and can't be granted.
-    fn is_unavailable(&self, name: &Name, ask: &Ask) -> bool
-        requires { name.now ≡ ask.now.name }
+    fn is_unavailable(&self, ask: &Ask) -> bool
         ensures { (agent : ℕ) → result ≡ (ask.now.if_available && not (available self.now.state (new_request self.now.state agent ask.now))) }
     {
-        ask.if_available && !self.names.is_available(&self.table, name, ask.mode)
+        ask.if_available && !self.locks.is_available(ask.name.as_str(), ask.mode)
     }
 
-    /// A request without `steal` that nothing refuses. All that can fail comes first.
+    /// A request without `steal` that nothing refuses.
     fn admit(&mut self, agent: u64, ask: &Ask) -> Result<u64, Memory>
         requires accepted { refusal self.old.state (Command.Request agent ask.now) ≡ None }
         requires no_changes { self.old.recent ≡ [] }
@@ -94,35 +65,16 @@ impl IndexCore {
         ensures admitted { IfOk result (λ id. Gives self.old.state (Command.Request agent ask.now) self.new.state (Reply.Request id) self.new.recent) }
         ensures unchanged { OnErr result (self.new ≡ self.old) }
     {
-        let name = match Name::of(self.alloc, ask.name.as_str()) {
-            Ok(name) => name,
-            Err(_) => return Err(Memory),
-        };
-        let unavailable = self.is_unavailable(&name, ask);
-        let live = self.table.len();
-        self.changes.reserve(live + 1)?;
-        self.touched.reserve(live + 1)?;
-        self.ending.reserve(live + 1)?;
-        if unavailable {
-            let number = self.table.skip();
-            let phase = Phase::Unavailable;
-            push_in_room(&mut self.changes, Change { id: number, phase });
-            return Ok(number);
+        if self.is_unavailable(ask) {
+            return self.locks.refuse();
         }
-        let number = self.names.enter(
-            self.alloc,
-            agent,
-            &name,
-            ask,
-            &mut self.table,
-            &mut self.touched,
-        )?;
-        self.names
-            .settle(&mut self.table, &mut self.changes, &mut self.touched);
+        self.ending.reserve(self.locks.requests().len() + 1)?;
+        let number = enter(&mut self.agents, &mut self.locks, agent, ask)?;
+        self.locks.process();
         Ok(number)
     }
 
-    /// A request with `steal` that nothing refuses. All that can fail comes first.
+    /// A request with `steal` that nothing refuses.
     fn steal(&mut self, agent: u64, ask: &Ask) -> Result<u64, Memory>
         requires accepted { refusal self.old.state (Command.Request agent ask.now) ≡ None }
         requires no_changes { self.old.recent ≡ [] }
@@ -130,37 +82,33 @@ impl IndexCore {
         ensures admitted { IfOk result (λ id. Gives self.old.state (Command.Request agent ask.now) self.new.state (Reply.Request id) self.new.recent) }
         ensures unchanged { OnErr result (self.new ≡ self.old) }
     {
-        let name = match Name::of(self.alloc, ask.name.as_str()) {
-            Ok(name) => name,
-            Err(_) => return Err(Memory),
-        };
-        let live = self.table.len();
-        self.changes.reserve(live + 1)?;
-        self.touched.reserve(live + 2)?;
-        self.ending.reserve(live + 1)?;
-        let number = self.names.enter(
-            self.alloc,
-            agent,
-            &name,
-            ask,
-            &mut self.table,
-            &mut self.touched,
-        )?;
-        self.names.steal(
-            &name,
-            number,
-            &mut self.table,
-            &mut self.changes,
-            &mut self.touched,
-        );
-        self.names
-            .settle(&mut self.table, &mut self.changes, &mut self.touched);
+        self.ending.reserve(self.locks.requests().len() + 1)?;
+        let number = enter(&mut self.agents, &mut self.locks, agent, ask)?;
+        self.locks.oust(ask.name.as_str());
+        self.locks.seize(ask.name.as_str(), number);
+        self.locks.process();
         Ok(number)
     }
 }
 
+/// A request that nothing refuses comes onto the lists of its agent, and to the end of its queue.
+fn enter(agents: &mut Agents, locks: &mut Locks, agent: u64, ask: &Ask) -> Result<u64, Memory>
+    requires accepted { refusal (machine_state agents.old.rows locks.old) (Command.Request agent ask.now) ≡ None }
+    requires grouped { IsGrouped (tags_of locks.old.entries) agents.old.members }
+    ensures number { IfOk result (λ n. n ≡ locks.old.next) }
+    ensures entered { OnOk result (locks.new ≡ record locks.old { entries = locks.old.entries ++ (locks.old.next, asked agent ask.now) ∷ []; next = locks.old.next + 1; names = with_name ask.now.name locks.old.names }) }
+    ensures below { OnOk result (AllByRecursion (λ e. e.0 < locks.old.next) locks.old.entries) }
+    ensures rows { agents.new.rows ≡ agents.old.rows }
+    ensures grouped { IsGrouped (tags_of locks.new.entries) agents.new.members }
+    ensures err { OnErr result (locks.new ≡ locks.old) }
+{
+    let number = locks.requests().next();
+    agents.enlist(locks.requests(), agent, ask.signal, number)?;
+    locks.enter(agent, ask)
+}
+
 impl LockCore for IndexCore {
-    type Seed = ();
+    type Seed = RandomState;
 
     ghost state = { λ c. c.state };
 
@@ -171,31 +119,28 @@ impl LockCore for IndexCore {
 
     ghost no_entries = { None };
 
-    fn make(alloc: Global, _seed: (), next: Numbers) -> IndexCore {
+    fn make(alloc: Global, seed: RandomState, next: Numbers) -> IndexCore {
         IndexCore {
-            owners: Owners::new(alloc, next.agent, next.signal),
-            names: Names::new(alloc),
-            table: Table::new(alloc, next.request),
-            changes: Vec::new(alloc),
-            touched: Vec::new(alloc),
+            agents: Agents::new(alloc, next.agent, next.signal),
+            locks: Locks::new(alloc, seed, next.request),
             ending: Vec::new(alloc),
             alloc,
         }
     }
 
     fn open(&mut self, kind: Kind) -> Result<u64, Refusal> {
-        self.changes.clear();
+        self.locks.begin();
         if let Some(refusal) = self.open_refusal() {
             return Err(refusal);
         }
-        match self.owners.enter(kind) {
+        match self.agents.open(kind) {
             Ok(number) => Ok(number),
             Err(_) => Err(Refusal::Memory),
         }
     }
 
     fn request(&mut self, agent: u64, ask: &Ask) -> Result<u64, Refusal> {
-        self.changes.clear();
+        self.locks.begin();
         if let Some(refusal) = self.request_refusal(agent, ask) {
             return Err(refusal);
         }
@@ -211,84 +156,91 @@ impl LockCore for IndexCore {
     }
 
     fn take(&mut self, id: u64) -> TakeAnswer {
-        self.changes.clear();
-        if !self.table.take(id) {
+        self.locks.begin();
+        if !self.locks.take(id) {
             return TakeAnswer::NotGranted;
         }
         TakeAnswer::Taken
     }
 
     fn release(&mut self, agent: u64, id: u64) -> ReleaseAnswer {
-        self.changes.clear();
-        if !self.table.has_lock(agent, id) {
+        self.locks.begin();
+        if !self.locks.has_lock(agent, id) {
             return ReleaseAnswer::NotHeld;
         }
-        self.names.end(
-            id,
-            Phase::Released,
-            &mut self.table,
-            &mut self.changes,
-            &mut self.touched,
-        );
-        self.names
-            .settle(&mut self.table, &mut self.changes, &mut self.touched);
+        self.locks.end(id, Phase::Released);
+        self.locks.process();
         ReleaseAnswer::Released
     }
 
     fn set_active(&mut self, agent: u64, active: bool) -> Result<(), Refusal> {
-        self.changes.clear();
+        self.locks.begin();
         if let Some(refusal) = self.set_refusal(agent) {
             return Err(refusal);
         }
-        self.owners.set_active(agent, active);
+        self.agents.set_active(agent, active);
         Ok(())
     }
 
     fn new_signal(&mut self, agent: u64) -> Result<u64, Refusal> {
-        self.changes.clear();
+        self.locks.begin();
         if let Some(refusal) = self.signal_refusal(agent) {
             return Err(refusal);
         }
-        match self.owners.make_signal(agent) {
+        match self.agents.make_signal(agent) {
             Ok(number) => Ok(number),
             Err(_) => Err(Refusal::Memory),
         }
     }
 
     fn abort(&mut self, agent: u64, signal: u64, reason: Reason) -> Result<AbortAnswer, Refusal> {
-        self.changes.clear();
+        self.locks.begin();
         if let Some(refusal) = self.abort_refusal(agent, signal) {
             return Err(refusal);
         }
-        if self.owners.reason(agent, signal).is_some() {
+        if self.agents.reason(agent, signal).is_some() {
             return Ok(AbortAnswer::AlreadyAborted);
         }
-        self.owners.set_reason(agent, signal, reason);
+        self.agents.set_reason(agent, signal, reason);
         let phase = Phase::Aborted(reason);
-        self.end_owned(Owner::Signal(agent, signal), phase, phase);
+        let ending = Ending {
+            owner: Owner::Signal(agent, signal),
+            waiting: phase,
+            held: phase,
+        };
+        let numbers = self.agents.numbers(ending.owner);
+        end_owned(&mut self.locks, numbers, ending, &mut self.ending);
+        self.agents.clean(self.locks.requests(), agent, signal);
+        self.locks.process();
         Ok(AbortAnswer::Done)
     }
 
     fn terminate(&mut self, agent: u64) -> Result<(), Refusal> {
-        self.changes.clear();
+        self.locks.begin();
         if let Some(refusal) = self.terminate_refusal(agent) {
             return Err(refusal);
         }
-        self.owners.leave(agent);
-        let phase = Phase::Aborted(Reason::AbortError);
-        self.end_owned(Owner::Agent(agent), phase, Phase::Released);
+        let ending = Ending {
+            owner: Owner::Agent(agent),
+            waiting: Phase::Aborted(Reason::AbortError),
+            held: Phase::Released,
+        };
+        let numbers = self.agents.numbers(ending.owner);
+        end_owned(&mut self.locks, numbers, ending, &mut self.ending);
+        self.agents.leave(agent);
+        self.locks.process();
         Ok(())
     }
 
     fn changes(&self) -> &[Change] {
-        self.changes.as_slice()
+        self.locks.changes()
     }
 
     fn snapshot(&self, agent: u64) -> Result<Snapshot, Refusal> {
         if let Some(refusal) = self.query_refusal(agent) {
             return Err(refusal);
         }
-        match shown(self.alloc, &self.table, &self.names) {
+        match shown(self.alloc, &self.locks) {
             Ok(snapshot) => Ok(snapshot),
             Err(_) => Err(Refusal::Memory),
         }
@@ -311,14 +263,20 @@ impl LockCore for IndexCore {
     }
 
     fn untaken(&self, agent: u64, signal: u64, i: u64) -> Option<u64> {
-        self.table.nth_untaken(agent, signal, i)
+        let owner = Owner::Signal(agent, signal);
+        self.locks
+            .requests()
+            .nth_untaken(self.agents.numbers(owner), owner, i)
     }
 
     fn untaken_above(&self, agent: u64, signal: u64, after: u64) -> Option<u64> {
-        least_untaken(&self.table, agent, signal, after)
+        let owner = Owner::Signal(agent, signal);
+        self.locks
+            .requests()
+            .least_untaken(self.agents.numbers(owner), owner, after)
     }
 
     fn copy_plain(&self) -> Result<PlainCore, Memory> {
-        plain_copy(self.alloc, &self.owners, &self.names, &self.table)
+        plain_copy(self.alloc, &self.agents, &self.locks)
     }
 }

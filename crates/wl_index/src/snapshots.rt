@@ -10,21 +10,22 @@ ghost use Rattle.wl_machine.specs.declared.rows.HeldRow.{HeldRow};
 ghost use Rattle.wl_machine.specs.Grants.{queue};
 ghost use Rattle.wl_machine.specs.Step.{lock_info, request_info};
 ghost use Rattle.wl_index.specs.Rows.{held_of, pending_of};
-ghost use Rattle.wl_index.specs.Lines.{Matches};
-ghost use Rattle.wl_index.specs.Names.{names_of};
+ghost use Rattle.wl_index.specs.Queue.{Matches};
+ghost use Rattle.wl_index.specs.Queues.{names_of};
 
-use crate::line::Line;
-use crate::names::Names;
-use crate::table::Table;
+use crate::locks::Locks;
+use crate::queue::Queue;
+use crate::queues::Queues;
+use crate::requests::Requests;
 use std::alloc::Global;
 use wl_types::{Infos, LockInfo, Memory, Snapshot};
 
 /// The request or the lock of this number.
-fn info_of(alloc: Global, table: &Table, number: u64) -> Result<LockInfo, Memory>
-    requires { IsSome (lookup (is_at (nat_cmp number)) table.now.entries) }
-    ensures { IfOk result (λ info. IfSome (lookup (is_at (nat_cmp number)) table.now.entries) (λ r. info ≡ record { name = r.name; mode = r.mode; client = r.agent })) }
+fn info_of(alloc: Global, requests: &Requests, number: u64) -> Result<LockInfo, Memory>
+    requires { IsSome (lookup (is_at (nat_cmp number)) requests.now.entries) }
+    ensures { IfOk result (λ info. IfSome (lookup (is_at (nat_cmp number)) requests.now.entries) (λ r. info ≡ record { name = r.name; mode = r.mode; client = r.agent })) }
 {
-    let request = table.get(number).unwrap();
+    let request = requests.get(number).unwrap();
     Ok(LockInfo {
         name: request.name.copy(alloc)?,
         mode: request.mode,
@@ -33,52 +34,57 @@ fn info_of(alloc: Global, table: &Table, number: u64) -> Result<LockInfo, Memory
 }
 
 /// The locks, whose numbers in the order of their grants are these.
-fn held_infos(alloc: Global, table: &Table, numbers: Vec<u64>) -> Result<Infos, Memory>
-    requires ordered { IsStrictlySortedBy nat_cmp (keys_of table.now.entries) }
-    requires locks { numbers.items ≡ map (λ (lock : HeldRow). lock.number) (held_of table.now.entries) }
-    ensures { IfOk result (λ infos. infos ≡ map lock_info (held_of table.now.entries)) }
+fn held_infos(alloc: Global, requests: &Requests, numbers: Vec<u64>) -> Result<Infos, Memory>
+    requires ordered { IsStrictlySortedBy nat_cmp (keys_of requests.now.entries) }
+    requires locks { numbers.items ≡ map (λ (lock : HeldRow). lock.number) (held_of requests.now.entries) }
+    ensures { IfOk result (λ infos. infos ≡ map lock_info (held_of requests.now.entries)) }
 {
     let mut infos = Infos::new(alloc);
     for number in numbers {
-        infos.push(info_of(alloc, table, number)?)?;
+        infos.push(info_of(alloc, requests, number)?)?;
     }
     Ok(infos)
 }
 
 /// Adds one name's queue.
-fn add_queue(alloc: Global, infos: &mut Infos, table: &Table, line: &Line) -> Result<(), Memory>
-    requires ordered { IsStrictlySortedBy nat_cmp (keys_of table.now.entries) }
-    requires matched { Matches line.now (held_of table.now.entries) (pending_of table.now.entries) }
-    ensures { OnOk result (infos.new ≡ infos.old ++ map request_info (queue line.now.name (pending_of table.now.entries))) }
+fn add_queue(
+    alloc: Global,
+    infos: &mut Infos,
+    requests: &Requests,
+    line: &Queue,
+) -> Result<(), Memory>
+    requires ordered { IsStrictlySortedBy nat_cmp (keys_of requests.now.entries) }
+    requires matched { Matches line.now (held_of requests.now.entries) (pending_of requests.now.entries) }
+    ensures { OnOk result (infos.new ≡ infos.old ++ map request_info (queue line.now.name (pending_of requests.now.entries))) }
 {
     for (number, _) in line.waiting() {
-        infos.push(info_of(alloc, table, *number)?)?;
+        infos.push(info_of(alloc, requests, *number)?)?;
     }
     Ok(())
 }
 
 /// The queues, name by name.
-fn pending_infos(alloc: Global, table: &Table, names: &Names) -> Result<Infos, Memory>
-    requires ordered { IsStrictlySortedBy nat_cmp (keys_of table.now.entries) }
-    requires matched { AllByRecursion (λ e. Matches e.1 (held_of table.now.entries) (pending_of table.now.entries)) names.now }
-    ensures { IfOk result (λ infos. infos ≡ flat_map (λ name. map request_info (queue name (pending_of table.now.entries))) (names_of names.now)) }
+fn pending_infos(alloc: Global, requests: &Requests, queues: &Queues) -> Result<Infos, Memory>
+    requires ordered { IsStrictlySortedBy nat_cmp (keys_of requests.now.entries) }
+    requires matched { AllByRecursion (λ e. Matches e.1 (held_of requests.now.entries) (pending_of requests.now.entries)) queues.now }
+    ensures { IfOk result (λ infos. infos ≡ flat_map (λ name. map request_info (queue name (pending_of requests.now.entries))) (names_of queues.now)) }
 {
     let mut infos = Infos::new(alloc);
-    for (_, line) in names.lines(alloc)? {
-        add_queue(alloc, &mut infos, table, line)?;
+    for (_, line) in queues.rows(alloc)? {
+        add_queue(alloc, &mut infos, requests, line)?;
     }
     Ok(infos)
 }
 
 /// What is held and what waits.
-pub(crate) fn shown(alloc: Global, table: &Table, names: &Names) -> Result<Snapshot, Memory>
-    requires { AllByRecursion (λ e. Matches e.1 (held_of table.now.entries) (pending_of table.now.entries)) names.now }
-    ensures held { IfOk result (λ seen. seen.held ≡ map lock_info (held_of table.now.entries)) }
-    ensures pending { IfOk result (λ seen. seen.pending ≡ flat_map (λ name. map request_info (queue name (pending_of table.now.entries))) (names_of names.now)) }
+pub(crate) fn shown(alloc: Global, locks: &Locks) -> Result<Snapshot, Memory>
+    ensures held { IfOk result (λ seen. seen.held ≡ map lock_info (held_of locks.now.entries)) }
+    ensures pending { IfOk result (λ seen. seen.pending ≡ flat_map (λ name. map request_info (queue name (pending_of locks.now.entries))) locks.now.names) }
 {
-    let locks = table.locks_in_order(alloc)?;
+    let requests = locks.requests();
+    let in_order = requests.locks_in_order(alloc)?;
     Ok(Snapshot {
-        held: held_infos(alloc, table, locks)?,
-        pending: pending_infos(alloc, table, names)?,
+        held: held_infos(alloc, requests, in_order)?,
+        pending: pending_infos(alloc, requests, locks.queues())?,
     })
 }

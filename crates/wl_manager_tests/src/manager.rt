@@ -101,7 +101,7 @@ fn audited<C: LockCore, T: Count, R: Wait>(
     manager: &Manager<C, T>,
 ) -> (bool, usize) {
     let mut audit = Audit {
-        opening: opening(alloc),
+        opening: opening(alloc, ()),
         entries: 0,
         is_legal: false,
     };

@@ -15,13 +15,13 @@ use wl_origin::{ManagerKey, OriginKey, Standing, key_of, manager_of};
 use wl_types::{Ask, Kind, Memory, Mode, Numbers, Refusal, Text};
 
 /// A core, of whatever kind, whose next numbers are all 1.
-pub fn opening<C: LockCore<Seed = ()>>(alloc: Global) -> C {
+pub fn opening<C: LockCore>(alloc: Global, seed: C::Seed) -> C {
     let next = Numbers {
         agent: 1,
         request: 1,
         signal: 1,
     };
-    C::make(alloc, (), next)
+    C::make(alloc, seed, next)
 }
 
 /// A request without options.

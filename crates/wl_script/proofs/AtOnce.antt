@@ -3,7 +3,7 @@ use Rattle.std.proofs.Common.{◌≡◌, ℕ, List, [], ◌∷◌, ◌++◌, ◌
 use Rattle.std.proofs.lemmas.List.Elements.{All-nil, All-head, All-tail}
 use Rattle.std.proofs.lemmas.List.Sums.{sum_by-cons, sum_by-append}
 use Rattle.std.specs.Io.KnownBytes.{Consumes, IsAtEnd}
-use Rattle.std.proofs.KnownBytes.{Consumes-trans}
+use Rattle.std.proofs.KnownBytes.{Consumes-nil, Consumes-trans}
 use Rattle.std.specs.Prelude.{take, false}
 use Rattle.wl_script.specs.Lines.{HasNoLf, is_lf, line_feeds, with_lfs}
 use Rattle.wl_world.specs.World.{World}
@@ -61,6 +61,10 @@ at_once : (limit : ℕ) (world : World) (a b c : Option (List ℕ)) (old : Optio
 at_once limit world a b c old bytes last now fault p q fed few most short =
     let counted = feeds_fed limit world old bytes now fed in
     (bytes, last, Consumes-trans a b c bytes last p q, omega (arith, few, counted), omega (arith, most, counted, line_feeds-append bytes last), short)
+
+-- a fault came before the first read
+pub at_once_unread : (fault : ScriptFault) (a : Option (List ℕ)) → answered fault ≡ 0 → AnswersAtOnce fault a a
+at_once_unread fault a none = ([], [], Consumes-nil a, omega arith, omega (arith, none), omega arith)
 
 -- a fault came in a piece
 pub at_once_in_piece : (limit : ℕ) (world : World) (a b c : Option (List ℕ)) (old new : Option (List ℕ)) (bytes piece : List ℕ) (now : Moment) (fault : ScriptFault)

@@ -1,5 +1,5 @@
 -- The lines of origins, one after another.
-use Rattle.std.proofs.Common.{◌≡◌, ℕ, List, [], ◌∷◌, ◌++◌, ◌+◌, ◌<◌, ◌≤◌, ◌∙◌, sym, ap, subst, arith, Bool, true, false, length, take, drop, suc, Option, Some, None, All, not, inl, inr}
+use Rattle.std.proofs.Common.{◌≡◌, ℕ, List, [], ◌∷◌, ◌++◌, ◌+◌, ◌<◌, ◌≤◌, ◌∙◌, refl, sym, ap, subst, arith, Bool, true, false, length, take, drop, suc, Option, Some, None, All, not, inl, inr}
 use Rattle.std.specs.Prelude.{◌==◌, if◌then◌else◌, Result, Ok, Err, IfOk, IfErr, IfSome}
 use Rattle.std.specs.List.{flat_map}
 use Rattle.std.specs.Io.KnownBytes.{Appends}
@@ -21,6 +21,7 @@ use Rattle.wl_script.specs.Transcript.{after}
 use Rattle.wl_script.specs.Audits.{Audited, CountsDone, IsUnwritten, LeavesAudit, LeavesOrigins, WritesNext, WritesOrigins, recording, all_seen, audit_line, audit_text, audited, entries_of, seen}
 use Rattle.wl_script.specs.declared.fault.ScriptFault.{ScriptFault}
 use Rattle.wl_script.specs.declared.fault.ScriptFault.TheVariants.{Memory, Read, Write, LineTooLong, TooManyTurns}
+use Rattle.wl_script.proofs.AtOnce.{at_once_unread}
 
 abbrev is_audited : ManagerKey × Core → Bool
 is_audited origin = not (entries_of origin.1 == 0)
@@ -157,3 +158,8 @@ audit_counts rest start done cores (Ok n) held_old held_new new answered wrote =
 audit_counts None start done cores (Err fault) held_old held_new new answered wrote = tt
 audit_counts (Some input) start done cores (Err fault) held_old held_new new (count, answered) wrote =
     counts_behind (lines input) done cores fault held_old held_new (Some input) new count wrote
+
+-- memory was refused before the script was read
+pub counts_unread : (rest : Option (List ℕ)) → IfSome rest (λ input. CountsDone (lines input) (Memory 0) rest rest)
+counts_unread None = tt
+counts_unread (Some input) = inr (at_once_unread (Memory 0) (Some input) refl)

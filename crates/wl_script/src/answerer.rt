@@ -20,7 +20,7 @@ pub trait Answerer {
 }
 
 /// The lock managers of all origins.
-impl<C: LockCore<Seed = ()>> Answerer for Engine<C> {
+impl<S: Copy + Drop, C: LockCore<Seed = S>> Answerer for Engine<C> {
     ghost world = { world_of C.no_entries };
 
     fn answer(&mut self, line: &[u8]) -> Result<String, Memory> {

@@ -16,7 +16,8 @@ use crate::running::{LIMITS, run_lines};
 use crate::{Failed, Input, Output, ScriptFault};
 use serde_json::{Value, json};
 use std::alloc::Global;
-use wl_index::IndexCore;
+use std::random::RandomSource;
+use wl_index::{IndexCore, random_seed};
 use wl_journal::{AuditFault, Book};
 use wl_origin::ManagerKey;
 use wl_types::Memory;
@@ -151,8 +152,8 @@ fn write_origins<W: Output>(
 /// A fault carries the lines of the script that were done, and `Write` the managers that were written whole. Before the
 /// end of the script nothing is written. A bucket of an origin has a line once an agent has entered it; opaque origins
 /// have none.
-pub fn audit<R: Input, W: Output>(
-    alloc: Global,
+pub fn audit<S: RandomSource + AllocGlobal, R: Input, W: Output>(
+    rt: &S,
     reader: &mut R,
     writer: &mut W,
 ) -> Result<u64, ScriptFault>
@@ -168,7 +169,11 @@ pub fn audit<R: Input, W: Output>(
     ensures turns { IsTooManyTurns result → GrewBy (R.reads reader.old) (R.reads reader.new) 4294967296
         × GaveBytes (R.rest reader.old) (R.rest reader.new) 4294967296 }
 {
-    let mut engine = Engine::<Book<IndexCore>>::new(alloc);
+    let Ok(seed) = random_seed(rt) else {
+        return Err(ScriptFault::Memory(0));
+    };
+    let alloc = rt.alloc();
+    let mut engine = Engine::<Book<IndexCore>>::new(alloc, seed);
     let lines = run_lines(alloc, &mut engine, reader, &mut Sink, LIMITS)?;
     let Ok(books) = engine.into_cores() else {
         return Err(ScriptFault::Memory(lines));

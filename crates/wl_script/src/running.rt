@@ -14,7 +14,8 @@ use crate::feeding::{Progress, feed};
 use crate::replying::answer_line;
 use crate::{Answerer, Failed, Input, Limits, Output, ScriptFault};
 use std::alloc::Global;
-use wl_index::IndexCore;
+use std::random::RandomSource;
+use wl_index::{IndexCore, random_seed};
 use wl_types::Memory;
 use wl_world::Engine;
 
@@ -126,9 +127,9 @@ pub fn run_lines<A: Answerer, R: Input, W: Output>(
     run_reads(alloc, answerer, reader, writer, limits, &mut buf)
 }
 
-/// Runs a script from the opening world, within these limits.
-pub fn run_with<R: Input, W: Output>(
-    alloc: Global,
+/// Runs a script from the opening world, within these limits. `Memory` comes too where the system gives no random words.
+pub fn run_with<S: RandomSource + AllocGlobal, R: Input, W: Output>(
+    rt: &S,
     reader: &mut R,
     writer: &mut W,
     limits: Limits,
@@ -145,13 +146,16 @@ pub fn run_with<R: Input, W: Output>(
     ensures turns { IsTooManyTurns result → GrewBy (R.reads reader.old) (R.reads reader.new) limits.turns
         × GaveBytes (R.rest reader.old) (R.rest reader.new) limits.turns }
 {
-    let mut engine = Engine::<IndexCore>::new(alloc);
-    run_lines(alloc, &mut engine, reader, writer, limits)
+    let Ok(seed) = random_seed(rt) else {
+        return Err(ScriptFault::Memory(0));
+    };
+    let mut engine = Engine::<IndexCore>::new(rt.alloc(), seed);
+    run_lines(rt.alloc(), &mut engine, reader, writer, limits)
 }
 
 /// Runs a script from the opening world. A line has at most 65,536 bytes, and at most 4,294,967,296 reads are made.
-pub fn run<R: Input, W: Output>(
-    alloc: Global,
+pub fn run<S: RandomSource + AllocGlobal, R: Input, W: Output>(
+    rt: &S,
     reader: &mut R,
     writer: &mut W,
 ) -> Result<u64, ScriptFault>
@@ -166,7 +170,7 @@ pub fn run<R: Input, W: Output>(
     ensures turns { IsTooManyTurns result → GrewBy (R.reads reader.old) (R.reads reader.new) 4294967296
         × GaveBytes (R.rest reader.old) (R.rest reader.new) 4294967296 }
 {
-    run_with(alloc, reader, writer, LIMITS)
+    run_with(rt, reader, writer, LIMITS)
 }
 
 /// Room for one read.

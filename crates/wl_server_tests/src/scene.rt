@@ -11,6 +11,7 @@
 
 use crate::lists::{number, rest, show, word};
 use std::alloc::Global;
+use std::random::RandomSource;
 use std::sync::Wait;
 use std::test::Fail;
 use wl_journal::{Entry, Sight};
@@ -88,7 +89,7 @@ fn call_client<R: Wait>(
 }
 
 impl Scene {
-    pub fn new<R>(rt: &R, alloc: Global) -> Result<Scene, Memory> {
+    pub fn new<R: RandomSource>(rt: &R, alloc: Global) -> Result<Scene, Memory> {
         Ok(Scene {
             service: Service::new(rt, alloc)?,
             clients: Vec::new(alloc),

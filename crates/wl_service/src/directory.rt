@@ -9,6 +9,7 @@ ghost use Rattle.wl_service.specs.Opening.{fault_of};
 use crate::fault::OpenFault;
 use std::alloc::Global;
 use std::collections::BTreeMap;
+use std::hash::RandomState;
 use std::sync::{Arc, Wait};
 use wl_index::IndexCore;
 use wl_manager::{Agent, Manager, Recent};
@@ -26,6 +27,8 @@ pub(crate) type Shared = Arc<Manager<Core, Recent>, Global>;
 #[derive(Drop)]
 pub(crate) struct Directory {
     managers: BTreeMap<ManagerKey, Shared>,
+    // Of each manager's core.
+    seed: RandomState,
 }
 
 /// Why a manager that refuses an agent opens no client. It refuses for no other cause.
@@ -40,11 +43,12 @@ pub(crate) fn fault_of(refusal: Refusal) -> OpenFault
 }
 
 impl Directory {
-    pub(crate) fn new(alloc: Global) -> Directory
+    pub(crate) fn new(alloc: Global, seed: RandomState) -> Directory
         ensures { result.managers.entries ≡ [] }
     {
         Directory {
             managers: BTreeMap::new(alloc),
+            seed,
         }
     }
 
@@ -68,7 +72,7 @@ impl Directory {
         ensures err { OnErr result (self.new.managers.entries ≡ self.old.managers.entries) }
         ensures fault { IfErr result (λ fault. (fault ≢ BadUrl) × (fault ≢ BadBucket)) }
     {
-        let manager = Manager::new(rt, alloc, (), (), ()).map_err(|_| OpenFault::Memory)?;
+        let manager = Manager::new(rt, alloc, self.seed, (), ()).map_err(|_| OpenFault::Memory)?;
         let agent = Manager::open(&manager, rt, kind).map_err(fault_of)?;
         match self.managers.insert(key, manager) {
             Ok(_) => Ok(agent),

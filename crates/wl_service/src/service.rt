@@ -10,7 +10,9 @@ use crate::client::Client;
 use crate::directory::{Directory, fault_of};
 use crate::fault::OpenFault;
 use std::alloc::Global;
+use std::random::RandomSource;
 use std::sync::{Arc, Mutex, Wait};
+use wl_index::random_seed;
 use wl_manager::{Manager, Recent, Visitor};
 use wl_origin::{ManagerFault, ManagerKey, manager_of, manager_of_text};
 use wl_types::{Kind, Memory, Text};
@@ -24,10 +26,11 @@ pub struct Service {
 }
 
 impl Service {
-    /// A service without managers. `Memory` comes only where a core's seed can't be made; a plain core has none.
-    pub fn new<R>(_rt: &R, alloc: Global) -> Result<Service, Memory> {
+    /// A service without managers, whose cores have one seed. `Memory` comes only where the system gives no random words.
+    pub fn new<R: RandomSource>(rt: &R, alloc: Global) -> Result<Service, Memory> {
+        let seed = random_seed(rt)?;
         Ok(Service {
-            directory: Mutex::new(Directory::new(alloc)),
+            directory: Mutex::new(Directory::new(alloc, seed)),
             alloc,
         })
     }

@@ -10,6 +10,7 @@ use crate::label::Label;
 use crate::labels::serve_named;
 use crate::origin::Origin;
 use crate::serve_label::plain_text;
+use crate::supplies::Supplies;
 use std::alloc::Global;
 use std::collections::HashMap;
 use wl_codec::{Line, Message, Outcome, Scratch, read_line_with};
@@ -21,20 +22,20 @@ use wl_types::Memory;
 /// world that these stand for.
 #[derive(Drop)]
 pub struct Engine<C: LockCore> {
-    alloc: Global,
+    supplies: Supplies<C::Seed>,
     realm: HashMap<ManagerKey, Origin<C>>,
     labels: HashMap<String, Label>,
     // Lent to the reading of each line.
     scratch: Scratch,
 }
 
-impl<C: LockCore<Seed = ()>> Engine<C> {
-    /// A world in which nobody has opened.
-    pub fn new(alloc: Global) -> Engine<C>
+impl<S: Copy + Drop, C: LockCore<Seed = S>> Engine<C> {
+    /// A world in which nobody has opened. Each core in it is made with this seed.
+    pub fn new(alloc: Global, seed: S) -> Engine<C>
         ensures { world_of C.no_entries result ≡ opening_with C.no_entries }
     {
         Engine {
-            alloc,
+            supplies: Supplies { alloc, seed },
             realm: HashMap::new(alloc),
             labels: HashMap::new(alloc),
             scratch: Scratch::new(alloc),
@@ -48,12 +49,13 @@ impl<C: LockCore<Seed = ()>> Engine<C> {
         ensures reply { IfOk result (λ text. string_bytes text ≡ reply (world_of C.no_entries self.old) line.now) }
         ensures next { OnOk result (world_of C.no_entries self.new ≡ next (world_of C.no_entries self.old) line.now) }
     {
-        match read_line_with(self.alloc, line, &mut self.scratch)? {
-            Line::Bad(id, fault) => plain_text(self.alloc, id, Outcome::Fault(fault)),
+        let alloc = self.supplies.alloc;
+        match read_line_with(alloc, line, &mut self.scratch)? {
+            Line::Bad(id, fault) => plain_text(alloc, id, Outcome::Fault(fault)),
             Line::Good(name, message) => {
                 let Message { id, body } = message;
                 serve_named(
-                    self.alloc,
+                    &self.supplies,
                     &mut self.realm,
                     &mut self.labels,
                     name.as_str(),
@@ -68,6 +70,6 @@ impl<C: LockCore<Seed = ()>> Engine<C> {
     pub fn into_cores(self) -> Result<Vec<(ManagerKey, C)>, Memory>
         ensures { IfOk result (λ cores. AreCoresOf C.no_entries (world_of C.no_entries self) (listed C.state C.entries cores.items)) }
     {
-        take_cores(self.alloc, self.realm)
+        take_cores(self.supplies.alloc, self.realm)
     }
 }

@@ -15,5 +15,6 @@ mod rolls;
 mod serve;
 mod serve_label;
 mod steps;
+mod supplies;
 
 pub use engine::Engine;

@@ -10,6 +10,7 @@ use crate::label::Label;
 use crate::origin::Origin;
 use crate::realm::enter_at;
 use crate::serve_label::plain_text;
+use crate::supplies::Supplies;
 use std::alloc::Global;
 use std::collections::HashMap;
 use wl_codec::{Body, Outcome};
@@ -43,8 +44,8 @@ fn entered(alloc: Global, key: ManagerKey, id: u64, outcome: Outcome) -> Result<
     Ok(Opening { text, label })
 }
 
-fn open_label<C: LockCore<Seed = ()>>(
-    alloc: Global,
+fn open_label<S: Copy + Drop, C: LockCore<Seed = S>>(
+    supplies: &Supplies<S>,
     realm: &mut HashMap<ManagerKey, Origin<C>>,
     id: u64,
     url: &str,
@@ -58,30 +59,30 @@ fn open_label<C: LockCore<Seed = ()>>(
     ensures realm { OnOk result (realm_of C.no_entries realm.new
         ≡ (opened (realm_of C.no_entries realm.old) id kind (manager_of url.now bucket)).realm) }
 {
-    match manager_of_text(alloc, url, bucket) {
+    match manager_of_text(supplies.alloc, url, bucket) {
         Ok(Some(key)) => {
-            let outcome = enter_at(alloc, realm, &key, kind)?;
-            entered(alloc, key, id, outcome)
+            let outcome = enter_at(supplies, realm, &key, kind)?;
+            entered(supplies.alloc, key, id, outcome)
         }
         Ok(None) => {
-            let text = plain_text(alloc, Some(id), Outcome::Client(None))?;
+            let text = plain_text(supplies.alloc, Some(id), Outcome::Client(None))?;
             let label = Some(Label::Opaque(kind, true));
             Ok(Opening { text, label })
         }
         Err(ManagerFault::BadUrl) => {
-            let text = plain_text(alloc, Some(id), Outcome::BadUrl)?;
+            let text = plain_text(supplies.alloc, Some(id), Outcome::BadUrl)?;
             Ok(Opening { text, label: None })
         }
         Err(ManagerFault::BadBucket) => {
-            let text = plain_text(alloc, Some(id), Outcome::BadBucket)?;
+            let text = plain_text(supplies.alloc, Some(id), Outcome::BadBucket)?;
             Ok(Opening { text, label: None })
         }
         Err(ManagerFault::Memory) => Err(Memory),
     }
 }
 
-pub(crate) fn serve_unopened<C: LockCore<Seed = ()>>(
-    alloc: Global,
+pub(crate) fn serve_unopened<S: Copy + Drop, C: LockCore<Seed = S>>(
+    supplies: &Supplies<S>,
     realm: &mut HashMap<ManagerKey, Origin<C>>,
     id: u64,
     body: Body,
@@ -95,10 +96,10 @@ pub(crate) fn serve_unopened<C: LockCore<Seed = ()>>(
 {
     match body {
         Body::Enter { url, kind, bucket } => {
-            open_label(alloc, realm, id, url.as_str(), kind, bucket)
+            open_label(supplies, realm, id, url.as_str(), kind, bucket)
         }
         _ => {
-            let text = plain_text(alloc, Some(id), Outcome::NotOpen)?;
+            let text = plain_text(supplies.alloc, Some(id), Outcome::NotOpen)?;
             Ok(Opening { text, label: None })
         }
     }

@@ -9,6 +9,7 @@ ghost use Rattle.wl_world.specs.Views.{core as seen, made_of};
 
 use crate::requests::Requests;
 use crate::steps::{act, enter};
+use crate::supplies::Supplies;
 use std::alloc::Global;
 use std::marker::Model;
 use wl_codec::{Body, Outcome};
@@ -34,8 +35,8 @@ impl<C: LockCore> Model for Origin<C> {
     ghost invariant = { λ o. IsRising 0 (C.state o.core).next.request o.requests };
 }
 
-impl<C: LockCore<Seed = ()>> Origin<C> {
-    pub(crate) fn new(alloc: Global) -> Origin<C>
+impl<S: Copy + Drop, C: LockCore<Seed = S>> Origin<C> {
+    pub(crate) fn new(supplies: &Supplies<S>) -> Origin<C>
         ensures { result ≡ unused C.no_entries }
     {
         let next = Numbers {
@@ -44,8 +45,8 @@ impl<C: LockCore<Seed = ()>> Origin<C> {
             signal: 1,
         };
         Origin {
-            core: C::make(alloc, (), next),
-            requests: Requests::new(alloc),
+            core: C::make(supplies.alloc, supplies.seed, next),
+            requests: Requests::new(supplies.alloc),
         }
     }
 }

@@ -9,6 +9,7 @@ ghost use Rattle.wl_world.specs.Realms.{realm_of};
 
 use crate::origin::Origin;
 use crate::serve::{Answer, serve};
+use crate::supplies::Supplies;
 use std::alloc::Global;
 use std::collections::HashMap;
 use wl_codec::{Body, Outcome};
@@ -32,8 +33,8 @@ fn seat<C: LockCore>(
 }
 
 /// A line of an agent of this manager.
-pub(crate) fn serve_at<C: LockCore<Seed = ()>>(
-    alloc: Global,
+pub(crate) fn serve_at<S: Copy + Drop, C: LockCore<Seed = S>>(
+    supplies: &Supplies<S>,
     realm: &mut HashMap<ManagerKey, Origin<C>>,
     key: &ManagerKey,
     agent: u64,
@@ -51,17 +52,17 @@ pub(crate) fn serve_at<C: LockCore<Seed = ()>>(
         ≡ (served (realm_of C.no_entries realm.old key.now) agent session.old id body.now).session) }
 {
     if let Some(origin) = realm.get_mut(key) {
-        return serve(alloc, origin, agent, session, id, body);
+        return serve(supplies.alloc, origin, agent, session, id, body);
     }
-    let mut origin = Origin::new(alloc);
-    let answer = serve(alloc, &mut origin, agent, session, id, body)?;
-    seat(alloc, realm, key, origin)?;
+    let mut origin = Origin::new(supplies);
+    let answer = serve(supplies.alloc, &mut origin, agent, session, id, body)?;
+    seat(supplies.alloc, realm, key, origin)?;
     Ok(answer)
 }
 
 /// A new agent of this manager.
-pub(crate) fn enter_at<C: LockCore<Seed = ()>>(
-    alloc: Global,
+pub(crate) fn enter_at<S: Copy + Drop, C: LockCore<Seed = S>>(
+    supplies: &Supplies<S>,
     realm: &mut HashMap<ManagerKey, Origin<C>>,
     key: &ManagerKey,
     kind: Kind,
@@ -73,8 +74,8 @@ pub(crate) fn enter_at<C: LockCore<Seed = ()>>(
     if let Some(origin) = realm.get_mut(key) {
         return origin.enter(kind);
     }
-    let mut origin = Origin::new(alloc);
+    let mut origin = Origin::new(supplies);
     let outcome = origin.enter(kind)?;
-    seat(alloc, realm, key, origin)?;
+    seat(supplies.alloc, realm, key, origin)?;
     Ok(outcome)
 }

@@ -1,9 +1,10 @@
 //! Each growth refused in turn.
 
 use std::alloc::Global;
+use std::hash::RandomState;
 use std::test::Fail;
 use wl_core::{Command, LockCore, PlainCore, apply, run_commands};
-use wl_index::IndexCore;
+use wl_index::{IndexCore, random_seed};
 use wl_samples::{lacks_memory, opening, reader_behind_writer, refused, signalled};
 use wl_types::{Kind, Memory, Refusal};
 
@@ -47,34 +48,34 @@ fn try_sights<C: LockCore>(core: &C, before: &PlainCore) -> Result<(), Fail> {
 }
 
 /// A list of commands that is refused memory was done just so far as it says.
-fn try_list<C: LockCore<Seed = ()>>(alloc: Global) -> Result<(), Fail> {
+fn try_list<C: LockCore>(alloc: Global, seed: C::Seed) -> Result<(), Fail> {
     let commands = reader_behind_writer(alloc)?;
-    let mut core: C = opening(alloc);
+    let mut core: C = opening(alloc, seed);
     let Err(done) = run_commands(alloc, &mut core, &commands) else {
         return Ok(());
     };
-    let mut beside: PlainCore = opening(alloc);
+    let mut beside: PlainCore = opening(alloc, ());
     for command in commands.iter().take(done as usize) {
         let _ = apply(&mut beside, command);
     }
     refused(core.copy_plain()? == beside)
 }
 
-fn try_calls<C: LockCore<Seed = ()>>(alloc: Global) -> Result<(), Fail> {
-    let mut core: C = opening(alloc);
+fn try_calls<S: Copy + Drop, C: LockCore<Seed = S>>(alloc: Global, seed: S) -> Result<(), Fail> {
+    let mut core: C = opening(alloc, seed);
     for place in 0..4 {
         try_command(&mut core, &command(alloc, place)?)?;
     }
     try_sights(&core, &core.copy_plain()?)?;
-    try_list::<C>(alloc)
+    try_list::<C>(alloc, seed)
 }
 
 #[test]
 fn a_refused_growth_changes_nothing(rt: HostRuntime) -> Result<(), Fail> {
-    try_calls::<PlainCore>(rt.alloc())
+    try_calls::<(), PlainCore>(rt.alloc(), ())
 }
 
 #[test]
 fn a_refused_growth_changes_no_table(rt: HostRuntime) -> Result<(), Fail> {
-    try_calls::<IndexCore>(rt.alloc())
+    try_calls::<RandomState, IndexCore>(rt.alloc(), random_seed(&rt)?)
 }

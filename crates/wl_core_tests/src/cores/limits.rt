@@ -3,21 +3,22 @@
 use std::alloc::Global;
 use std::test::Fail;
 use wl_core::{LockCore, PlainCore};
+use wl_index::{IndexCore, random_seed};
 use wl_samples::{done, done_often, letters, opening};
 use wl_types::{Memory, Numbers};
 
-/// The list as it comes out of a plain core that has done this call so often.
-fn done_after(
+/// The list as it comes out of a core that has done this call so often.
+fn done_after<C: LockCore>(
     alloc: Global,
+    core: &mut C,
     first: &str,
     often: (u64, &str),
     list: &str,
 ) -> Result<String, Memory> {
-    let mut core: PlainCore = opening(alloc);
-    done(alloc, &mut core, first)?;
+    done(alloc, core, first)?;
     let (times, call) = often;
-    done_often(alloc, &mut core, times, call)?;
-    done(alloc, &mut core, list)
+    done_often(alloc, core, times, call)?;
+    done(alloc, core, list)
 }
 
 const ONE_AGENT_TOO_MANY: &str = "\
@@ -38,7 +39,7 @@ signal 1 -> Limit/signals
 signal 2 -> Signal(1025)
 ";
 
-/// What is done before a call is, how often that, and the list then.
+/// What is done before a call is, how often that is done, and the list then.
 const LIMITS: [(&str, (u64, &str), &str); 2] = [
     ("", (4095, "open window"), ONE_AGENT_TOO_MANY),
     (TWO_AGENTS, (1023, "signal 1"), ONE_SIGNAL_TOO_MANY),
@@ -47,8 +48,42 @@ const LIMITS: [(&str, (u64, &str), &str); 2] = [
 #[test]
 fn agents_and_signals_have_limits(rt: HostRuntime) -> Result<(), Fail> {
     for (first, often, list) in LIMITS {
-        assert_eq!(rt; done_after(rt.alloc(), first, often, list)?.as_str(), list);
+        let mut plain: PlainCore = opening(rt.alloc(), ());
+        assert_eq!(rt;
+            done_after(rt.alloc(), &mut plain, first, often, list)?.as_str(),
+            list
+        );
+        let mut index: IndexCore = opening(rt.alloc(), random_seed(&rt)?);
+        assert_eq!(rt;
+            done_after(rt.alloc(), &mut index, first, often, list)?.as_str(),
+            list
+        );
     }
+    Ok(())
+}
+
+/// A release makes room for one; its number is the next.
+const ONE_REQUEST_TOO_MANY: &str = "\
+request 1 db -> Request(65536)
+request 1 db -> Limit/requests
+request 1 db steal -> Limit/requests
+request 1 other available -> Limit/requests
+release 1 1 -> Released(Released), 1 Released, 2 Granted
+request 1 db -> Request(65537)
+request 1 db -> Limit/requests
+";
+
+#[test]
+fn at_most_65536_requests_are_live(rt: HostRuntime) -> Result<(), Fail> {
+    let mut core: IndexCore = opening(rt.alloc(), random_seed(&rt)?);
+    let came = done_after(
+        rt.alloc(),
+        &mut core,
+        "open window",
+        (65_535, "request 1 db"),
+        ONE_REQUEST_TOO_MANY,
+    )?;
+    assert_eq!(rt; came.as_str(), ONE_REQUEST_TOO_MANY);
     Ok(())
 }
 
@@ -63,7 +98,8 @@ fn long_names(alloc: Global) -> Result<String, Memory> {
 #[test]
 fn a_name_has_at_most_1024_letters(rt: HostRuntime) -> Result<(), Fail> {
     let list = long_names(rt.alloc())?;
-    let came = done_after(rt.alloc(), "open window", (0, ""), list.as_str())?;
+    let mut core: PlainCore = opening(rt.alloc(), ());
+    let came = done_after(rt.alloc(), &mut core, "open window", (0, ""), list.as_str())?;
     assert_eq!(rt; came.as_str(), list.as_str());
     Ok(())
 }
@@ -72,6 +108,9 @@ const THE_LAST_REQUEST: &str = "\
 open window -> Agent(1)
 request 1 db -> Request(9007199254740991), 9007199254740991 Granted
 request 1 db -> Limit/numbers
+request 1 db steal -> Limit/numbers
+request 1 other available -> Limit/numbers
+query 1 -> held db/exclusive/1, waiting
 ";
 
 #[test]
@@ -81,8 +120,11 @@ fn the_last_number_is_below_two_to_the_53(rt: HostRuntime) -> Result<(), Fail> {
         request: 9007199254740991,
         signal: 1,
     };
-    let mut core = PlainCore::make(rt.alloc(), (), next);
-    let came = done(rt.alloc(), &mut core, THE_LAST_REQUEST)?;
+    let mut plain = PlainCore::make(rt.alloc(), (), next);
+    let came = done(rt.alloc(), &mut plain, THE_LAST_REQUEST)?;
+    assert_eq!(rt; came.as_str(), THE_LAST_REQUEST);
+    let mut index = IndexCore::make(rt.alloc(), random_seed(&rt)?, next);
+    let came = done(rt.alloc(), &mut index, THE_LAST_REQUEST)?;
     assert_eq!(rt; came.as_str(), THE_LAST_REQUEST);
     Ok(())
 }

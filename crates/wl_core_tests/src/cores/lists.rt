@@ -3,7 +3,7 @@
 use std::alloc::Global;
 use std::test::Fail;
 use wl_core::{LockCore, PlainCore};
-use wl_index::IndexCore;
+use wl_index::{IndexCore, random_seed};
 use wl_samples::{done, opening};
 use wl_types::Memory;
 
@@ -98,6 +98,22 @@ terminate 2 -> Done, 2 Aborted(AbortError)
 terminate 1 -> Done, 1 Released
 ";
 
+/// The first of three names goes out of use: the last doesn't take its place. When it comes into use again, it is last.
+const NAMES_IN_ORDER_OF_USE: &str = "\
+open window -> Agent(1)
+request 1 a -> Request(1), 1 Granted
+request 1 b -> Request(2), 2 Granted
+request 1 c -> Request(3), 3 Granted
+request 1 c shared -> Request(4)
+request 1 b shared -> Request(5)
+release 1 1 -> Released(Released), 1 Released
+query 1 -> held b/exclusive/1 c/exclusive/1, waiting b/shared/1 c/shared/1
+request 1 a -> Request(6), 6 Granted
+request 1 a shared -> Request(7)
+query 1 -> held b/exclusive/1 c/exclusive/1 a/exclusive/1, waiting b/shared/1 c/shared/1 a/shared/1
+terminate 1 -> Done, 4 Aborted(AbortError), 5 Aborted(AbortError), 7 Aborted(AbortError), 2 Released, 3 Released, 6 Released
+";
+
 /// `available` of a lock that is held, and then a steal of it.
 const NOT_AVAILABLE_AND_STOLEN: &str = "\
 open window -> Agent(1)
@@ -123,27 +139,28 @@ release 2 2 -> Released(Released), 2 Released, 3 Granted
 take 3 -> Took(Taken)
 ";
 
-pub const LISTS: [&str; 8] = [
+pub const LISTS: [&str; 9] = [
     AGENTS_COME_AND_GO,
     ONE_LOCK,
     AN_ABORT,
     AN_ABORT_WITH_A_CODE,
     GRANTED_OUT_OF_ORDER,
     HELD_AND_WAITED_FOR,
+    NAMES_IN_ORDER_OF_USE,
     NOT_AVAILABLE_AND_STOLEN,
     A_READER_BEHIND_A_WRITER,
 ];
 
 /// A list as it comes out of a new core of the kind.
-pub fn came<C: LockCore<Seed = ()>>(alloc: Global, list: &str) -> Result<String, Memory> {
-    let mut core: C = opening(alloc);
+pub fn came<C: LockCore>(alloc: Global, seed: C::Seed, list: &str) -> Result<String, Memory> {
+    let mut core: C = opening(alloc, seed);
     done(alloc, &mut core, list)
 }
 
 #[test]
 fn the_plain_core_does_the_lists(rt: HostRuntime) -> Result<(), Fail> {
     for list in LISTS {
-        assert_eq!(rt; came::<PlainCore>(rt.alloc(), list)?.as_str(), list);
+        assert_eq!(rt; came::<PlainCore>(rt.alloc(), (), list)?.as_str(), list);
     }
     Ok(())
 }
@@ -151,7 +168,10 @@ fn the_plain_core_does_the_lists(rt: HostRuntime) -> Result<(), Fail> {
 #[test]
 fn the_indexed_core_does_the_lists(rt: HostRuntime) -> Result<(), Fail> {
     for list in LISTS {
-        assert_eq!(rt; came::<IndexCore>(rt.alloc(), list)?.as_str(), list);
+        assert_eq!(rt;
+            came::<IndexCore>(rt.alloc(), random_seed(&rt)?, list)?.as_str(),
+            list
+        );
     }
     Ok(())
 }
@@ -175,7 +195,7 @@ fn equals_its_copy(core: &mut PlainCore) -> Result<bool, Memory> {
 
 #[test]
 fn a_copy_equals_its_origin_whatever_changed_last(rt: HostRuntime) -> Result<(), Fail> {
-    let mut core: PlainCore = opening(rt.alloc());
+    let mut core: PlainCore = opening(rt.alloc(), ());
     done(rt.alloc(), &mut core, TWO_READERS)?;
     assert!(rt; equals_its_copy(&mut core)?);
     Ok(())

@@ -1,9 +1,10 @@
 //! The same random calls on the indexed core and on the plain one.
 
 use std::alloc::Global;
+use std::hash::RandomState;
 use std::test::Fail;
 use wl_core::{LockCore, PlainCore};
-use wl_index::IndexCore;
+use wl_index::{IndexCore, random_seed};
 use wl_samples::{done, opening};
 use wl_types::Memory;
 
@@ -197,10 +198,10 @@ fn count_alike(alloc: Global, both: &mut Both) -> Result<u64, Memory> {
     Ok(CALLS)
 }
 
-fn count_from(alloc: Global, seed: u64) -> Result<u64, Memory> {
+fn count_from(alloc: Global, hash: RandomState, seed: u64) -> Result<u64, Memory> {
     let mut both = Both {
-        index: opening(alloc),
-        plain: opening(alloc),
+        index: opening(alloc, hash),
+        plain: opening(alloc, ()),
         calls: Calls::new(alloc, seed),
     };
     count_alike(alloc, &mut both)
@@ -209,7 +210,11 @@ fn count_from(alloc: Global, seed: u64) -> Result<u64, Memory> {
 #[test]
 fn both_cores_do_the_same(rt: HostRuntime) -> Result<(), Fail> {
     for seed in 1..=SEEDS {
-        assert_eq!(rt; count_from(rt.alloc(), seed)?, CALLS, "seed {seed}");
+        assert_eq!(rt;
+            count_from(rt.alloc(), random_seed(&rt)?, seed)?,
+            CALLS,
+            "seed {seed}"
+        );
     }
     Ok(())
 }

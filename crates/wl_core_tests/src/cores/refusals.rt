@@ -1,26 +1,27 @@
 //! Refusals come before want of memory: tests/refuse_growths runs this with all growths refused from some point on.
 
 use std::alloc::Global;
+use std::hash::RandomState;
 use std::test::Fail;
 use wl_core::{LockCore, PlainCore};
-use wl_index::IndexCore;
+use wl_index::{IndexCore, random_seed};
 use wl_journal::Book;
 use wl_samples::{ask, opening};
 use wl_types::{Ask, Kind, Mode, Numbers, Refusal};
 
 /// A core with no number left for an agent.
-fn spent<C: LockCore<Seed = ()>>(alloc: Global) -> C {
+fn spent<C: LockCore>(alloc: Global, seed: C::Seed) -> C {
     let next = Numbers {
         agent: 9_007_199_254_740_992,
         request: 1,
         signal: 1,
     };
-    C::make(alloc, (), next)
+    C::make(alloc, seed, next)
 }
 
 /// A core with an inactive window and a worker.
-fn with_two<C: LockCore<Seed = ()>>(alloc: Global) -> Result<C, Fail> {
-    let mut core: C = opening(alloc);
+fn with_two<C: LockCore>(alloc: Global, seed: C::Seed) -> Result<C, Fail> {
+    let mut core: C = opening(alloc, seed);
     core.open(Kind::Window)?;
     core.open(Kind::Worker)?;
     core.set_active(1, false)?;
@@ -52,13 +53,14 @@ fn refusals<C: LockCore>(spent: &mut C, core: &mut C, asked: &Ask, reserved: &As
     ]
 }
 
-fn are_due<C: LockCore<Seed = ()>>(
+fn are_due<S: Copy + Drop, C: LockCore<Seed = S>>(
     alloc: Global,
+    seed: S,
     asked: &Ask,
     reserved: &Ask,
 ) -> Result<bool, Fail> {
-    let mut core: C = with_two(alloc)?;
-    let mut spent: C = spent(alloc);
+    let mut core: C = with_two(alloc, seed)?;
+    let mut spent: C = spent(alloc, seed);
     Ok(refusals(&mut spent, &mut core, asked, reserved) == DUE)
 }
 
@@ -66,8 +68,9 @@ fn are_due<C: LockCore<Seed = ()>>(
 fn refusals_come_before_memory(rt: HostRuntime) -> Result<(), Fail> {
     let asked = ask(rt.alloc(), "db", Mode::Exclusive)?;
     let reserved = ask(rt.alloc(), "-db", Mode::Exclusive)?;
-    assert!(rt; are_due::<PlainCore>(rt.alloc(), &asked, &reserved)?);
-    assert!(rt; are_due::<IndexCore>(rt.alloc(), &asked, &reserved)?);
-    assert!(rt; are_due::<Book<IndexCore>>(rt.alloc(), &asked, &reserved)?);
+    let seed = random_seed(&rt)?;
+    assert!(rt; are_due::<(), PlainCore>(rt.alloc(), (), &asked, &reserved)?);
+    assert!(rt; are_due::<RandomState, IndexCore>(rt.alloc(), seed, &asked, &reserved)?);
+    assert!(rt; are_due::<RandomState, Book<IndexCore>>(rt.alloc(), seed, &asked, &reserved)?);
     Ok(())
 }

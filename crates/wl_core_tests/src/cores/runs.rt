@@ -3,7 +3,7 @@
 use std::alloc::Global;
 use std::test::Fail;
 use wl_core::{LockCore, PlainCore, run_commands};
-use wl_index::IndexCore;
+use wl_index::{IndexCore, random_seed};
 use wl_samples::{opening, reader_behind_writer, told};
 use wl_types::Memory;
 
@@ -24,8 +24,8 @@ Took(Taken)
 ";
 
 /// The replies of a new core of the kind.
-fn replies<C: LockCore<Seed = ()>>(alloc: Global) -> Result<String, Memory> {
-    let mut core: C = opening(alloc);
+fn replies<C: LockCore>(alloc: Global, seed: C::Seed) -> Result<String, Memory> {
+    let mut core: C = opening(alloc, seed);
     let commands = reader_behind_writer(alloc)?;
     let Ok(replies) = run_commands(alloc, &mut core, &commands) else {
         return Err(Memory);
@@ -39,12 +39,13 @@ fn replies<C: LockCore<Seed = ()>>(alloc: Global) -> Result<String, Memory> {
 
 #[test]
 fn the_plain_core_replies_in_turn(rt: HostRuntime) -> Result<(), Fail> {
-    assert_eq!(rt; replies::<PlainCore>(rt.alloc())?.as_str(), REPLIES);
+    assert_eq!(rt; replies::<PlainCore>(rt.alloc(), ())?.as_str(), REPLIES);
     Ok(())
 }
 
 #[test]
 fn the_indexed_core_gives_the_same_replies(rt: HostRuntime) -> Result<(), Fail> {
-    assert_eq!(rt; replies::<IndexCore>(rt.alloc())?.as_str(), REPLIES);
+    let seed = random_seed(&rt)?;
+    assert_eq!(rt; replies::<IndexCore>(rt.alloc(), seed)?.as_str(), REPLIES);
     Ok(())
 }

@@ -74,5 +74,5 @@ fn try_calls(alloc: Global, book: &mut Book<PlainCore>) -> Result<(), Fail> {
 
 #[test]
 fn a_refused_growth_is_not_recorded(rt: HostRuntime) -> Result<(), Fail> {
-    try_calls(rt.alloc(), &mut opening(rt.alloc()))
+    try_calls(rt.alloc(), &mut opening(rt.alloc(), ()))
 }

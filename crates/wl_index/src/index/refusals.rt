@@ -13,10 +13,10 @@ impl IndexCore {
     pub(crate) fn open_refusal(&self) -> Option<Refusal>
         ensures { result ≡ refusal self.now.state (Command.Enter Kind.Window) }
     {
-        if self.owners.len() >= AGENTS {
+        if self.agents.len() >= AGENTS {
             return Some(Refusal::TooManyAgents);
         }
-        if self.owners.next_agent() >= NUMBERS {
+        if self.agents.next_agent() >= NUMBERS {
             return Some(Refusal::NumbersSpent);
         }
         None
@@ -25,10 +25,10 @@ impl IndexCore {
     pub(crate) fn set_refusal(&self, agent: u64) -> Option<Refusal>
         ensures { result ≡ refusal self.now.state (Command.SetActive agent true) }
     {
-        if !self.owners.has(agent) {
+        if !self.agents.has(agent) {
             return Some(Refusal::NoSuchAgent);
         }
-        if self.owners.is_worker(agent) {
+        if self.agents.is_worker(agent) {
             return Some(Refusal::NotAWindow);
         }
         None
@@ -37,13 +37,13 @@ impl IndexCore {
     pub(crate) fn signal_refusal(&self, agent: u64) -> Option<Refusal>
         ensures { result ≡ refusal self.now.state (Command.NewSignal agent) }
     {
-        if !self.owners.has(agent) {
+        if !self.agents.has(agent) {
             return Some(Refusal::NoSuchAgent);
         }
-        if self.owners.signal_count(agent) >= SIGNALS {
+        if self.agents.signal_count(agent) >= SIGNALS {
             return Some(Refusal::TooManySignals);
         }
-        if self.owners.next_signal() >= NUMBERS {
+        if self.agents.next_signal() >= NUMBERS {
             return Some(Refusal::NumbersSpent);
         }
         None
@@ -52,30 +52,30 @@ impl IndexCore {
     pub(crate) fn request_refusal(&self, agent: u64, ask: &Ask) -> Option<Refusal>
         ensures { result ≡ refusal self.now.state (Command.Request agent ask.now) }
     {
-        if !self.owners.has(agent) {
+        if !self.agents.has(agent) {
             return Some(Refusal::NoSuchAgent);
         }
-        if self.owners.is_inactive(agent) {
+        if self.agents.is_inactive(agent) {
             return Some(Refusal::InvalidState);
         }
         if let Err(refusal) = ask.check() {
             return Some(refusal);
         }
         if let Some(signal) = ask.signal {
-            if !self.owners.has_signal(agent, signal) {
+            if !self.agents.has_signal(agent, signal) {
                 return Some(Refusal::NoSuchSignal);
             }
-            if let Some(reason) = self.owners.reason(agent, signal) {
+            if let Some(reason) = self.agents.reason(agent, signal) {
                 return Some(Refusal::SignalAborted(reason));
             }
         }
         if ask.name.as_str().len() > NAME_BYTES {
             return Some(Refusal::NameTooLong);
         }
-        if self.table.len() >= REQUESTS {
+        if self.locks.requests().len() >= REQUESTS {
             return Some(Refusal::TooManyRequests);
         }
-        if self.table.next() >= NUMBERS {
+        if self.locks.requests().next() >= NUMBERS {
             return Some(Refusal::NumbersSpent);
         }
         None
@@ -84,10 +84,10 @@ impl IndexCore {
     pub(crate) fn abort_refusal(&self, agent: u64, signal: u64) -> Option<Refusal>
         ensures { result ≡ refusal self.now.state (Command.Abort agent signal Reason.AbortError) }
     {
-        if !self.owners.has(agent) {
+        if !self.agents.has(agent) {
             return Some(Refusal::NoSuchAgent);
         }
-        if !self.owners.has_signal(agent, signal) {
+        if !self.agents.has_signal(agent, signal) {
             return Some(Refusal::NoSuchSignal);
         }
         None
@@ -96,7 +96,7 @@ impl IndexCore {
     pub(crate) fn terminate_refusal(&self, agent: u64) -> Option<Refusal>
         ensures { result ≡ refusal self.now.state (Command.Terminate agent) }
     {
-        if !self.owners.has(agent) {
+        if !self.agents.has(agent) {
             return Some(Refusal::NoSuchAgent);
         }
         None
@@ -105,10 +105,10 @@ impl IndexCore {
     pub(crate) fn query_refusal(&self, agent: u64) -> Option<Refusal>
         ensures { result ≡ refusal self.now.state (Command.Query agent) }
     {
-        if !self.owners.has(agent) {
+        if !self.agents.has(agent) {
             return Some(Refusal::NoSuchAgent);
         }
-        if self.owners.is_inactive(agent) {
+        if self.agents.is_inactive(agent) {
             return Some(Refusal::InvalidState);
         }
         None

@@ -32,7 +32,7 @@ fn each_manager_has_a_line(rt: HostRuntime) -> Result<(), Fail> {
         let mut run = plain(SCRIPT, 7);
         run.fails = fails;
         run.room = room;
-        let ended = run.audit_ends(rt.alloc(), LINES)?;
+        let ended = run.audit_ends(&rt, LINES)?;
         assert_eq!(rt; (ended.result, ended.written), (result, Some(bytes)));
     }
     Ok(())

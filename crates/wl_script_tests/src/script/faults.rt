@@ -14,7 +14,7 @@ fn a_failed_read_leaves_the_lines_before_it(rt: HostRuntime) -> Result<(), Fail>
     for piece in [1, 3, 100] {
         let mut run = plain(SCRIPT, piece);
         run.fails = true;
-        let ended = run.ends(rt.alloc(), REPLIES)?;
+        let ended = run.ends(&rt, REPLIES)?;
         assert_eq!(rt; (ended.result, ended.written), wanted, "pieces of {piece}");
     }
     Ok(())
@@ -36,7 +36,7 @@ fn a_failed_write_leaves_a_part_of_the_next_reply(rt: HostRuntime) -> Result<(),
             let mut run = plain(SCRIPT, 100);
             run.room = room;
             run.full = full;
-            let ended = run.ends(rt.alloc(), REPLIES)?;
+            let ended = run.ends(&rt, REPLIES)?;
             let wanted = (Err(ScriptFault::Write(lines)), Some(room));
             assert_eq!(rt;
                 (ended.result, ended.written),
@@ -54,7 +54,7 @@ fn ends_after(alloc: Global, left: u64) -> Result<Ended, AllocError> {
         line: 8,
         turns: 100,
     };
-    let inner = Engine::<PlainCore>::new(alloc);
+    let inner = Engine::<PlainCore>::new(alloc, ());
     let mut answerer = Refusing { inner, left };
     let mut reader = in_pieces(SCRIPT, 100);
     let mut writer = slow_writer(alloc, AMPLE, AMPLE, Full::Fails)?;

@@ -1,7 +1,7 @@
 //! Each growth refused in turn.
 
 use super::runs::plain;
-use std::alloc::Global;
+use std::random::RandomSource;
 use std::test::Fail;
 use wl_samples::refused;
 use wl_script::ScriptFault;
@@ -18,8 +18,8 @@ const REPLIES: &str = "{\"id\":1,\"notices\":[],\"ok\":{\"client\":\"client-1\"}
 const ENDS: [usize; 3] = [0, 49, 121];
 
 /// A run that is refused memory says how many lines were answered, and just their replies are written.
-fn try_run(alloc: Global) -> Result<(), Fail> {
-    let ended = plain(SCRIPT, 100).ends(alloc, REPLIES)?;
+fn try_run<R: RandomSource + AllocGlobal>(rt: &R) -> Result<(), Fail> {
+    let ended = plain(SCRIPT, 100).ends(rt, REPLIES)?;
     match ended.result {
         Ok(2) if ended.written == Some(121) => Ok(()),
         Err(ScriptFault::Memory(lines)) => refused(
@@ -32,8 +32,8 @@ fn try_run(alloc: Global) -> Result<(), Fail> {
 const AUDIT: &str = "{\"entries\":3,\"legal\":true,\"origin\":\"https://a.test\"}\n";
 
 /// An audit that is refused memory says how many lines were done, and nothing is written.
-fn try_audit(alloc: Global) -> Result<(), Fail> {
-    let ended = plain(SCRIPT, 100).audit_ends(alloc, AUDIT)?;
+fn try_audit<R: RandomSource + AllocGlobal>(rt: &R) -> Result<(), Fail> {
+    let ended = plain(SCRIPT, 100).audit_ends(rt, AUDIT)?;
     match ended.result {
         Ok(1) if ended.written == Some(AUDIT.len()) => Ok(()),
         Err(ScriptFault::Memory(lines)) => refused(ended.written == Some(0) && lines <= 2),
@@ -43,6 +43,6 @@ fn try_audit(alloc: Global) -> Result<(), Fail> {
 
 #[test]
 fn a_refused_growth_says_what_was_answered(rt: HostRuntime) -> Result<(), Fail> {
-    try_run(rt.alloc())?;
-    try_audit(rt.alloc())
+    try_run(&rt)?;
+    try_audit(&rt)
 }

@@ -2,6 +2,7 @@
 
 use super::fakes::{Full, Pieces, Room, in_pieces, slow_writer, then_failing};
 use std::alloc::{AllocError, Global};
+use std::random::RandomSource;
 use wl_script::{Limits, ScriptFault, audit, run, run_with};
 
 /// Room for any replies that a test wants.
@@ -56,24 +57,32 @@ impl<'a> Run<'a> {
     }
 
     /// Runs the script, which is wanted to write these bytes, or as many of them as it comes to.
-    pub fn ends(&self, alloc: Global, wanted: &str) -> Result<Ended, AllocError> {
+    pub fn ends<R: RandomSource + AllocGlobal>(
+        &self,
+        rt: &R,
+        wanted: &str,
+    ) -> Result<Ended, AllocError> {
         let mut reader = self.reader();
-        let mut writer = self.writer(alloc)?;
+        let mut writer = self.writer(rt.alloc())?;
         let result = match self.limits {
             Some((line, turns)) => {
                 let turns = u64::from(turns);
-                run_with(alloc, &mut reader, &mut writer, Limits { line, turns })
+                run_with(rt, &mut reader, &mut writer, Limits { line, turns })
             }
-            None => run(alloc, &mut reader, &mut writer),
+            None => run(rt, &mut reader, &mut writer),
         };
         Ok(ending(result, &writer, wanted))
     }
 
     /// The same of an audit.
-    pub fn audit_ends(&self, alloc: Global, wanted: &str) -> Result<Ended, AllocError> {
+    pub fn audit_ends<R: RandomSource + AllocGlobal>(
+        &self,
+        rt: &R,
+        wanted: &str,
+    ) -> Result<Ended, AllocError> {
         let mut reader = self.reader();
-        let mut writer = self.writer(alloc)?;
-        let result = audit(alloc, &mut reader, &mut writer);
+        let mut writer = self.writer(rt.alloc())?;
+        let result = audit(rt, &mut reader, &mut writer);
         Ok(ending(result, &writer, wanted))
     }
 }

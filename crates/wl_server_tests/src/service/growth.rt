@@ -2,6 +2,7 @@
 
 use super::{ELSEWHERE, HERE};
 use std::alloc::Global;
+use std::random::RandomSource;
 use std::sync::Wait;
 use std::test::Fail;
 use wl_samples::{ask, refused};
@@ -34,7 +35,7 @@ fn try_opens<R: Wait>(rt: &R, service: &Service) -> Result<(), Fail> {
     Ok(())
 }
 
-fn try_service<R>(rt: &R, alloc: Global) -> Result<Service, Fail> {
+fn try_service<R: RandomSource>(rt: &R, alloc: Global) -> Result<Service, Fail> {
     if let Ok(service) = Service::new(rt, alloc) {
         return Ok(service);
     }

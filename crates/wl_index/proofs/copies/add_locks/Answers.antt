@@ -7,7 +7,7 @@ use Rattle.wl_index.proofs.copies.add_locks.Goals as goal
 
 pub loop-number-init : goal.loop-number-init
 loop-number-init c =
-    let es = c.args.table.now.entries in
+    let es = c.args.requests.now.entries in
     let all = c.into_iter-number-iterator.ensures.into_iter_gives.0 in
     record {
       stand = subst (AllByRecursion (Stands es)) (sym (all ∙ c.requires.locks)) (locks_stand es c.requires.ordered);
@@ -16,7 +16,7 @@ loop-number-init c =
 
 pub returns : goal.returns
 returns c =
-    let es = c.args.table.now.entries in
+    let es = c.args.requests.now.entries in
     let rest = c.loop-number.number-iterator.rest in
     let empty = nil_from_length rest.items (sym rest.ok.0 ∙ c.in-None.ensures.steps.0) in
     let none = ap (λ numbers. c.loop-number.draft.held ++ found_at lock_row es numbers) empty ∙ append-nil c.loop-number.draft.held in

@@ -1,39 +1,27 @@
-use Rattle.std.proofs.Common.{◌≡◌, ◌∙◌, ◌++◌, ap, filter, map}
-use Rattle.wl_index.specs.declared.order.Place.{Place}
-use Rattle.wl_index.specs.Stamps.{by_stamp}
+use Rattle.std.proofs.Common.{◌≡◌, ◌∙◌, ap, filter, map}
+use Rattle.wl_index.specs.declared.request.Place.{Place}
+use Rattle.wl_index.specs.Ends.{ends_entry}
 use Rattle.wl_index.specs.Order.{place_of}
-use Rattle.wl_index.specs.Rows.{pending_of, held_of}
-use Rattle.wl_index.specs.Groups.{spared}
-use Rattle.wl_index.specs.Ends.{numbers_of, place_ends, ends_entry}
-use Rattle.wl_index.specs.declared.ending.Standing.TheVariants.{Holds}
-use Rattle.wl_index.proofs.Owned.{locks_distinct, locks_live, locks_pending, locks_held, locks_told}
-use Rattle.wl_index.proofs.ending.end_locks.Goals.{After-deref, After-clear}
+use Rattle.wl_index.specs.Rows.{Rows}
+use Rattle.wl_index.specs.Stamps.{by_stamp}
+use Rattle.wl_index.specs.declared.request.Standing.TheVariants.{Holds}
+use Rattle.wl_index.proofs.Boards.{ended_as}
+use Rattle.wl_index.proofs.Owned.{locks_distinct, locks_gone, locks_live, locks_told}
+use Rattle.wl_index.proofs.ending.end_locks.Goals.{After-deref}
 use Rattle.wl_index.proofs.ending.end_locks.Goals as goal
 
 pub sort-requires : goal.sort-requires
-sort-requires c =
-    rw c.gather.ensures.items (locks_distinct c.args.owner c.args.table.now.entries c.gather.ensures.distinct)
+sort-requires c = rw c.gather.ensures.items (locks_distinct c.args.ending.owner c.requests.result.now.entries c.gather.ensures.distinct)
 
--- the places of the locks that end, in the order of their grants
-places : (c : After-deref) → c.deref.result.now ≡ by_stamp (λ (p : Place). p.stamp) (map place_of (filter (ends_entry c.args.owner Holds) c.args.table.now.entries))
-places c = c.deref.ensures.value ∙ c.sort.ensures.items ∙ ap (by_stamp (λ (p : Place). p.stamp)) c.gather.ensures.items
+-- the places of what ends
+places : (c : After-deref) → c.deref.result.now ≡ by_stamp (λ (p : Place). p.stamp) (map place_of (filter (ends_entry c.args.ending.owner Holds) c.args.locks.now.entries))
+places c = c.deref.ensures.value ∙ c.sort.ensures.items ∙ ap (by_stamp (λ (p : Place). p.stamp)) (c.gather.ensures.items ∙ ap (λ (r : Rows). map place_of (filter (ends_entry c.args.ending.owner Holds) r.entries)) c.requests.ensures.entries)
 
-pub end_all-requires-clause-live : goal.end_all-requires-clause-live
-end_all-requires-clause-live c =
-    rw (places (goal.at.end_all-requires-clause-live c).After-deref) (locks_live c.args.owner c.args.table.now.entries c.gather.ensures.ordered)
+pub end_all-requires : goal.end_all-requires
+end_all-requires c = let at = (goal.at.end_all-requires c).After-deref in rw (places at) (locks_live c.args.ending.owner c.args.locks.now.entries c.requests.ensures.ordered)
 
--- the table without them
-left : (c : After-clear)
-    → c.end_all.new.table.entries ≡ filter (spared (numbers_of (by_stamp (λ (p : Place). p.stamp) (map place_of (filter (ends_entry c.args.owner Holds) c.args.table.now.entries))))) c.args.table.now.entries
-left c = c.end_all.ensures.entries ∙ ap (λ ps. filter (spared (numbers_of ps)) c.args.table.now.entries) (places (goal.at.returns-clause-held c).After-deref)
-
-pub returns-clause-pending : goal.returns-clause-pending
-returns-clause-pending c = ap pending_of (left c) ∙ locks_pending c.args.owner c.args.table.now.entries c.gather.ensures.ordered
-
-pub returns-clause-held : goal.returns-clause-held
-returns-clause-held c = ap held_of (left c) ∙ locks_held c.args.owner c.args.table.now.entries c.gather.ensures.ordered
-
-pub returns-clause-changes : goal.returns-clause-changes
-returns-clause-changes c =
-    c.end_all.ensures.changes
-    ∙ ap (λ cs. c.args.changes.now.items ++ cs) (ap (place_ends c.args.phase) (places (goal.at.returns-clause-changes c).After-deref) ∙ locks_told c.args.owner c.args.table.now.entries c.args.phase)
+pub returns-clause-ended : goal.returns-clause-ended
+returns-clause-ended c =
+    let at = (goal.at.returns-clause-ended c).After-deref in
+    let es = c.args.locks.now.entries in
+    ended_as _ _ _ _ _ _ _ c.end_all.ensures (places at) (locks_gone c.args.ending.owner es c.requests.ensures.ordered) (locks_told c.args.ending.owner es _)

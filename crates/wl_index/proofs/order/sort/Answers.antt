@@ -1,6 +1,6 @@
 use Rattle.std.proofs.Common.{rules}
 use Rattle.std.proofs.lemmas.List.Sorted.{IsNonDecreasingBy-from_sort_by_key}
-use Rattle.wl_index.specs.declared.order.Place.{Place}
+use Rattle.wl_index.specs.declared.request.Place.{Place}
 use Rattle.wl_index.proofs.Sorted.{sorted_by_stamp}
 use Rattle.wl_index.proofs.order.sort.Goals as goal
 

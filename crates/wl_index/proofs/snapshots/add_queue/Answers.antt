@@ -6,7 +6,7 @@ use Rattle.wl_index.proofs.snapshots.add_queue.Goals as goal
 
 pub loop-number-init : goal.loop-number-init
 loop-number-init c =
-    let es = c.args.table.now.entries in
+    let es = c.args.requests.now.entries in
     let all = c.into_iter-number-iterator.ensures.into_iter_gives ∙ c.waiting-number-items.ensures in
     record {
       stand = subst (AllByRecursion (Stands es)) (sym (ap keys_of (all ∙ c.requires.matched.waits))) (queue_stands c.args.line.now.name es c.requires.ordered);
@@ -15,7 +15,7 @@ loop-number-init c =
 
 pub returns : goal.returns
 returns c =
-    let es = c.args.table.now.entries in
+    let es = c.args.requests.now.entries in
     let empty = c.in-None.ensures.steps.0 in
     sym (append-nil c.loop-number.infos) ∙ ap (λ waits. c.loop-number.infos ++ found_at info es (keys_of waits)) (sym empty) ∙ c.loop-number.invariant.shown
     ∙ ap (λ shown. c.args.infos.now ++ shown) (ap (λ waits. found_at info es (keys_of waits)) c.requires.matched.waits ∙ queue_shown c.args.line.now.name es c.requires.ordered)

@@ -7,6 +7,6 @@ use Rattle.wl_index.proofs.snapshots.held_infos.Given as goal
 -- what is shown, and what is to come, is all that the numbers show
 abbrev pub invariant-loop-number : goal.invariant-loop-number
 invariant-loop-number l = record {
-  stand : AllByRecursion (Stands l.table.entries) (into_iter_items l.number-iterator);
-  shown : l.infos ++ found_at info l.table.entries (into_iter_items l.number-iterator) ≡ found_at info l.table.entries l.fn.numbers.items;
+  stand : AllByRecursion (Stands l.requests.entries) (into_iter_items l.number-iterator);
+  shown : l.infos ++ found_at info l.requests.entries (into_iter_items l.number-iterator) ≡ found_at info l.requests.entries l.fn.numbers.items;
 }

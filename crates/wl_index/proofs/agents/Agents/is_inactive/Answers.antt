@@ -1,0 +1,17 @@
+use Rattle.std.proofs.Common.{◌∙◌, sym, ap}
+use Rattle.std.specs.Prelude.{not, ◌&&◌}
+use Rattle.wl_machine.specs.Refusals.{is_window}
+use Rattle.wl_index.specs.declared.agents.Agent.{Agent}
+use Rattle.wl_index.specs.Roll.{at_some}
+use Rattle.wl_index.proofs.Rolls.{agent_inactive}
+use Rattle.wl_index.proofs.agents.Agents.is_inactive.Goals as goal
+
+pub returns-in-Some : goal.returns-in-Some
+returns-in-Some c =
+    let i = c.self.inside in
+    rw (← c.self.view_is) (c.is_inactive.ensures ∙ ap (at_some (λ (m : Agent). is_window m.kind && not m.active)) c.in-Some.ensures.value ∙ sym (agent_inactive c.args.agent i.agents.entries c.self.invariant.0.members_ordered))
+
+pub returns-in-None : goal.returns-in-None
+returns-in-None c =
+    let i = c.self.inside in
+    rw (← c.self.view_is) (ap (at_some (λ (m : Agent). is_window m.kind && not m.active)) c.in-None.ensures.value ∙ sym (agent_inactive c.args.agent i.agents.entries c.self.invariant.0.members_ordered))

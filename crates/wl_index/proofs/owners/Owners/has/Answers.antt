@@ -1,8 +1,0 @@
-use Rattle.std.proofs.Common.{◌∙◌, sym}
-use Rattle.wl_index.proofs.Rolls.{agent_there}
-use Rattle.wl_index.proofs.owners.Owners.has.Goals as goal
-
-pub returns : goal.returns
-returns c =
-    let i = c.self.inside in
-    rw (← c.self.view_is) (c.contains.ensures ∙ sym (agent_there c.args.agent i.members.entries c.self.invariant.members_ordered))

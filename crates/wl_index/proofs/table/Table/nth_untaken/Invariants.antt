@@ -1,6 +1,0 @@
-use Rattle.wl_index.proofs.Untaken.{Passing}
-use Rattle.wl_index.proofs.table.Table.nth_untaken.Given as goal
-
--- so many are passed, and the next are from a stamp on
-abbrev pub invariant-loop-passed : goal.invariant-loop-passed
-invariant-loop-passed l = Passing l.agent l.signal l.i l.passed l.low l.self-inside.requests.entries
