@@ -29,6 +29,7 @@ Commands:
   audit   Do each line of standard input, and say for each manager whether its journal is legal
   serve   Serve locks over WebSocket on 127.0.0.1
   client  Send each line of standard input to a server, and print its reply as a line
+  daemon  Serve locks over WebSocket until it is stopped, and push grants to those who want that
   help    Print this message or the help of the given subcommand(s)
 
 Options:
@@ -115,7 +116,36 @@ Example:
 All messages and replies: docs/FORMATS.md.
 """
 
-PAGES = {"run": RUN_HELP, "audit": AUDIT_HELP, "serve": SERVE_HELP, "client": CLIENT_HELP}
+DAEMON_HELP = """\
+Serve locks over WebSocket until it is stopped, and push grants to those who want that
+
+Usage: weblocks daemon [OPTIONS]
+
+Options:
+      --listen <ADDRESS:PORT>  Address and port to listen on; port 0 is any that is free [default: 127.0.0.1:8080]
+      --connections <NUMBER>   Connections at once, 1 to 1000000 [default: 10000]
+      --per-address <NUMBER>   Connections at once from one address [default: a quarter of all; all from this machine]
+      --managers <NUMBER>      Buckets at once that have an agent, 1 to 10000000 [default: 100000]
+      --idle <SECONDS>         Seconds of silence after which a peer is pinged, 1 to 86400; it is ended after twice as \
+many [default: 30]
+      --loops <NUMBER>         Event loops, 1 to 64 [default: one a core]
+      --token-file <FILE>      File with a token a line, and the origins that it may open; whoever has none stays out
+      --open                   Listen beyond this machine without a token file
+      --allow-origin <ORIGIN>  Origin whose pages may open any URL; '*' is each origin. May be given again
+      --while-input            End when standard input ends
+      --log <LEVEL>            What goes to standard error: off, error, warn, info, debug or trace [default: info]
+  -h, --help                   Print help
+
+Example:
+  weblocks daemon --listen 127.0.0.1:8080
+
+  A line once it listens:
+  listening 127.0.0.1:8080
+
+Tokens, pages, pushes and close codes: docs/FORMATS.md.
+"""
+
+PAGES = {"run": RUN_HELP, "audit": AUDIT_HELP, "serve": SERVE_HELP, "client": CLIENT_HELP, "daemon": DAEMON_HELP}
 
 # How a page of help is asked for, and the page.
 HELPS = [(words, HELP) for words in ("--help", "-h", "help")] + [
@@ -167,6 +197,7 @@ USAGE = {
     for command, page in [("", HELP), *PAGES.items()]
 }
 # (the option of a tip counts as used)
+USAGE["--listen"] = USAGE["daemon"].replace("[OPTIONS]", "--listen <ADDRESS:PORT>")
 USAGE["--version"] = USAGE[""].replace("weblocks", "weblocks --version")
 
 
@@ -196,7 +227,13 @@ def out_of_range(option, value, most):
     return f"invalid value '{value}' for '{option}': {value} is not in 1..={most}"
 
 
+def no_value(option, value, why):
+    """A value that the daemon's option can't have."""
+    return f"invalid value '{value}' for '{option}': {why}" + USAGE[""]
+
+
 PORT, CLIENTS = "--port <PORT>", "--clients <NUMBER>"
+LISTEN, LOG = "--listen <ADDRESS:PORT>", "--log <LEVEL>"
 
 # Words, and what is said of them.
 WRONG = [
@@ -226,11 +263,27 @@ WRONG = [
     ("serve --port 65536 --clients 1", out_of_range(PORT, 65536, 65535)),
     ("serve --port 8080 --clients 0", out_of_range(CLIENTS, 0, 10000)),
     ("serve --port 8080 --clients 10001", out_of_range(CLIENTS, 10001, 10000)),
+    ("daemon --listn 1", unknown("--listn", "--listen", near_argument("--listen"))),
+    ("daemon 8080", unknown("8080", "daemon")),
+    *((f"daemon --listen {value}", no_value(LISTEN, value, "not an address and a port"))
+      for value in ("8080", "localhost:8080", "127.0.0.1", "127.0.0.1:65536", "::1:8080", "1.2.3:80")),
+    ("daemon --log loud", no_value(LOG, "loud", "not a level")),
+    *((f"daemon --{name} {value}", out_of_range(f"--{name} <{shown}>", value, most))
+      for name, shown, most in (
+          ("connections", "NUMBER", 1000000),
+          ("per-address", "NUMBER", 1000000),
+          ("managers", "NUMBER", 10000000),
+          ("idle", "SECONDS", 86400),
+          ("loops", "NUMBER", 64),
+      )
+      for value in (0, most + 1)),
+    ("daemon --idle x", "invalid value 'x' for '--idle <SECONDS>': invalid digit found in string"),
+    ("daemon --token-file", "a value is required for '--token-file <FILE>' but none was supplied"),
 ]
 
 NO_COMMAND = """\
 'weblocks' requires a subcommand but one was not provided
-  [subcommands: run, audit, serve, client, help]"""
+  [subcommands: run, audit, serve, client, daemon, help]"""
 
 
 def is_refused(words, why):

@@ -176,7 +176,10 @@ def comparison_checks(made: Checkouts, kit: Kit) -> Checks:
 
 
 # The steps of ./test that have a stand-in here, beside rt.
-STEPS = ("try_edits", "read_proofs", "read_me", "building", "refuse_growths", "run_scripts", "launching", "clients")
+STEPS = (
+    *("try_edits", "read_proofs", "read_me", "building"),
+    *("refuse_growths", "run_scripts", "run_daemon", "launching", "clients"),
+)
 
 
 def gate_checks(made: Checkouts, kit: Kit) -> Checks:
@@ -228,8 +231,9 @@ def gate_checks(made: Checkouts, kit: Kit) -> Checks:
         expect_end(kit.run(top, "tools/ship"), b"", 1, NO_RECORD.encode())
 
     yield "./test passes once its program is shipped", passes_once_shipped
-    built = (("building", 3), (f"launching {BUILT}", 4), (f"run_scripts {BUILT}", 1))
-    for step, status in (*built, (f"clients --allow-missing {BUILT}", 1)):
+    of_built = (("launching", 4), ("run_scripts", 1), ("run_daemon", 5), ("clients --allow-missing", 1))
+    stopped = [("building", 3), *((f"{step} {BUILT}", status) for step, status in of_built)]
+    for step, status in stopped:
         yield f"./test stops at {step}", lambda it=step, number=status: stops(it, number)
     yield "./test stops at rt ci", stops_at_proofs
     yield "a file is edited while ./test runs", edited_meanwhile

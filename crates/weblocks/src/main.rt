@@ -4,16 +4,20 @@
 //! command line are wrong.
 #![tactic(auto)]
 
+mod daemon;
 mod network;
 
+use daemon::daemon;
 use network::{NetFault, client, serve};
 use std::alloc::{AllocError, Global};
+use std::fs::Files;
 use std::io::Write;
 use std::net::{Net, TcpListener, TcpStream};
 use std::process::ExitCode;
 use std::random::RandomSource;
 use std::sync::Wait;
 use std::thread::Threads;
+use std::time::Clock;
 use std::{env, fmt, io};
 use wl_script::{Reader, ScriptFault, Writer};
 use wl_words::{Job, UsageFault, job_of};
@@ -37,7 +41,7 @@ fn main(rt: HostRuntime) -> ExitCode {
 fn work<R>(rt: &R, words: &[String]) -> ExitCode
 where
     R: Net<Listener = TcpListener, Stream = TcpStream> + Threads + Wait + Sync + RandomSource,
-    R: io::Input + Print + Eprint + AllocGlobal,
+    R: io::Input + Print + Eprint + Clock + Files<File: Send, Dir: Send> + AllocGlobal,
 {
     let Ok(texts) = texts_of(rt.alloc(), words) else {
         return fail(rt, "out of memory");
@@ -47,6 +51,7 @@ where
         Ok(Job::Audit) => audit(rt),
         Ok(Job::Serve { port, clients }) => done(rt, serve(rt, port, u64::from(clients))),
         Ok(Job::Client { port }) => done(rt, client(rt, port)),
+        Ok(Job::Daemon(options)) => daemon(rt, &options),
         Err(UsageFault::Usage(error)) => answer_usage(rt, &error),
         Err(UsageFault::Memory) => fail(rt, "out of memory"),
     }

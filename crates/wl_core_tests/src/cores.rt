@@ -6,5 +6,6 @@ mod lists;
 mod random;
 mod refusals;
 mod runs;
+mod seeds;
 
 pub use lists::{LISTS, came};

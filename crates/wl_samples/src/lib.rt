@@ -5,9 +5,11 @@
 
 mod answers;
 mod calls;
+mod no_random;
 
 pub use answers::told;
 pub use calls::{done, done_often};
+pub use no_random::NoRandom;
 use std::alloc::Global;
 use std::test::Fail;
 use wl_core::{Command, LockCore, Reply};

@@ -7,3 +7,4 @@ mod growth;
 mod limits;
 mod pieces;
 mod runs;
+mod seeds;

@@ -1,5 +1,5 @@
 -- What an agent behind a connection answers (own).
-use Rattle.std.specs.Prelude.{◌≡◌, ◌≢◌, ℕ, List, All}
+use Rattle.std.specs.Prelude.{◌≡◌, ◌≢◌, ℕ, List, true, None, All}
 use Rattle.wl_types.specs.declared.phases.Phase.TheVariants.{Granted}
 use Rattle.wl_types.specs.declared.refusal.Refusal.TheVariants as refusal
 use Rattle.wl_codec.specs.Reading.{message_reading}
@@ -10,7 +10,7 @@ use Rattle.wl_codec.specs.declared.reply.Outcome.{Outcome}
 use Rattle.wl_codec.specs.declared.reply.Outcome.TheVariants as outcome
 use Rattle.wl_session.specs.Planned.{plan_for}
 use Rattle.wl_session.specs.Step.{State, reply, after}
-use Rattle.wl_session.specs.Told.{Look, IsByNumber, Fits}
+use Rattle.wl_session.specs.Told.{Look, IsByNumber, Fits, has_news}
 use Rattle.wl_session.specs.declared.plan.Action.{Action}
 use Rattle.wl_session.specs.declared.plan.Action.TheVariants.{Act, Answer}
 use Rattle.wl_session.specs.declared.plan.Plan.{Plan}
@@ -50,3 +50,14 @@ pub record Answers (old : State) (message text : List ℕ) (new : State) : Type 
   pub taken : All (λ look. look.1 ≢ Granted) looks
   pub told : text ≡ reply_text (reply old (plan_of old message).id outcome looks)
   pub left : new ≡ after old outcome looks
+
+-- The text is the reply to a poll that nobody sent, without an id, and of what was found of the requests, which fits what they were
+-- told of, something is news: grants were taken first.
+pub record Tells (old : State) (text : List ℕ) (new : State) : Type 0 where
+  pub looks : List Look
+  pub by_number : IsByNumber looks
+  pub fit : All (Fits outcome.Polled old.told) looks
+  pub taken : All (λ look. look.1 ≢ Granted) looks
+  pub news : has_news outcome.Polled old.told looks ≡ true
+  pub told : text ≡ reply_text (reply old None outcome.Polled looks)
+  pub left : new ≡ after old outcome.Polled looks

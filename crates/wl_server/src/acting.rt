@@ -3,14 +3,16 @@
 ghost use Rattle.std.specs.Prelude.{ℕ, List, IfOk};
 ghost use Rattle.wl_codec.specs.declared.message.Body.{Body};
 ghost use Rattle.wl_codec.specs.declared.message.Body.TheVariants.{Enter, Request};
+ghost use Rattle.wl_types.specs.declared.words.Kind.{Kind};
 ghost use Rattle.wl_server.specs.Peers.{IsOutcome, IsOutcomeOf};
 
 use crate::entered::Entered;
+use crate::opener::{NoAnswer, NotOpened, Opener};
 use crate::requests::Requests;
 use std::alloc::Global;
 use std::sync::Wait;
 use wl_codec::{Body, Outcome};
-use wl_service::{Client, OpenFault, Service};
+use wl_service::{Client, OpenFault};
 use wl_session::Action;
 use wl_types::{Ask, Kind, Memory, Refusal, ReleaseAnswer, Text};
 
@@ -24,30 +26,41 @@ fn refused(refusal: Refusal) -> Result<Outcome, Memory>
     }
 }
 
-fn enter<R: Wait>(
+fn enter<R: Wait, O: Opener>(
     rt: &R,
-    service: &Service,
+    opener: &O,
     entered: &mut Option<Entered>,
     url: &str,
     bucket: Text,
     kind: Kind,
-) -> Result<Outcome, Memory>
+) -> Result<Outcome, NoAnswer>
     ensures { IfOk result (λ outcome. (text name : List ℕ) → IsOutcomeOf (Enter text kind name) outcome) }
 {
-    match service.open_in_text(rt, url, bucket, kind) {
+    match opener.open(rt, url, bucket, kind) {
         Ok(opened) => {
             let number = opened.client();
             // An open session opens no second agent. If it did, its first would end.
             if let Some(before) = entered.replace(Entered::new(opened)) {
-                let _ = before.end(rt);
+                let _ = before.end(rt, opener);
             }
             Ok(Outcome::Client(number))
         }
-        Err(OpenFault::BadUrl) => Ok(Outcome::BadUrl),
-        Err(OpenFault::BadBucket) => Ok(Outcome::BadBucket),
-        Err(OpenFault::TooManyAgents) => Ok(Outcome::Refused(Refusal::TooManyAgents)),
-        Err(OpenFault::NumbersSpent) => Ok(Outcome::Refused(Refusal::NumbersSpent)),
-        Err(OpenFault::Memory) => Err(Memory),
+        Err(NotOpened::Forbidden) => Err(NoAnswer::Forbidden),
+        Err(NotOpened::Fault(fault)) => not_entered(fault),
+    }
+}
+
+/// The outcome of an `open` for which the service opened no client.
+fn not_entered(fault: OpenFault) -> Result<Outcome, NoAnswer>
+    ensures { IfOk result (λ outcome. (text name : List ℕ) (kind : Kind) → IsOutcomeOf (Enter text kind name) outcome) }
+{
+    match fault {
+        OpenFault::BadUrl => Ok(Outcome::BadUrl),
+        OpenFault::BadBucket => Ok(Outcome::BadBucket),
+        OpenFault::TooManyAgents => Ok(Outcome::Refused(Refusal::TooManyAgents)),
+        OpenFault::NumbersSpent => Ok(Outcome::Refused(Refusal::NumbersSpent)),
+        OpenFault::TooManyManagers => Err(NoAnswer::TooManyManagers),
+        OpenFault::Memory => Err(NoAnswer::Memory),
     }
 }
 
@@ -117,48 +130,49 @@ fn operate<R: Wait>(
 }
 
 /// Does what a message asks for. An agent opens or leaves by it.
-fn act<R: Wait>(
+fn act<R: Wait, O: Opener>(
     rt: &R,
     alloc: Global,
-    service: &Service,
+    opener: &O,
     entered: &mut Option<Entered>,
     requests: &mut Requests,
     body: Body,
-) -> Result<Outcome, Memory>
+) -> Result<Outcome, NoAnswer>
     ensures { IfOk result (λ outcome. IsOutcomeOf body outcome) }
 {
     match body {
         Body::Enter { url, kind, bucket } => {
-            enter(rt, service, entered, url.as_str(), bucket, kind)
+            enter(rt, opener, entered, url.as_str(), bucket, kind)
         }
         Body::Close => {
-            if let Some(leaving) = entered.take() {
-                let _ = leaving.end(rt);
-            }
+            // Before its manager may be let go of, which tickets hold.
             *requests = Requests::new(alloc);
+            if let Some(leaving) = entered.take() {
+                let _ = leaving.end(rt, opener);
+            }
             Ok(Outcome::Closed)
         }
         other => match entered {
-            Some(entered) => operate(rt, entered.client_mut(), requests, other),
+            Some(entered) => Ok(operate(rt, entered.client_mut(), requests, other)?),
             // An open session has a client.
-            None => refused(Refusal::NoSuchAgent),
+            None => Ok(refused(Refusal::NoSuchAgent)?),
         },
     }
 }
 
 /// The outcome of what was planned for a message.
-pub fn outcome_of<R: Wait>(
+pub fn outcome_of<R: Wait, O: Opener>(
     rt: &R,
     alloc: Global,
-    service: &Service,
+    opener: &O,
     entered: &mut Option<Entered>,
     requests: &mut Requests,
     action: Action,
-) -> Result<Outcome, Memory>
+) -> Result<Outcome, NoAnswer>
     ensures { IfOk result (λ outcome. IsOutcome action outcome) }
 {
     match action {
         Action::Answer(outcome) => Ok(outcome),
-        Action::Act(body) => act(rt, alloc, service, entered, requests, body),
+        Action::Act(body) => act(rt, alloc, opener, entered, requests, body),
     }
 }

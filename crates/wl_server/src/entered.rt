@@ -3,6 +3,7 @@
 ghost use Rattle.std.specs.Prelude.{◌≡◌, is_some};
 ghost use Rattle.wl_service.specs.Clients.{number_of};
 
+use crate::opener::Opener;
 use std::sync::Wait;
 use wl_service::{Client, Leaving};
 
@@ -30,7 +31,15 @@ impl Entered {
 
     /// Terminates the agent. Only a client that was terminated leaves something, so this tells that it was, unless it
     /// is of an opaque origin.
-    pub fn end<R: Wait>(self, rt: &R) -> Option<Leaving>
+    pub fn end<R: Wait, O: Opener>(self, rt: &R, opener: &O) -> Option<Leaving>
+        ensures { is_some result ≡ is_some (number_of self.client) }
+    {
+        let Entered { client } = self;
+        opener.close(rt, client)
+    }
+
+    /// `end`, where the service keeps each manager.
+    pub fn terminate<R: Wait>(self, rt: &R) -> Option<Leaving>
         ensures { is_some result ≡ is_some (number_of self.client) }
     {
         let Entered { client } = self;

@@ -14,6 +14,7 @@ mod fault;
 mod lines;
 mod link;
 mod listening;
+mod opener;
 mod peer;
 mod piece;
 mod relaying;
@@ -26,6 +27,7 @@ mod writing;
 
 pub use crate::fault::{ListenFault, RelayFault, ServeEnd, ServeFault, Served};
 pub use crate::listening::serve;
+pub use crate::opener::{NoAnswer, NotOpened, Opener};
 pub use crate::peer::Peer;
 pub use crate::relaying::relay;
 pub use crate::serving::serve_one;

@@ -1,16 +1,17 @@
 //! The agent of a connection.
 
-ghost use Rattle.std.specs.Prelude.{◌≡◌, IfOk, string_bytes};
+ghost use Rattle.std.specs.Prelude.{◌≡◌, IfOk, IfSome, IfNone, string_bytes};
 ghost use Rattle.wl_session.specs.Step.{closed};
-ghost use Rattle.wl_server.specs.Peers.{Answers};
+ghost use Rattle.wl_server.specs.Peers.{Answers, Tells};
 
 use crate::acting::outcome_of;
 use crate::entered::Entered;
+use crate::opener::{NoAnswer, Opener};
 use crate::requests::Requests;
 use std::alloc::Global;
 use std::marker::Model;
 use std::sync::Wait;
-use wl_codec::{Scratch, read_message_with};
+use wl_codec::{Outcome, Scratch, read_message_with};
 use wl_service::Service;
 use wl_session::{Plan, Session};
 use wl_types::Memory;
@@ -18,7 +19,8 @@ use wl_types::Memory;
 /// The agent of a connection: the session with it, and once it opened its client and its requests. Contracts see the
 /// session.
 ///
-/// A peer can't be dropped: it ends by `end`, or by an `answer` for which there is no memory.
+/// A peer can't be dropped: it ends by `end_by`, by `end` where its service keeps each manager, or where it can't answer or
+/// tell.
 pub struct Peer {
     alloc: Global,
     session: Session,
@@ -50,8 +52,7 @@ impl Peer {
         }
     }
 
-    /// The reply to a message, as a text. The reply tells what became of the agent's requests since the last. Where
-    /// there is no memory the agent was terminated.
+    /// `answer_by` the service itself, which keeps each manager and opens any URL.
     pub fn answer<R: Wait>(
         self,
         rt: &R,
@@ -60,22 +61,39 @@ impl Peer {
     ) -> Result<(Peer, String), Memory>
         ensures { IfOk result (λ said. Answers self message.now (string_bytes said.1) said.0) }
     {
+        match self.answer_by(rt, service, message) {
+            Ok(said) => Ok(said),
+            // Such a service gives no other cause.
+            Err(_) => Err(Memory),
+        }
+    }
+
+    /// The reply to a message, as a text. The reply tells what became of the agent's requests since the last. Where
+    /// there is none the agent was terminated.
+    pub fn answer_by<R: Wait, O: Opener>(
+        self,
+        rt: &R,
+        opener: &O,
+        message: &[u8],
+    ) -> Result<(Peer, String), NoAnswer>
+        ensures { IfOk result (λ said. Answers self message.now (string_bytes said.1) said.0) }
+    {
         let mut peer = self;
-        match peer.reply(rt, service, message) {
+        match peer.reply(rt, opener, message) {
             Ok(text) => Ok((peer, text)),
-            Err(Memory) => {
-                peer.end(rt);
-                Err(Memory)
+            Err(fault) => {
+                peer.end_by(rt, opener);
+                Err(fault)
             }
         }
     }
 
-    fn reply<R: Wait>(
+    fn reply<R: Wait, O: Opener>(
         &mut self,
         rt: &R,
-        service: &Service,
+        opener: &O,
         message: &[u8],
-    ) -> Result<String, Memory>
+    ) -> Result<String, NoAnswer>
         ensures { IfOk result (λ text. Answers self.old message.now (string_bytes text) self.new) }
     {
         let reading = read_message_with(self.alloc, message, &mut self.scratch)?;
@@ -83,7 +101,7 @@ impl Peer {
         let outcome = outcome_of(
             rt,
             self.alloc,
-            service,
+            opener,
             &mut self.entered,
             &mut self.requests,
             action,
@@ -96,17 +114,74 @@ impl Peer {
         Ok(text)
     }
 
-    /// Terminates the agent, if there is one.
+    /// What became of the agent's requests since it was last told, as a text; none where nothing is to be told. Where
+    /// there is no memory for it, the agent was terminated.
+    pub fn tell<R: Wait, O: Opener>(
+        self,
+        rt: &R,
+        opener: &O,
+    ) -> Result<(Peer, Option<String>), Memory>
+        ensures text { IfOk result (λ said. IfSome said.1 (λ text. Tells self (string_bytes text) said.0)) }
+        ensures none { IfOk result (λ said. IfNone said.1 (said.0 ≡ self)) }
+    {
+        let mut peer = self;
+        match peer.news() {
+            Ok(text) => Ok((peer, text)),
+            Err(Memory) => {
+                peer.end_by(rt, opener);
+                Err(Memory)
+            }
+        }
+    }
+
+    fn news(&mut self) -> Result<Option<String>, Memory>
+        ensures text { IfOk result (λ told. IfSome told (λ text. Tells self.old (string_bytes text) self.new)) }
+        ensures none { IfOk result (λ told. IfNone told (self.new ≡ self.old)) }
+    {
+        let outcome = Outcome::Polled;
+        let looks = self
+            .requests
+            .looks(self.entered.as_ref(), &self.session, &outcome)?;
+        if !self.session.has_notices(&outcome, &looks) {
+            return Ok(None);
+        }
+        let text = self.session.finish_changed(None, outcome, &looks)?;
+        self.requests.tell(&looks);
+        Ok(Some(text))
+    }
+
+    /// Whether a request may have changed since the agent's requests were last looked at.
+    pub fn is_rung(&self) -> bool {
+        match &self.entered {
+            Some(entered) => entered.client().is_rung(),
+            None => false,
+        }
+    }
+
+    /// `end_by`, where the service keeps each manager.
     pub fn end<R: Wait>(self, rt: &R) {
+        if let Some(entered) = self.entered() {
+            let _ = entered.terminate(rt);
+        }
+    }
+
+    /// Terminates the agent, if there is one.
+    pub fn end_by<R: Wait, O: Opener>(self, rt: &R, opener: &O) {
+        if let Some(entered) = self.entered() {
+            let _ = entered.end(rt, opener);
+        }
+    }
+
+    /// The client, if there is one. The tickets are gone, and hold no manager any more.
+    fn entered(self) -> Option<Entered> {
         let Peer {
             alloc: _alloc,
             session: _session,
             entered,
-            requests: _requests,
+            requests,
             scratch: _scratch,
         } = self;
-        if let Some(entered) = entered {
-            let _ = entered.end(rt);
-        }
+        drop(requests);
+        entered
     }
 }

@@ -71,6 +71,7 @@ where
     let alloc = scene.alloc;
     let service = &scene.service;
     match word(call, 0) {
+        "keep" => show(came, Some(scene.keep_used(rt, number(call, 1)))),
         "serve" => streams::serve(rt, alloc, service, call, came),
         "relay" => loopback::relay_pieces(rt, alloc, service, call, came),
         "relay_to" => hosts::relay_to(rt, alloc, call, came),

@@ -5,9 +5,10 @@
 //! `enter KIND BUCKET URL`, which answer it too, and lend their bucket or hand it over; `fill COUNT URL`, which opens
 //! that many workers and answers the last one's; `request CLIENT NAME SIGNAL`, which answers the request's number, and
 //! `look TICKET`; `release CLIENT TICKET`; `signal CLIENT` and `abort CLIENT SIGNAL REASON`; `set CLIENT active`;
-//! `query CLIENT`, which answers how many entries were seen and how many locks are held; `terminate CLIENT`, which
-//! answers whether it left something; and `visit URL BUCKET`, which answers whether the visitor was called, and how many
-//! entries it was shown. One that names no bucket visits that of `default`.
+//! `query CLIENT`, which answers how many entries were seen and how many locks are held; `terminate CLIENT` and
+//! `close CLIENT`, which answer whether it left something; and `visit URL BUCKET`, which answers whether the visitor was
+//! called, and how many entries it was shown. One that names no bucket visits that of `default`. `keep COUNT` puts a new
+//! service in the place of the one that keeps each manager, which has so many at most, and `managers` answers how many.
 
 use crate::lists::{number, rest, show, word};
 use std::alloc::Global;
@@ -17,7 +18,7 @@ use std::test::Fail;
 use wl_journal::{Entry, Sight};
 use wl_manager::Visitor;
 use wl_samples::{ask, key_in};
-use wl_service::{Client, OpenFault, Service, Ticket};
+use wl_service::{Client, Keeping, OpenFault, Service, Ticket};
 use wl_types::{Ask, Kind, Memory, Mode, Phase, Reason, Refusal, ReleaseAnswer, Text};
 
 #[derive(Drop)]
@@ -98,6 +99,12 @@ impl Scene {
         })
     }
 
+    /// A new service takes the place of this one, and keeps so many managers at most.
+    pub fn keep_used<R: RandomSource>(&mut self, rt: &R, most: usize) -> Result<(), Memory> {
+        self.service = Service::with_keeping(rt, self.alloc, Keeping::Used { most })?;
+        Ok(())
+    }
+
     pub fn do_call<R: Wait>(&mut self, rt: &R, call: &str, came: &mut String) -> Result<(), Fail> {
         let place = number(call, 1);
         match word(call, 0) {
@@ -113,6 +120,8 @@ impl Scene {
             "look" => show(came, self.look(place)),
             "release" => show(came, self.release(rt, place, number(call, 2))),
             "terminate" => show(came, self.terminate(rt, place)),
+            "close" => show(came, self.close(rt, place)),
+            "managers" => show(came, Some(self.service.managers(rt))),
             _ => match at(&mut self.clients, place) {
                 Some(client) => call_client(rt, client, call, came),
                 None => show(came, None::<u64>),
@@ -199,13 +208,23 @@ impl Scene {
         Some(at(&mut self.clients, client)?.release(rt, ticket))
     }
 
-    fn terminate<R: Wait>(&mut self, rt: &R, client: usize) -> Option<bool> {
+    /// Takes the client of a place away.
+    fn leave(&mut self, client: usize) -> Option<Client> {
         let index = client.wrapping_sub(1);
         if index < self.clients.len() {
-            Some(self.clients.remove(index).terminate(rt).is_some())
+            Some(self.clients.remove(index))
         } else {
             None
         }
+    }
+
+    fn terminate<R: Wait>(&mut self, rt: &R, client: usize) -> Option<bool> {
+        Some(self.leave(client)?.terminate(rt).is_some())
+    }
+
+    fn close<R: Wait>(&mut self, rt: &R, client: usize) -> Option<bool> {
+        let client = self.leave(client)?;
+        Some(self.service.close(rt, client).is_some())
     }
 
     fn visit<R: Wait>(&self, rt: &R, call: &str, came: &mut String) -> Result<(), Fail> {

@@ -8,6 +8,7 @@ pub mod gates;
 mod growth;
 pub mod hosts;
 pub mod loopback;
+mod pushes;
 mod relays;
 pub mod streams;
 mod taker;

@@ -3,6 +3,8 @@
 
 mod clients;
 mod growth;
+mod hearing;
+mod keeping;
 mod opening;
 pub mod threads;
 
@@ -17,5 +19,6 @@ const ELSEWHERE: &str = "http://a.test/";
 fn services_do_the_lists(rt: HostRuntime) -> Result<(), Fail> {
     assert_lists(&rt, rt.alloc(), &opening::LISTS)?;
     assert_lists(&rt, rt.alloc(), &clients::LISTS)?;
+    assert_lists(&rt, rt.alloc(), &keeping::LISTS)?;
     assert_lists(&rt, rt.alloc(), &threads::LISTS)
 }

@@ -13,7 +13,7 @@ use Rattle.wl_origin.specs.declared.standing.KeyFault.{KeyFault}
 use Rattle.wl_service.specs.Clients.{Who, Managed, Opaque}
 use Rattle.wl_service.specs.Opening.{Opens}
 use Rattle.wl_service.specs.declared.fault.OpenFault.{OpenFault}
-use Rattle.wl_service.specs.declared.fault.OpenFault.TheVariants.{BadUrl, BadBucket, TooManyAgents, NumbersSpent, Memory}
+use Rattle.wl_service.specs.declared.fault.OpenFault.TheVariants.{BadUrl, BadBucket, TooManyAgents, NumbersSpent, TooManyManagers, Memory}
 
 -- what was found is what there was to find, or memory was wanting
 pub opens_found : (expected found : Result (Option ManagerKey) ManagerFault) (kind : Kind) (result : Result Who OpenFault)
@@ -27,6 +27,7 @@ opens_found expected (Err key.Memory) kind (Err BadUrl) is opens = absurd cc
 opens_found expected (Err key.Memory) kind (Err BadBucket) is opens = absurd cc
 opens_found expected (Err key.Memory) kind (Err TooManyAgents) is opens = absurd opens
 opens_found expected (Err key.Memory) kind (Err NumbersSpent) is opens = absurd opens
+opens_found expected (Err key.Memory) kind (Err TooManyManagers) is opens = absurd opens
 opens_found expected (Err key.Memory) kind (Err Memory) is opens = tt
 
 -- the default bucket is a bucket
@@ -46,4 +47,5 @@ never_bad url kind (Err BadUrl) opens = λ e. absurd cc
 never_bad url kind (Err BadBucket) opens = λ e. default_is_one (standing_of url) opens
 never_bad url kind (Err TooManyAgents) opens = λ e. absurd cc
 never_bad url kind (Err NumbersSpent) opens = λ e. absurd cc
+never_bad url kind (Err TooManyManagers) opens = λ e. absurd cc
 never_bad url kind (Err Memory) opens = λ e. absurd cc

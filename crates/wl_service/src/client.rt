@@ -1,6 +1,6 @@
 //! A client of the service.
 
-ghost use Rattle.std.specs.Prelude.{◌≡◌, ◌⊎◌, [], true, Err, IfErr, is_some};
+ghost use Rattle.std.specs.Prelude.{◌≡◌, ◌⊎◌, [], true, false, Err, IfErr, is_some};
 ghost use Rattle.wl_types.specs.declared.refusal.Refusal.TheVariants.{NoSuchAgent, NoSuchSignal, Security};
 ghost use Rattle.wl_types.specs.declared.answers.ReleaseAnswer.TheVariants.{NotHeld};
 ghost use Rattle.wl_machine.specs.Refusals.{no_storage};
@@ -14,6 +14,7 @@ use std::marker::Model;
 use std::sync::Wait;
 use wl_journal::Sight;
 use wl_manager::{Agent, Recent};
+use wl_origin::ManagerKey;
 use wl_types::{AbortAnswer, Ask, Kind, Reason, Refusal, ReleaseAnswer};
 
 /// What a client has of its request. It may move to another thread, and may outlive the client.
@@ -30,11 +31,14 @@ enum Side {
 
 /// A window or worker that opened: an agent of its origin's manager, or one of an opaque origin, which is refused.
 ///
-/// Each call of a managed client but `client` and `changed` is its agent's, and takes its manager's lock; an opaque one takes none.
-/// A client should end by `terminate`: one that is dropped stays in its manager, with its locks.
+/// Each call of a managed client but `client`, `changed` and `is_rung` is its agent's, and takes its manager's lock; an
+/// opaque one takes none. A client should end by `Service::close`, or by `terminate` where its service keeps each
+/// manager: one that is dropped stays in its manager, with its locks.
 #[derive(Drop)]
 pub struct Client {
     side: Side,
+    // By which its service finds its manager, if it lets go of those that have no client.
+    key: Option<ManagerKey>,
 }
 
 impl Model for Client {
@@ -46,11 +50,13 @@ impl Model for Client {
 }
 
 impl Client {
-    pub(crate) fn managed(agent: Agent<Core, Recent>) -> Client
+    /// An agent, and its manager's key where the service may let go of that.
+    pub(crate) fn managed(agent: Agent<Core, Recent>, key: Option<ManagerKey>) -> Client
         ensures { result ≡ Managed agent.number }
     {
         Client {
             side: Side::Managed(agent),
+            key,
         }
     }
 
@@ -60,6 +66,7 @@ impl Client {
     {
         Client {
             side: Side::Opaque(OpaqueAgent { kind, active: true }),
+            key: None,
         }
     }
 
@@ -85,6 +92,16 @@ impl Client {
                 numbers.clear();
                 true
             }
+        }
+    }
+
+    /// Whether a request changed since `changed` was last called. A bell that the client was opened with was rung then.
+    pub fn is_rung(&self) -> bool
+        ensures opaque { IfOpaque self.now (λ kind active. result ≡ false) }
+    {
+        match &self.side {
+            Side::Managed(agent) => agent.is_rung(),
+            Side::Opaque(_) => false,
         }
     }
 
@@ -175,9 +192,18 @@ impl Client {
     pub fn terminate<R: Wait>(self, rt: &R) -> Option<Leaving>
         ensures { is_some result ≡ is_some (number_of self) }
     {
-        match self.side {
+        self.leave(rt).0
+    }
+
+    /// `terminate`, with the key of the manager that was left.
+    pub(crate) fn leave<R: Wait>(self, rt: &R) -> (Option<Leaving>, Option<ManagerKey>)
+        ensures { is_some result.0 ≡ is_some (number_of self) }
+    {
+        let Client { side, key } = self;
+        let leaving = match side {
             Side::Managed(agent) => Some(agent.terminate(rt)),
             Side::Opaque(_) => None,
-        }
+        };
+        (leaving, key)
     }
 }

@@ -17,6 +17,9 @@ pub enum OpenFault {
     /// The manager's next agent number would be 2^53.
     #[error("numbers spent")]
     NumbersSpent,
+    /// The bucket has no manager, and as many managers as may be have a client.
+    #[error("too many managers")]
+    TooManyManagers,
     /// A growth was refused, or the URL would be longer than 4,294,967,295 bytes.
     #[error("out of memory")]
     Memory,

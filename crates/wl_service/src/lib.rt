@@ -12,6 +12,6 @@ mod opaque;
 mod service;
 
 pub use client::{Client, Leaving, Ticket};
-pub use directory::Core;
+pub use directory::{Core, Keeping};
 pub use fault::OpenFault;
 pub use service::Service;

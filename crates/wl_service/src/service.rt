@@ -1,36 +1,49 @@
 //! The service.
 
-ghost use Rattle.std.specs.Prelude.{◌≡◌, ◌≢◌, true, IfErr, Some, Ok};
+ghost use Rattle.std.specs.Prelude.{◌≡◌, ◌≢◌, true, is_some, IfErr, IfOk, IfNone, IfSome, Some, Ok};
 ghost use Rattle.wl_origin.specs.Bucket.{default_bucket};
 ghost use Rattle.wl_origin.specs.Opening.{manager_of};
-ghost use Rattle.wl_service.specs.declared.fault.OpenFault.TheVariants.{BadBucket};
+ghost use Rattle.wl_service.specs.Clients.{number_of};
+ghost use Rattle.wl_service.specs.declared.fault.OpenFault.TheVariants.{BadBucket, BadUrl};
 ghost use Rattle.wl_service.specs.Opening.{Opens};
 
-use crate::client::Client;
-use crate::directory::{Directory, fault_of};
+use crate::client::{Client, Leaving};
+use crate::directory::{Core, Directory, Keeping, fault_of};
 use crate::fault::OpenFault;
 use std::alloc::Global;
 use std::random::RandomSource;
 use std::sync::{Arc, Mutex, Wait};
 use wl_index::random_seed;
-use wl_manager::{Manager, Recent, Visitor};
+use wl_manager::{Agent, Bell, Manager, Recent, Visitor};
 use wl_origin::{ManagerFault, ManagerKey, manager_of, manager_of_text};
 use wl_types::{Kind, Memory, Text};
 
 /// The managers of all buckets of all origins. A manager is made when the first client of its bucket opens, and stays
-/// for the life of the service.
+/// for as long as the service's `Keeping` says.
 #[derive(Drop)]
 pub struct Service {
     directory: Mutex<Directory>,
+    keeping: Keeping,
     alloc: Global,
 }
 
 impl Service {
-    /// A service without managers, whose cores have one seed. `Memory` comes only where the system gives no random words.
+    /// A service without managers, which keeps each that it makes. `Memory` comes only where the system gives no random
+    /// words for the seed of its cores.
     pub fn new<R: RandomSource>(rt: &R, alloc: Global) -> Result<Service, Memory> {
+        Service::with_keeping(rt, alloc, Keeping::Each)
+    }
+
+    /// A service without managers, which keeps these; its cores have one seed. `Memory` as of `new`.
+    pub fn with_keeping<R: RandomSource>(
+        rt: &R,
+        alloc: Global,
+        keeping: Keeping,
+    ) -> Result<Service, Memory> {
         let seed = random_seed(rt)?;
         Ok(Service {
             directory: Mutex::new(Directory::new(alloc, seed)),
+            keeping,
             alloc,
         })
     }
@@ -56,7 +69,7 @@ impl Service {
         ensures { Opens (manager_of url.now bucket.now) kind result }
     {
         let found = manager_of(self.alloc, url, bucket);
-        self.open_found(rt, found, kind)
+        self.open_found(rt, found, kind, None)
     }
 
     /// As `open_in`, but keeps the bucket's text, and so makes no copy of it.
@@ -69,8 +82,22 @@ impl Service {
     ) -> Result<Client, OpenFault>
         ensures { Opens (manager_of url.now bucket) kind result }
     {
+        self.open_heard(rt, url, bucket, kind, None)
+    }
+
+    /// As `open_in_text`, of a client that rings this bell when its requests change.
+    pub fn open_heard<R: Wait>(
+        &self,
+        rt: &R,
+        url: &str,
+        bucket: Text,
+        kind: Kind,
+        bell: Option<Bell>,
+    ) -> Result<Client, OpenFault>
+        ensures { Opens (manager_of url.now bucket) kind result }
+    {
         let found = manager_of_text(self.alloc, url, bucket);
-        self.open_found(rt, found, kind)
+        self.open_found(rt, found, kind, bell)
     }
 
     fn open_found<R: Wait>(
@@ -78,6 +105,7 @@ impl Service {
         rt: &R,
         found: Result<Option<ManagerKey>, ManagerFault>,
         kind: Kind,
+        bell: Option<Bell>,
     ) -> Result<Client, OpenFault>
         ensures { Opens found kind result }
     {
@@ -86,22 +114,90 @@ impl Service {
             Err(ManagerFault::BadBucket) => Err(OpenFault::BadBucket),
             Err(ManagerFault::Memory) => Err(OpenFault::Memory),
             Ok(None) => Ok(Client::opaque(kind)),
-            Ok(Some(key)) => self.open_at(rt, key, kind),
+            Ok(Some(key)) => self.open_at(rt, key, kind, bell),
         }
     }
 
-    fn open_at<R: Wait>(&self, rt: &R, key: ManagerKey, kind: Kind) -> Result<Client, OpenFault>
+    fn open_at<R: Wait>(
+        &self,
+        rt: &R,
+        key: ManagerKey,
+        kind: Kind,
+        bell: Option<Bell>,
+    ) -> Result<Client, OpenFault>
         ensures { Opens (Ok (Some key)) kind result }
+    {
+        let own = self.clients_key(&key)?;
+        match self.open_agent(rt, key, kind, bell) {
+            Ok(agent) => Ok(Client::managed(agent, own)),
+            Err(fault) => {
+                // Its manager may have lost its last client meanwhile.
+                self.let_go(rt, own);
+                Err(fault)
+            }
+        }
+    }
+
+    /// The key that a client is to have: none where its manager stays in any case.
+    fn clients_key(&self, key: &ManagerKey) -> Result<Option<ManagerKey>, OpenFault>
+        ensures { IfErr result (λ fault. fault ≡ OpenFault.Memory) }
+    {
+        match self.keeping {
+            Keeping::Each => Ok(None),
+            Keeping::Used { .. } => match key.copy(self.alloc) {
+                Ok(copy) => Ok(Some(copy)),
+                Err(Memory) => Err(OpenFault::Memory),
+            },
+        }
+    }
+
+    /// A new agent of the key's manager.
+    fn open_agent<R: Wait>(
+        &self,
+        rt: &R,
+        key: ManagerKey,
+        kind: Kind,
+        bell: Option<Bell>,
+    ) -> Result<Agent<Core, Recent>, OpenFault>
+        ensures { IfErr result (λ fault. (fault ≢ BadUrl) × (fault ≢ BadBucket)) }
     {
         let mut directory = self.directory.lock(rt);
         if let Some(manager) = directory.kept(&key) {
             let manager = Arc::try_clone(manager).map_err(|_| OpenFault::Memory)?;
             drop(directory);
-            let agent = Manager::open(&manager, rt, kind).map_err(fault_of)?;
-            return Ok(Client::managed(agent));
+            return Manager::open_heard(&manager, rt, kind, bell).map_err(fault_of);
         }
-        let agent = directory.add(rt, self.alloc, key, kind)?;
-        Ok(Client::managed(agent))
+        if let Keeping::Used { most } = self.keeping {
+            if directory.len() >= most {
+                return Err(OpenFault::TooManyManagers);
+            }
+        }
+        directory.add(rt, self.alloc, key, kind, bell)
+    }
+
+    /// Ends a client that was opened here: as `Client::terminate`, and a manager that has no client then, and no
+    /// ticket, is dropped unless the service keeps each. What else the client had, as its tickets, should be dropped
+    /// before.
+    pub fn close<R: Wait>(&self, rt: &R, client: Client) -> Option<Leaving>
+        ensures { is_some result ≡ is_some (number_of client) }
+    {
+        let (leaving, key) = client.leave(rt);
+        self.let_go(rt, key);
+        leaving
+    }
+
+    /// Drops the key's manager, if nobody uses it.
+    fn let_go<R: Wait>(&self, rt: &R, key: Option<ManagerKey>) {
+        if let Some(key) = key {
+            // It is dropped once the directory's lock is free.
+            let unused = self.directory.lock(rt).take_unused(&key);
+            drop(unused);
+        }
+    }
+
+    /// How many managers there are.
+    pub fn managers<R: Wait>(&self, rt: &R) -> usize {
+        self.directory.lock(rt).len()
     }
 
     /// Shows the entries of the key's manager without the directory's lock, and answers true: all of them, or where

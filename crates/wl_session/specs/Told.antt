@@ -1,5 +1,6 @@
 -- What an agent was told of its requests, and what is news to it (own; Web Locks runs a request's callback and settles its promise).
 use Rattle.std.specs.Prelude.{◌≡◌, ◌⊎◌, ℕ, ◌+◌, ◌≤◌, List, [], ◌∷◌, ◌++◌, ◌==◌, nat_lt, Bool, true, false, not, map, filter, fold, All, Any, if◌then◌else◌}
+use Rattle.std.specs.List.{list_any}
 use Rattle.wl_types.specs.declared.phases.Phase.{Phase}
 use Rattle.wl_types.specs.declared.phases.Phase.TheVariants.{Pending, Granted, Taken, Unavailable, Aborted, Released, Stolen}
 use Rattle.wl_types.specs.Phases.{is_end, Reaches}
@@ -94,3 +95,7 @@ released l = (l.0, Released)
 -- A request of the list that no look names was released.
 abbrev pub completed : List Look → List Look → List Look
 completed told looks = fold put (map released told) looks
+
+-- whether there is such a notice
+abbrev pub has_news : Outcome → List Look → List Look → Bool
+has_news o told looks = list_any (λ l. is_news (phase_told o told l.0) l.1) looks

@@ -1,15 +1,15 @@
 //! A session of an agent.
 
-ghost use Rattle.std.specs.Prelude.{◌≡◌, ◌+◌, ◌≤◌, All, IfOk, OnOk, OnErr, IsTrue, filter, length, true, vec_len, vec_capacity, string_bytes};
+ghost use Rattle.std.specs.Prelude.{◌≡◌, ◌+◌, ◌≤◌, ◌&&◌, All, IfOk, OnOk, OnErr, IsTrue, filter, length, true, vec_len, vec_capacity, string_bytes};
 ghost use Rattle.wl_codec.specs.Replies.{reply_text};
 ghost use Rattle.wl_session.specs.Planned.{plan_for};
-ghost use Rattle.wl_session.specs.Step.{reply, after, told_after, notices, closed};
-ghost use Rattle.wl_session.specs.Told.{Fits, IsByNumber, is_live, completed};
+ghost use Rattle.wl_session.specs.Step.{reply, after, tells, told_after, notices, closed};
+ghost use Rattle.wl_session.specs.Told.{Fits, IsByNumber, has_news, is_live, completed};
 ghost use Rattle.wl_session.specs.Upkeep.{IsKept};
 
 use crate::outcomes::{opens, tells};
 use crate::plan::{Plan, plan_for};
-use crate::told::{completed, fits, news};
+use crate::told::{completed, fits, has_news, news};
 use crate::upkeep::{AtOnce, Upkeep, make_room, tell};
 use std::alloc::Global;
 use std::marker::{Model, PhantomData};
@@ -100,6 +100,13 @@ impl Session {
 }
 
 impl<U: Upkeep> SessionOf<U> {
+    /// Whether a reply of this outcome would have notices, after these looks.
+    pub fn has_notices(&self, outcome: &Outcome, looks: &[(u64, Phase)]) -> bool
+        ensures { result ≡ (tells outcome.now && has_news outcome.now self.now.told looks.now) }
+    {
+        tells(outcome) && has_news(outcome, self.told.as_slice(), looks)
+    }
+
     /// A session that isn't open. It takes no memory before its first reply.
     pub fn new(alloc: Global) -> SessionOf<U>
         ensures { result ≡ closed }

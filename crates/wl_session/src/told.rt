@@ -7,7 +7,7 @@
 ghost use Rattle.std.specs.Prelude.{◌≡◌, ◌+◌, ◌<◌, ◌≤◌, length, filter, fold, map, vec_len, vec_capacity, IfOk, IfErr, IsTrue};
 ghost use Rattle.wl_types.specs.Phases.{Reaches};
 ghost use Rattle.wl_session.specs.Places.{IsAt, IsGapFor};
-ghost use Rattle.wl_session.specs.Told.{Fits, IsByNumber, IsToldList, is_live, put, phase_in, phase_told, is_news, news, released, completed, still_told};
+ghost use Rattle.wl_session.specs.Told.{Fits, IsByNumber, IsToldList, is_live, put, phase_in, phase_told, is_news, has_news, news, released, completed, still_told};
 
 use crate::outcomes::is_new;
 use std::alloc::Global;
@@ -112,6 +112,16 @@ pub(crate) fn news(
         }
     }
     Ok(notices)
+}
+
+/// Whether `news` has any.
+pub(crate) fn has_news(outcome: &Outcome, told: &[(u64, Phase)], looks: &[(u64, Phase)]) -> bool
+    requires { IsByNumber told.now }
+    ensures { result ≡ has_news outcome.now (filter is_live told.now) looks.now }
+{
+    looks
+        .iter()
+        .any(|look| is_news(phase_told(outcome, told, look.0), look.1))
 }
 
 /// Puts a look into a list with room for it.

@@ -1,13 +1,15 @@
 -- What the words of a command line ask for (own).
-use Rattle.std.specs.Prelude.{ℕ, List, ◌≡◌, ◌≤◌, Option, Some, None, true, codes, pos}
-use Rattle.std.specs.Str.Parse.{digits_value, without_leading_plus}
+use Rattle.std.specs.Prelude.{ℕ, List, ◌≡◌, ◌⊎◌, ◌≤◌, Option, Some, None, true, codes, pos}
 use Rattle.clap.specs.Words.{App, Row, Rule, Text, Kinds, IsAmong, new_app, new_rule, one_of, with_rule, with_subcommand}
 use Rattle.clap.specs.Simple.{on_top}
 use Rattle.clap.specs.Values.{kind_of}
 use Rattle.clap.specs.declared.builder.action.ArgAction.TheVariants.{Set}
+use Rattle.clap.specs.declared.error.kind.ErrorKind.TheVariants.{ValueValidation}
 use Rattle.clap.specs.declared.builder.value_parser.ValueParser.TheVariants as values
 use Rattle.wl_words.specs.declared.job.Job.{Job}
-use Rattle.wl_words.specs.declared.job.Job.TheVariants.{Run, Audit, Serve, Client}
+use Rattle.wl_words.specs.declared.job.Job.TheVariants.{Run, Audit, Serve, Client, Daemon}
+use Rattle.wl_words.specs.Daemon.{AsksFor, HasNoAddress, HasNoLevel, daemon_app}
+pub use Rattle.wl_words.specs.Numbers.{HasNumber}
 use Rattle.wl_words.specs.declared.job.UsageFault.{UsageFault}
 use Rattle.wl_words.specs.declared.job.UsageFault.TheVariants.{Usage, Memory}
 
@@ -42,11 +44,7 @@ abbrev pub scripts_app : App
 scripts_app = with_subcommand (with_subcommand (on_top (λ s. record s { has_version = true; subcommand_required = true }) (new_app (codes "weblocks"))) run_app.top) audit_app.top
 
 abbrev pub weblocks_app : App
-weblocks_app = with_subcommand (with_subcommand scripts_app serve_app.top) client_app.top
-
--- the option's text is this number
-abbrev pub HasNumber : Text → List Row → ℕ → Type 0
-HasNumber name rows n = (text : Text) × (one_of name rows ≡ Some text) × (digits_value 10 (without_leading_plus text) ≡ n)
+weblocks_app = with_subcommand (with_subcommand (with_subcommand scripts_app serve_app.top) client_app.top) daemon_app.top
 
 -- the subcommand that was used asks for this job
 abbrev pub IsJob : Option (Text × List Row) → Job → Type 0
@@ -56,8 +54,19 @@ IsJob (Some used) Audit = used.0 ≡ codes "audit"
 IsJob (Some used) (Serve port clients) = (used.0 ≡ codes "serve") × HasNumber (codes "port") used.1 port × (1 ≤ port) × (port ≤ 65535)
     × HasNumber (codes "clients") used.1 clients × (1 ≤ clients) × (clients ≤ 10000)
 IsJob (Some used) (Client port) = (used.0 ≡ codes "client") × HasNumber (codes "port") used.1 port × (1 ≤ port) × (port ≤ 65535)
+IsJob (Some used) (Daemon options) = (used.0 ≡ codes "daemon") × AsksFor used.1 options
 
--- the error has one of these kinds, unless memory ran out
-abbrev pub IsUsageFault : Kinds → UsageFault → Type 0
-IsUsageFault kinds (Usage error) = IsAmong (kind_of error) kinds
-IsUsageFault kinds Memory = Unit {0}
+-- The daemon's `--listen` has to be an address and a port, and its `--log` a level, which `clap` doesn't know.
+abbrev pub IsWrongOption : Option (Text × List Row) → Type 0
+IsWrongOption None = ⊥
+IsWrongOption (Some used) = (used.0 ≡ codes "daemon") × (HasNoAddress (one_of (codes "listen") used.1) ⊎ HasNoLevel (one_of (codes "log") used.1))
+
+-- the error has one of these kinds; or it is that of an option's value, where an option is wrong; unless memory ran out
+abbrev pub IsUsageFault : Kinds → Option (Text × List Row) → UsageFault → Type 0
+IsUsageFault kinds used (Usage error) = IsAmong (kind_of error) kinds ⊎ ((kind_of error ≡ ValueValidation) × IsWrongOption used)
+IsUsageFault kinds used Memory = Unit {0}
+
+-- an error of an option's value, unless memory ran out
+abbrev pub IsUsageError : UsageFault → Type 0
+IsUsageError (Usage error) = kind_of error ≡ ValueValidation
+IsUsageError Memory = Unit {0}

@@ -6,6 +6,7 @@ ghost use Rattle.clap.specs.declared.builder.command.Command.TheViews.{out-Comma
 ghost use Rattle.clap.specs.declared.builder.value_parser.ValueParser.TheVariants as values;
 ghost use Rattle.wl_words.specs.Words.{weblocks_app, audit_app, client_app, run_app, scripts_app, serve_app, number_rule};
 
+use crate::daemon_command::daemon_command;
 use crate::texts::{
     ABOUT, AUDIT_ABOUT, AUDIT_EXAMPLE, CLIENT_ABOUT, CLIENT_EXAMPLE, CLIENTS, EXAMPLE, LISTEN_PORT,
     RUN_ABOUT, RUN_EXAMPLE, SERVE_ABOUT, SERVE_EXAMPLE, SERVER_PORT, VERSION,
@@ -21,7 +22,8 @@ pub fn weblocks_command<'a>(alloc: Global) -> Result<Command<'a>, AllocError>
 {
     script_commands(alloc)?
         .subcommand(serve_command(alloc)?)?
-        .subcommand(client_command(alloc)?)
+        .subcommand(client_command(alloc)?)?
+        .subcommand(daemon_command(alloc)?)
 }
 
 /// The program's command, with the jobs that do scripts.

@@ -1,17 +1,18 @@
 //! The job that the words of the command line ask for.
 
-ghost use Rattle.std.specs.Prelude.{◌≡◌, [], map, IfOk, IfErr, IfSome, IsSome, OnOk, Some, codes};
-ghost use Rattle.clap.specs.Words.{fault_of, found_of, rows_of, subcommand_name_of, subcommand_of, subcommand_rows_of};
-ghost use Rattle.wl_words.specs.Words.{weblocks_app, HasNumber, IsJob, IsUsageFault};
+ghost use Rattle.std.specs.Prelude.{◌≡◌, [], map, IfOk, IfErr, IfSome, IsOk, IsSome, OnOk, Some, codes};
+ghost use Rattle.clap.specs.Words.{fault_of, found_of, kind_of, rows_of, subcommand_name_of, subcommand_of, subcommand_rows_of};
+ghost use Rattle.wl_words.specs.Words.{weblocks_app, HasNumber, IsJob, IsUsageError, IsUsageFault};
 
 use crate::command::weblocks_command;
+use crate::daemon::{DaemonOptions, OptionFault, daemon_in};
 use clap::error::ErrorKind;
 use clap::{ArgMatches, Error};
-use std::alloc::Global;
+use std::alloc::{AllocError, Global};
 
 /// What the program is asked to do.
-#[derive(Clone, Copy, Debug, PartialEq, Eq, Drop)]
-pub enum Job {
+#[derive(Debug, Drop)]
+pub enum Job<'a> {
     /// Answer the script on standard input.
     Run,
     /// Do the script on standard input, and audit the journal of each manager.
@@ -20,6 +21,8 @@ pub enum Job {
     Serve { port: u16, clients: u32 },
     /// Send standard input to the server at this port.
     Client { port: u16 },
+    /// Serve, and push grants, until it is stopped.
+    Daemon(DaemonOptions<'a>),
 }
 
 /// Why the words ask for no job.
@@ -32,25 +35,76 @@ pub enum UsageFault {
 }
 
 /// What the words ask for. The first is the program's name.
-pub fn job_of<'a>(alloc: Global, words: &'a [&'a str]) -> Result<Job, UsageFault>
+pub fn job_of<'a>(alloc: Global, words: &'a [&'a str]) -> Result<Job<'a>, UsageFault>
     ensures job { IfOk result (IsJob (subcommand_of weblocks_app (map (λ s. s.now) words.entry.now))) }
     // A job is given just where the words have no fault, and a fault is one that they have.
     ensures right { OnOk result (fault_of weblocks_app (map (λ s. s.now) words.entry.now) ≡ []) }
-    ensures wrong { IfErr result (IsUsageFault (fault_of weblocks_app (map (λ s. s.now) words.entry.now))) }
+    ensures wrong { IfErr result (IsUsageFault (fault_of weblocks_app (map (λ s. s.now) words.entry.now)) (subcommand_of weblocks_app (map (λ s. s.now) words.entry.now))) }
 {
     let Ok(command) = weblocks_command(alloc) else {
         return Err(UsageFault::Memory);
     };
     match command.try_get_matches_from(words) {
-        // Right words have a job: where one is missing, the command refused them.
-        Ok(matches) => job_in(&matches).ok_or(UsageFault::Memory),
+        Ok(matches) => job_in(alloc, &matches),
         Err(error) if error.kind() == ErrorKind::OutOfMemory => Err(UsageFault::Memory),
         Err(error) => Err(UsageFault::Usage(error)),
     }
 }
 
 /// The job of the subcommand that the matches have.
-fn job_in(matches: &ArgMatches<'_>) -> Option<Job>
+fn job_in<'a>(alloc: Global, matches: &ArgMatches<'a>) -> Result<Job<'a>, UsageFault>
+    ensures job { IfOk result (IsJob (subcommand_rows_of matches.now)) }
+    ensures wrong { IfErr result (IsUsageFault [] (subcommand_rows_of matches.now)) }
+    ensures run { subcommand_name_of matches.now ≡ Some (codes "run") → IsOk result }
+    ensures audit { subcommand_name_of matches.now ≡ Some (codes "audit") → IsOk result }
+{
+    match matches.subcommand() {
+        Some(("daemon", options)) => match daemon_in(alloc, options) {
+            Ok(options) => Ok(Job::Daemon(options)),
+            Err(fault) => Err(wrong_option(alloc, options, fault)),
+        },
+        // Right words have a job: where one is missing, the command refused them.
+        _ => plain_job_in(matches).ok_or(UsageFault::Memory),
+    }
+}
+
+/// What is said of a wrong option.
+fn wrong_option(alloc: Global, options: &ArgMatches<'_>, fault: OptionFault) -> UsageFault
+    ensures usage { IsUsageError result }
+    ensures memory { fault ≡ OptionFault.Memory → result ≡ UsageFault.Memory }
+{
+    let error = match fault {
+        OptionFault::Memory => return UsageFault::Memory,
+        OptionFault::Listen => {
+            let text = options.get_str("listen").unwrap_or("");
+            value_error(
+                alloc,
+                text,
+                "listen <ADDRESS:PORT>",
+                "not an address and a port",
+            )
+        }
+        OptionFault::Log => {
+            let text = options.get_str("log").unwrap_or("");
+            value_error(alloc, text, "log <LEVEL>", "not a level")
+        }
+    };
+    match error {
+        Ok(error) => UsageFault::Usage(error),
+        Err(AllocError) => UsageFault::Memory,
+    }
+}
+
+/// The error of an option's value.
+fn value_error(alloc: Global, text: &str, option: &str, why: &str) -> Result<Error, AllocError>
+    ensures { IfOk result (λ error. kind_of error ≡ ErrorKind.ValueValidation) }
+{
+    let message = format!(in alloc; "invalid value '{text}' for '--{option}': {why}")?;
+    weblocks_command(alloc)?.error(ErrorKind::ValueValidation, message.as_str())
+}
+
+/// The job of the subcommand that the matches have, if it is none with options of many kinds.
+fn plain_job_in<'a>(matches: &ArgMatches<'_>) -> Option<Job<'a>>
     ensures job { IfSome result (IsJob (subcommand_rows_of matches.now)) }
     ensures run { subcommand_name_of matches.now ≡ Some (codes "run") → IsSome result }
     ensures audit { subcommand_name_of matches.now ≡ Some (codes "audit") → IsSome result }
@@ -79,7 +133,7 @@ fn clients_in(options: &ArgMatches<'_>) -> Option<u32>
 }
 
 /// `clap` has tested the ranges; that the options are there, and in range, is tested again, since no contract of its says so.
-fn serve_in(options: &ArgMatches<'_>) -> Option<Job>
+fn serve_in<'a>(options: &ArgMatches<'_>) -> Option<Job<'a>>
     ensures { IfSome result (IsJob (Some (codes "serve", rows_of (found_of options.now)))) }
 {
     let port = port_in(options)?;
@@ -91,7 +145,7 @@ fn serve_in(options: &ArgMatches<'_>) -> Option<Job>
     }
 }
 
-fn client_in(options: &ArgMatches<'_>) -> Option<Job>
+fn client_in<'a>(options: &ArgMatches<'_>) -> Option<Job<'a>>
     ensures { IfSome result (IsJob (Some (codes "client", rows_of (found_of options.now)))) }
 {
     let port = port_in(options)?;

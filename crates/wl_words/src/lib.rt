@@ -5,7 +5,10 @@
 #![tactic(auto)]
 
 mod command;
+mod daemon;
+mod daemon_command;
 mod job;
 mod texts;
 
+pub use daemon::DaemonOptions;
 pub use job::{Job, UsageFault, job_of};

@@ -65,6 +65,43 @@ pub const CLIENT_EXAMPLE: &str = "Example:
 
 All messages and replies: docs/FORMATS.md.";
 
+pub const DAEMON_ABOUT: &str =
+    "Serve locks over WebSocket until it is stopped, and push grants to those who want that";
+
+pub const DAEMON_EXAMPLE: &str = "Example:
+  weblocks daemon --listen 127.0.0.1:8080
+
+  A line once it listens:
+  listening 127.0.0.1:8080
+
+Tokens, pages, pushes and close codes: docs/FORMATS.md.";
+
+pub const LISTEN: &str = "Address and port to listen on; port 0 is any that is free";
+
+pub const CONNECTIONS: &str = "Connections at once, 1 to 1000000";
+
+pub const PER_ADDRESS: &str =
+    "Connections at once from one address [default: a quarter of all; all from this machine]";
+
+pub const MANAGERS: &str = "Buckets at once that have an agent, 1 to 10000000";
+
+pub const IDLE: &str =
+    "Seconds of silence after which a peer is pinged, 1 to 86400; it is ended after twice as many";
+
+pub const LOOPS: &str = "Event loops, 1 to 64 [default: one a core]";
+
+pub const TOKEN_FILE: &str =
+    "File with a token a line, and the origins that it may open; whoever has none stays out";
+
+pub const OPEN: &str = "Listen beyond this machine without a token file";
+
+pub const ALLOW_ORIGIN: &str =
+    "Origin whose pages may open any URL; '*' is each origin. May be given again";
+
+pub const WHILE_INPUT: &str = "End when standard input ends";
+
+pub const LOG: &str = "What goes to standard error: off, error, warn, info, debug or trace";
+
 pub const LISTEN_PORT: &str = "Port to listen on, 1 to 65535 [required]";
 
 pub const SERVER_PORT: &str = "Port that the server listens on, 1 to 65535 [required]";

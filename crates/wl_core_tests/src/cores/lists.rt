@@ -124,6 +124,21 @@ request 2 db steal -> Request(3), 1 Stolen, 3 Granted
 query 1 -> held db/exclusive/2, waiting
 ";
 
+/// A reader is available beside another one until a writer waits. Then both readers lose the lock to a thief, and the
+/// writer goes on waiting.
+const AVAILABLE_UNTIL_A_WRITER_WAITS: &str = "\
+open window -> Agent(1)
+open window -> Agent(2)
+request 1 db shared -> Request(1), 1 Granted
+request 2 db shared available -> Request(2), 2 Granted
+request 1 db -> Request(3)
+request 2 db shared available -> Request(4), 4 Unavailable
+request 2 other available -> Request(5), 5 Granted
+request 2 db steal -> Request(6), 1 Stolen, 2 Stolen, 6 Granted
+query 1 -> held other/exclusive/2 db/exclusive/2, waiting db/exclusive/1
+release 2 6 -> Released(Released), 6 Released, 3 Granted
+";
+
 const A_READER_BEHIND_A_WRITER: &str = "\
 open window -> Agent(1)
 open window -> Agent(2)
@@ -139,7 +154,7 @@ release 2 2 -> Released(Released), 2 Released, 3 Granted
 take 3 -> Took(Taken)
 ";
 
-pub const LISTS: [&str; 9] = [
+pub const LISTS: [&str; 10] = [
     AGENTS_COME_AND_GO,
     ONE_LOCK,
     AN_ABORT,
@@ -148,6 +163,7 @@ pub const LISTS: [&str; 9] = [
     HELD_AND_WAITED_FOR,
     NAMES_IN_ORDER_OF_USE,
     NOT_AVAILABLE_AND_STOLEN,
+    AVAILABLE_UNTIL_A_WRITER_WAITS,
     A_READER_BEHIND_A_WRITER,
 ];
 

@@ -9,7 +9,7 @@ use wl_server::Peer;
 use wl_service::Service;
 use wl_types::{Kind, Memory, Mode, Phase};
 
-const REQUEST: &[u8] = b"{\"id\":2,\"name\":\"db\",\"op\":\"request\"}";
+pub const REQUEST: &[u8] = b"{\"id\":2,\"name\":\"db\",\"op\":\"request\"}";
 
 const QUERY: &[u8] = b"{\"id\":3,\"op\":\"query\"}";
 
@@ -23,7 +23,7 @@ fn is_free<R: Wait>(rt: &R, alloc: Global, service: &Service) -> Result<bool, Fa
 }
 
 /// Answers these messages, one after another.
-fn answer_all<R: Wait>(
+pub fn answer_all<R: Wait>(
     rt: &R,
     service: &Service,
     peer: Peer,

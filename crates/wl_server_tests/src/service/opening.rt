@@ -69,11 +69,12 @@ pub const LISTS: [&str; 5] = [
     AN_ORIGIN_IS_SHOWN_ONCE_SOMEBODY_OPENED_THERE,
 ];
 
-const FAULTS: [OpenFault; 5] = [
+const FAULTS: [OpenFault; 6] = [
     OpenFault::BadUrl,
     OpenFault::BadBucket,
     OpenFault::TooManyAgents,
     OpenFault::NumbersSpent,
+    OpenFault::TooManyManagers,
     OpenFault::Memory,
 ];
 
@@ -82,6 +83,7 @@ not a URL
 not the name of a bucket
 too many agents
 numbers spent
+too many managers
 out of memory
 ";
 

@@ -1,6 +1,6 @@
 use Rattle.wl_origin.specs.Opening.{manager_of}
 use Rattle.wl_service.proofs.Opened.{opens_found}
-use Rattle.wl_service.proofs.service.Service.open_in_text.Goals as goal
+use Rattle.wl_service.proofs.service.Service.open_heard.Goals as goal
 
 pub returns : goal.returns
 returns g c =

@@ -1,0 +1,100 @@
+-- Which handshakes are admitted (own).
+use Rattle.std.specs.Prelude.{◌≡◌, ◌≢◌, ℕ, nat_eq, List, [], ◌∷◌, ◌++◌, map, take, drop, length, ◌==◌, ◌&&◌, Bool, true, false, not, Option, Some, None, Ok, Err, Result, codes, if◌then◌else◌}
+use Rattle.std.specs.Char.{to_ascii_lowercase}
+use Rattle.std.specs.List.{filter_map, flat_map, list_any, slice_split, starts_with}
+use Rattle.std.specs.Str.{bytes_eq, trim}
+use Rattle.wl_origin.specs.Origin.{Tuple}
+use Rattle.wl_admission.specs.Scopes.{Reach, admits, reach_of, page_reach, tuple_in}
+use Rattle.wl_admission.specs.Tokens.{Rule, reach_by}
+use Rattle.wl_admission.specs.declared.admitting.Admitted.{Admitted}
+use Rattle.wl_admission.specs.declared.credentials.Carrier.{Carrier}
+use Rattle.wl_admission.specs.declared.credentials.Carrier.TheVariants as carrier
+use Rattle.wl_admission.specs.declared.rejection.Rejection.{Rejection}
+use Rattle.wl_admission.specs.declared.rejection.Rejection.TheVariants as rejection
+use Rattle.wl_admission.specs.declared.scope.Scope.{Scope}
+
+-- RFC 9110: "400 Bad Request", "401 Unauthorized", "503 Service Unavailable"
+abbrev pub status_of : Rejection → ℕ
+status_of rejection.BadHeader = 400
+status_of rejection.SeveralOrigins = 400
+status_of rejection.SeveralTokens = 400
+status_of rejection.TokenAlone = 400
+status_of rejection.NoToken = 401
+status_of rejection.UnknownToken = 401
+status_of rejection.NoPlace = 503
+status_of rejection.Memory = 503
+
+-- What the sender may open, by its `Origin` headers: RFC 6455, section 10.2.
+abbrev pub sender_reach : Reach → List (List ℕ) → Result Reach Rejection
+sender_reach trusted [] = Ok None
+sender_reach trusted (origin ∷ []) = Ok (page_reach trusted (tuple_in origin))
+sender_reach trusted (origin ∷ other ∷ more) = Err rejection.SeveralOrigins
+
+-- RFC 6455, section 11.3.4: headers that are lists with commas
+abbrev pub offered : List (List ℕ) → List (List ℕ)
+offered headers = flat_map (λ header. map trim (slice_split (λ byte. byte == 44) header)) headers
+
+abbrev pub offers_push : List (List ℕ) → Bool
+offers_push subprotocols = list_any (λ subprotocol. bytes_eq subprotocol (codes "weblocks.push")) subprotocols
+
+-- RFC 6750, section 2.1; RFC 9110, section 11.1: the scheme's letters in any case
+abbrev pub bearer_of_header : List ℕ → Option (List ℕ)
+bearer_of_header header =
+    if bytes_eq (map to_ascii_lowercase (take 7 header)) (codes "bearer ") then Some (drop 7 header) else None
+
+abbrev pub bearer_of_subprotocol : List ℕ → Option (List ℕ)
+bearer_of_subprotocol subprotocol =
+    if starts_with nat_eq subprotocol (codes "weblocks.bearer.") then Some (drop 16 subprotocol) else None
+
+abbrev pub bearer_of : Carrier → List ℕ → Option (List ℕ)
+bearer_of carrier.Header text = bearer_of_header text
+bearer_of carrier.Subprotocol text = bearer_of_subprotocol text
+
+abbrev pub reach_or_unknown : Option Reach → Result Reach Rejection
+reach_or_unknown (Some reach) = Ok reach
+reach_or_unknown None = Err rejection.UnknownToken
+
+-- What these tokens let open. A server without rules wants no token, and looks at none.
+abbrev pub token_reach : Option (List Rule) → List (List ℕ) → Result Reach Rejection
+token_reach None tokens = Ok None
+token_reach (Some rules) [] = Err rejection.NoToken
+token_reach (Some rules) (token ∷ []) = reach_or_unknown (reach_by rules token)
+token_reach (Some rules) (token ∷ other ∷ more) = Err rejection.SeveralTokens
+
+-- what whoever is admitted may open, as a page and by a token, and whether changes are pushed
+abbrev pub Terms : Type 0
+Terms = (Reach × Reach) × Bool
+
+abbrev pub is_empty : List (List ℕ) → Bool
+is_empty [] = true
+is_empty (x ∷ xs) = false
+
+abbrev pub terms_with : Reach → Bool → Result Reach Rejection → Result Terms Rejection
+terms_with page is_pushed (Err reason) = Err reason
+terms_with page is_pushed (Ok token) = Ok ((page, token), is_pushed)
+
+-- a token among the subprotocols wants one beside it that is selected: RFC 6455, section 4.2.2
+abbrev pub terms_by : Option (List Rule) → List (List ℕ) → List (List ℕ) → Result Reach Rejection → Result Terms Rejection
+terms_by rules header_tokens subprotocols (Err reason) = Err reason
+terms_by rules header_tokens subprotocols (Ok page) =
+    let tokens = filter_map (bearer_of carrier.Subprotocol) subprotocols in
+    if not (is_empty tokens) && not (offers_push subprotocols) then Err rejection.TokenAlone
+    else terms_with page (offers_push subprotocols) (token_reach rules (header_tokens ++ tokens))
+
+-- what comes of a handshake, by its headers `Origin`, `Authorization` and `Sec-WebSocket-Protocol`
+abbrev pub terms_of : Reach → Option (List Rule) → List (List ℕ) → List (List ℕ) → List (List ℕ) → Result Terms Rejection
+terms_of trusted rules origins authorizations headers =
+    terms_by rules (filter_map (bearer_of carrier.Header) authorizations) (offered headers) (sender_reach trusted origins)
+
+-- a URL has to be open to both: to the page, and to the token
+abbrev pub may_open : Terms → Option Tuple → Bool
+may_open terms origin = admits terms.0.0 origin && admits terms.0.1 origin
+
+-- what was admitted
+abbrev pub terms_for : Admitted → Terms
+terms_for admitted = ((reach_of admitted.page, reach_of admitted.token), admitted.is_pushed)
+
+-- the answer is the expected one, unless memory ran out
+abbrev pub Answers : {X Y : Type 0} → (Y → X) → Result X Rejection → Result Y Rejection → Type 0
+Answers view expected (Ok made) = expected ≡ Ok (view made)
+Answers view expected (Err reason) = reason ≢ rejection.Memory → expected ≡ Err reason

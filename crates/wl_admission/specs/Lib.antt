@@ -1,0 +1,4 @@
+pub mod Scopes
+pub mod Tokens
+pub mod Handshakes
+pub mod Places

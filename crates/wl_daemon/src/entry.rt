@@ -1,0 +1,138 @@
+//! Who may come in, by the words of the command line.
+
+ghost use Rattle.std.specs.Prelude.{◌≡◌, ◌||◌, false, is_some, true, Err, None, Some, map, IfOk};
+ghost use Rattle.std.specs.List.{list_any};
+ghost use Rattle.wl_admission.specs.Scopes.{reach_of};
+ghost use Rattle.wl_admission.specs.Tokens.{origins_of};
+ghost use Rattle.wl_daemon.specs.declared.entry.EntryFault.TheVariants.{BadOrigin};
+ghost use Rattle.wl_daemon.specs.Entry.{IsOfThisMachine, is_star, places_for, trusted_reach};
+
+use crate::token_file::{FileFault, TokenFile};
+use std::alloc::Global;
+use std::fs::Files;
+use std::net::SocketAddr;
+use thiserror::Error;
+use wl_admission::{PlaceLimits, Rules, Scope, Tokens, origin_in};
+use wl_origin::OriginKey;
+use wl_types::Memory;
+
+/// Why a server begins with no rules.
+#[derive(Clone, Copy, Debug, PartialEq, Eq, Drop, Error)]
+pub enum EntryFault<'a> {
+    #[error("not an origin: {0}")]
+    BadOrigin(&'a str),
+    #[error("token file: {0}")]
+    File(FileFault),
+    /// It would listen beyond this machine without tokens.
+    #[error("{0} is reached from other machines, and there is no --token-file: with --open all may come in")]
+    Exposed(SocketAddr),
+    #[error("out of memory")]
+    Memory,
+}
+
+/// Whether a server may listen: where its address is of this machine alone, where it wants tokens, or where it is asked to
+/// let all come in.
+pub fn may_listen(is_loopback: bool, has_tokens: bool, is_open: bool) -> bool
+    ensures { result ≡ (is_loopback || (has_tokens || is_open)) }
+{
+    is_loopback || has_tokens || is_open
+}
+
+/// How many may be connected at once.
+pub fn places_for(connections: u32, per_address: Option<u32>) -> PlaceLimits
+    ensures { result ≡ places_for connections per_address }
+{
+    let quarter = (u64::from(connections) + 3) / 4;
+    PlaceLimits {
+        in_all: connections,
+        by_address: per_address.unwrap_or(quarter as u32),
+        by_loopback: per_address.unwrap_or(connections),
+    }
+}
+
+/// The scope of pages of these origins: `*` stands for all.
+pub fn trusted_scope<'a>(alloc: Global, origins: &[&'a str]) -> Result<Scope, EntryFault<'a>>
+    ensures made { IfOk result (λ scope. trusted_reach (map (λ o. o.now) origins.now) ≡ Some (reach_of scope)) }
+    ensures bad { (text : _) → result ≡ Err (BadOrigin text) → trusted_reach (map (λ o. o.now) origins.now) ≡ None }
+{
+    if are_all(origins) {
+        return Ok(Scope::All);
+    }
+    match keys_of(alloc, origins) {
+        Ok(keys) => Ok(Scope::Only(keys)),
+        Err(fault) => Err(fault),
+    }
+}
+
+/// Whether one of these texts stands for all origins.
+fn are_all(texts: &[&str]) -> bool
+    ensures { result ≡ list_any is_star (map (λ t. t.now) texts.now) }
+{
+    texts.contains(&"*")
+}
+
+/// The origins of these texts.
+fn keys_of<'a>(alloc: Global, texts: &[&'a str]) -> Result<Vec<OriginKey>, EntryFault<'a>>
+    ensures made { IfOk result (λ keys. origins_of (map (λ t. t.now) texts.now) ≡ Some keys.items) }
+    ensures bad { (text : _) → result ≡ Err (BadOrigin text) → origins_of (map (λ t. t.now) texts.now) ≡ None }
+{
+    let mut keys = Vec::new(alloc);
+    for text in texts {
+        match origin_in(alloc, text) {
+            Ok(Some(key)) => {
+                if keys.push(key).is_err() {
+                    return Err(EntryFault::Memory);
+                }
+            }
+            Ok(None) => return Err(EntryFault::BadOrigin(text)),
+            Err(Memory) => return Err(EntryFault::Memory),
+        }
+    }
+    Ok(keys)
+}
+
+/// The rules of a server whose pages and tokens are these.
+pub fn rules_with<'a>(
+    alloc: Global,
+    origins: &[&'a str],
+    tokens: Option<Tokens>,
+) -> Result<Rules, EntryFault<'a>>
+    ensures trusted { IfOk result (λ rules. trusted_reach (map (λ o. o.now) origins.now) ≡ Some (reach_of rules.trusted)) }
+    ensures tokens { IfOk result (λ rules. rules.tokens ≡ tokens) }
+{
+    Ok(Rules {
+        trusted: trusted_scope(alloc, origins)?,
+        tokens,
+    })
+}
+
+/// Whether an address is of this machine alone.
+fn is_of_this_machine(address: SocketAddr) -> bool
+    ensures { result ≡ true → IsOfThisMachine address }
+{
+    address.ip().to_canonical().is_loopback()
+}
+
+/// The rules of a server that listens at this address.
+pub fn read_rules<'a, R: Files + AllocGlobal>(
+    rt: &R,
+    address: SocketAddr,
+    is_open: bool,
+    origins: &[&'a str],
+    file: Option<&mut TokenFile<'_>>,
+) -> Result<Rules, EntryFault<'a>>
+    ensures trusted { IfOk result (λ rules. trusted_reach (map (λ o. o.now) origins.now) ≡ Some (reach_of rules.trusted)) }
+    ensures guarded { IfOk result (λ rules. is_open ≡ false → is_some rules.tokens ≡ false → IsOfThisMachine address) }
+{
+    if !may_listen(is_of_this_machine(address), file.is_some(), is_open) {
+        return Err(EntryFault::Exposed(address));
+    }
+    let tokens = match file {
+        Some(file) => match file.read(rt) {
+            Ok(tokens) => Some(tokens),
+            Err(fault) => return Err(EntryFault::File(fault)),
+        },
+        None => None,
+    };
+    rules_with(rt.alloc(), origins, tokens)
+}

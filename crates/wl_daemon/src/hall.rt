@@ -1,0 +1,65 @@
+//! What the event loops have behind them.
+
+use crate::desk::Desk;
+use crate::member::Member;
+use crate::news::tell_log;
+use crate::ring::LoopRing;
+use log::Log;
+use std::alloc::Global;
+use std::sync::Wait;
+use wl_admission::Admitted;
+use wl_liveness::Limits;
+use wl_loops::{Event, Host, Place};
+use wl_service::Service;
+use wl_types::Memory;
+
+/// Makes a member for each connection, at one service, and tells a log what happens.
+#[derive(Drop)]
+pub struct Hall<'a, L> {
+    pub alloc: Global,
+    pub service: &'a Service,
+    /// One for each loop.
+    pub rings: &'a Vec<LoopRing>,
+    pub limits: Limits,
+    pub log: &'a L,
+}
+
+impl<'a, L: Log> Host for Hall<'a, L> {
+    type Ring = LoopRing;
+
+    type Peer = Member<'a>;
+
+    ghost held_to = { λ hall. hall.limits };
+
+    fn limits(&self) -> &Limits {
+        &self.limits
+    }
+
+    fn note(&self, event: Event) {
+        tell_log(self.log, event);
+    }
+
+    fn ring(&self, event_loop: usize) -> Option<&LoopRing> {
+        self.rings.get(event_loop)
+    }
+
+    fn begin<R: Wait>(
+        &self,
+        _rt: &R,
+        place: Place,
+        admitted: Admitted,
+    ) -> Result<Member<'a>, Memory> {
+        let rings: &'a Vec<LoopRing> = self.rings;
+        let ring = match rings.get(place.event_loop) {
+            Some(ring) if admitted.is_pushed => Some(ring.places()),
+            _ => None,
+        };
+        Ok(Member::new(Desk {
+            alloc: self.alloc,
+            service: self.service,
+            admitted,
+            ring,
+            key: place.key as u64,
+        }))
+    }
+}

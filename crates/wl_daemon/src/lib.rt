@@ -1,0 +1,24 @@
+//! The server that people run: each connection is an agent of its own, whose messages are answered one by one, and which
+//! is told what changed without being asked if it wants that.
+//!
+//! `Member` is what answers over a connection, `Hall` what makes one for each, and `serve` runs the event loops. Who may
+//! come in is read by `read_rules`, and again by `serve` where the file of tokens has changed.
+#![tactic(auto)]
+
+mod desk;
+mod entry;
+mod hall;
+mod member;
+mod news;
+mod ring;
+mod serving;
+mod token_file;
+mod watching;
+
+pub use crate::desk::Desk;
+pub use crate::entry::{EntryFault, may_listen, places_for, read_rules, rules_with, trusted_scope};
+pub use crate::hall::Hall;
+pub use crate::member::Member;
+pub use crate::ring::LoopRing;
+pub use crate::serving::{ServeFault, Setup, serve};
+pub use crate::token_file::{FileFault, TokenFile};

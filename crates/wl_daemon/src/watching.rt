@@ -1,0 +1,91 @@
+//! Looking at the file of tokens, while a server runs.
+
+use crate::entry::rules_with;
+use crate::token_file::{FileFault, TokenFile};
+use log::{Log, info, warn};
+use std::fs::Files;
+use std::sync::{Condvar, CondvarTimeouts, Mutex, Wait};
+use std::time::{Clock, Duration};
+use wl_loops::Shared;
+
+/// The seconds between two looks at the file.
+const PERIOD: u64 = 5;
+
+/// Whether a server has ended.
+#[derive(Drop)]
+pub struct Over {
+    is_over: Mutex<bool>,
+    told: Condvar,
+}
+
+impl Over {
+    pub fn new() -> Over {
+        Over {
+            is_over: Mutex::new(false),
+            told: Condvar::new(),
+        }
+    }
+
+    pub fn tell<R: Wait>(&self, rt: &R) {
+        *self.is_over.lock(rt) = true;
+        self.told.notify_all();
+    }
+
+    /// Waits for so long, and answers whether the server has ended.
+    pub fn wait<R: Wait + Clock>(&self, rt: &R, time: Duration) -> bool {
+        let is_over = self.is_over.lock(rt);
+        if *is_over {
+            return true;
+        }
+        let (is_over, _) = self.told.wait_timeout(rt, is_over, time);
+        *is_over
+    }
+}
+
+/// Reads the tokens again when their file has changed, until the server has ended. Where the file is wrong the old ones
+/// stay.
+pub fn watch<R, L, H>(
+    rt: &R,
+    log: &L,
+    origins: &[&str],
+    file: &mut TokenFile<'_>,
+    shared: &Shared<H>,
+    over: &Over,
+)
+where
+    R: Wait + Clock + Files + AllocGlobal,
+    L: Log,
+{
+    for _ in rt.forever() {
+        if over.wait(rt, Duration::from_secs(PERIOD)) {
+            return;
+        }
+        match renew(rt, origins, file, shared) {
+            Ok(false) => {}
+            Ok(true) => info!(log; "token file: read again"),
+            Err(fault) => warn!(log; "token file: {fault}, so the old tokens stay"),
+        }
+    }
+}
+
+/// Reads the tokens again if their file has changed, and answers whether it has.
+fn renew<R, H>(
+    rt: &R,
+    origins: &[&str],
+    file: &mut TokenFile<'_>,
+    shared: &Shared<H>,
+) -> Result<bool, FileFault>
+where
+    R: Wait + Files + AllocGlobal,
+{
+    let Some(tokens) = file.read_changed(rt)? else {
+        return Ok(false);
+    };
+    let Ok(rules) = rules_with(rt.alloc(), origins, Some(tokens)) else {
+        return Err(FileFault::Memory);
+    };
+    match shared.set_rules(rt, rules) {
+        Ok(()) => Ok(true),
+        Err(_) => Err(FileFault::Memory),
+    }
+}

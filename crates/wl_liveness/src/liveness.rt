@@ -1,0 +1,127 @@
+//! How far a connection is, and what is due for it.
+
+ghost use Rattle.std.specs.Prelude.{◌≡◌};
+ghost use Rattle.wl_liveness.specs.Liveness.{due_of, new_liveness, opened, heard, pinged, closing, dropping};
+
+use crate::limits::Limits;
+
+/// How far a connection is, with what its limits are about.
+#[derive(Clone, Copy, Debug, PartialEq, Eq)]
+pub enum Liveness {
+    /// Its peer has still to ask for a WebSocket.
+    Handshake {
+        /// When the connection began. What comes meanwhile wins no time.
+        since: u64,
+    },
+    /// Messages may come and go.
+    Open {
+        /// When bytes last came. Bytes that were sent are no sign of life: the system takes them for a peer that is gone.
+        heard: u64,
+        /// Whether a ping was sent since.
+        is_pinged: bool,
+    },
+    /// All was sent that will be; what still comes is read and dropped, so that what was sent isn't lost by a reset.
+    Closing {
+        since: u64,
+        /// The bytes that were dropped, at most 2^64 - 1.
+        dropped: u64,
+    },
+}
+
+/// What is due for a connection.
+#[derive(Clone, Copy, Debug, PartialEq, Eq)]
+pub enum Due {
+    Nothing,
+    Ping,
+    End,
+}
+
+impl Liveness {
+    /// A connection that began just now.
+    pub fn new(now: u64) -> Liveness
+        ensures { result ≡ new_liveness now }
+    {
+        Liveness::Handshake { since: now }
+    }
+
+    /// The handshake was done, so bytes came.
+    pub fn open(&mut self, now: u64)
+        ensures { self.new ≡ opened now }
+    {
+        *self = Liveness::Open {
+            heard: now,
+            is_pinged: false,
+        };
+    }
+
+    /// Bytes came. That counts for an open connection alone.
+    pub fn hear(&mut self, now: u64)
+        ensures { self.new ≡ heard self.old now }
+    {
+        if let Liveness::Open { .. } = self {
+            self.open(now);
+        }
+    }
+
+    /// A ping was sent.
+    pub fn ping(&mut self)
+        ensures { self.new ≡ pinged self.old }
+    {
+        if let Liveness::Open { is_pinged, .. } = self {
+            *is_pinged = true;
+        }
+    }
+
+    /// The connection is closing. One that was closing before goes on as it was.
+    pub fn close(&mut self, now: u64)
+        ensures { self.new ≡ closing self.old now }
+    {
+        match self {
+            Liveness::Closing { .. } => {}
+            _ => {
+                *self = Liveness::Closing {
+                    since: now,
+                    dropped: 0,
+                }
+            }
+        }
+    }
+
+    /// So many bytes were read and dropped.
+    pub fn drop_bytes(&mut self, count: u64)
+        ensures { self.new ≡ dropping self.old count }
+    {
+        if let Liveness::Closing { dropped, .. } = self {
+            *dropped = dropped.saturating_add(count);
+        }
+    }
+
+    /// What is due now.
+    pub fn due(&self, now: u64, limits: &Limits) -> Due
+        ensures { result ≡ due_of self.now now limits.now }
+    {
+        match *self {
+            Liveness::Handshake { since } => end_if(now.saturating_sub(since) >= limits.handshake),
+            Liveness::Open { heard, is_pinged } => {
+                let silence = now.saturating_sub(heard);
+                if silence >= limits.end_after {
+                    Due::End
+                } else if !is_pinged && silence >= limits.ping_after {
+                    Due::Ping
+                } else {
+                    Due::Nothing
+                }
+            }
+            Liveness::Closing { since, dropped } => end_if(
+                now.saturating_sub(since) >= limits.closing || dropped >= limits.closing_bytes,
+            ),
+        }
+    }
+}
+
+/// The end, or nothing.
+fn end_if(is_over: bool) -> Due
+    ensures { result ≡ Rattle.wl_liveness.specs.Liveness.end_if is_over }
+{
+    if is_over { Due::End } else { Due::Nothing }
+}

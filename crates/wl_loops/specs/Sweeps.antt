@@ -1,0 +1,24 @@
+-- What a look at all connections of a loop does (own).
+use Rattle.std.specs.Prelude.{◌≡◌, ℕ, Option, None, Some, IfSome}
+use Rattle.slab.specs.Slab.{Slab, get}
+use Rattle.wl_liveness.specs.Liveness.{due_of, pinged}
+use Rattle.wl_liveness.specs.declared.limits.Limits.{Limits}
+use Rattle.wl_liveness.specs.declared.liveness.Due.{Due}
+use Rattle.wl_liveness.specs.declared.liveness.Due.TheVariants.{Nothing, Ping, End}
+use Rattle.wl_liveness.specs.declared.liveness.Liveness.{Liveness}
+
+module _ {C : Type 0} (liveness_of : C → Liveness) where
+  -- What is due is done. A connection whose peer can't be pinged ends, and one for which nothing is due is left as it was.
+  abbrev pub Does : Due → C → Option C → Type 0
+  Does End old new = new ≡ None
+  Does Ping old new = IfSome new (λ one. liveness_of one ≡ pinged (liveness_of old))
+  Does Nothing old new = new ≡ Some old
+
+  -- what is due for the connection of a key is done, and there is no other
+  abbrev pub Watched : ℕ → Limits → Option C → Option C → Type 0
+  Watched now limits None new = new ≡ None
+  Watched now limits (Some old) new = Does (due_of (liveness_of old) now limits) old new
+
+  -- at each key
+  abbrev pub EachWatched : ℕ → Limits → Slab C → Slab C → Type 0
+  EachWatched now limits old new = (key : ℕ) → Watched now limits (get old key) (get new key)

@@ -1,0 +1,241 @@
+//! One connection of a loop.
+
+ghost use Rattle.std.specs.Prelude.{◌≡◌, true, false};
+ghost use Rattle.wl_liveness.specs.Liveness.{due_of, new_liveness, pinged};
+ghost use Rattle.wl_liveness.specs.declared.liveness.Due.TheVariants.{Nothing, Ping, End};
+
+use crate::farewell::Farewell;
+use crate::host::{Event, Host, Listener, Place};
+use crate::seat::Seat;
+use mio::net::TcpStream;
+use std::mem;
+use std::sync::Wait;
+use wl_admission::{Admitted, Source};
+use wl_liveness::{Due, Limits, Liveness};
+use wl_types::Memory;
+use wl_wire::{Ending, Greeted, Greeting, Pace, Sending, Turn, Wire, take_turn};
+
+/// How far a connection is.
+#[derive(Drop)]
+enum Stage<'a, R: Wait, P: Listener> {
+    Greeting(Greeting<TcpStream>),
+    // Let go of in this order, so that whoever sees the stream closed finds the speaker ended.
+    Open(Seat<'a, R, P>, Wire<TcpStream>),
+    Closing(Farewell),
+    Ended,
+}
+
+impl<'a, R: Wait, P: Listener> Stage<'a, R, P> {
+    /// Pings the peer, where it can be, and answers whether the stream failed.
+    fn ping(&mut self) -> bool {
+        match self {
+            Stage::Open(_, wire) => matches!(wire.ping(), Sending::Failed(_)),
+            _ => false,
+        }
+    }
+}
+
+/// When a connection is to have its next turn.
+#[derive(Clone, Copy, Debug, PartialEq, Eq)]
+pub enum Next {
+    /// When its stream is ready for something, or something changed for it.
+    Waits,
+    /// Behind the others that have a turn.
+    Again,
+    /// Never: it is to be let go.
+    Ended,
+}
+
+/// A connection. Its speaker ends when it is let go.
+#[derive(Drop)]
+pub struct Connection<'a, R: Wait, H: Host> {
+    rt: &'a R,
+    host: &'a H,
+    place: Place,
+    source: Source,
+    stage: Stage<'a, R, H::Peer>,
+    liveness: Liveness,
+    // The bytes that had come when that was last looked at.
+    came: u64,
+    wants_pushes: bool,
+    // Something may have changed that wasn't pushed.
+    may_push: bool,
+    // It stands among those that have a turn.
+    pub is_queued: bool,
+}
+
+impl<'a, R: Wait, H: Host> Connection<'a, R, H> {
+    /// A connection whose peer has still to ask for a WebSocket.
+    pub fn new(
+        rt: &'a R,
+        host: &'a H,
+        place: Place,
+        source: Source,
+        greeting: Greeting<TcpStream>,
+        now: u64,
+    ) -> Connection<'a, R, H>
+        ensures { result.liveness ≡ new_liveness now }
+    {
+        Connection {
+            rt,
+            host,
+            place,
+            source,
+            stage: Stage::Greeting(greeting),
+            liveness: Liveness::new(now),
+            came: 0,
+            wants_pushes: false,
+            may_push: false,
+            is_queued: false,
+        }
+    }
+
+    /// The stream is ready for something.
+    pub fn hear_of(&mut self) {
+        if let Stage::Open(_, wire) = &mut self.stage {
+            wire.wake();
+        }
+    }
+
+    /// Something may have changed.
+    pub fn mark(&mut self)
+        ensures { self.new.may_push ≡ self.old.wants_pushes }
+    {
+        self.may_push = self.wants_pushes;
+    }
+
+    /// Whether something may have changed that the speaker hasn't looked at.
+    pub fn is_marked(&self) -> bool {
+        match &self.stage {
+            Stage::Open(seat, _) => seat.speaker().is_some_and(|speaker| speaker.is_marked()),
+            _ => false,
+        }
+    }
+
+    /// Goes on for as long as the stream doesn't block, or for a turn.
+    pub fn go_on(&mut self, now: u64) -> Next {
+        match mem::replace(&mut self.stage, Stage::Ended) {
+            Stage::Greeting(greeting) => self.greet(greeting, now),
+            Stage::Open(seat, wire) => self.talk(wire, seat, now),
+            Stage::Closing(farewell) => self.part(farewell, now),
+            Stage::Ended => Next::Ended,
+        }
+    }
+
+    fn greet(&mut self, greeting: Greeting<TcpStream>, now: u64) -> Next {
+        match greeting.go_on() {
+            Greeted::Waits(greeting) => {
+                self.stage = Stage::Greeting(greeting);
+                Next::Waits
+            }
+            Greeted::Open(wire, admitted) => {
+                self.liveness.open(now);
+                self.begin(wire, admitted, now)
+            }
+            Greeted::Refused(rejection) => {
+                self.host.note(Event::Refused(self.source, rejection));
+                Next::Ended
+            }
+            Greeted::Failed => Next::Ended,
+        }
+    }
+
+    fn begin(&mut self, wire: Wire<TcpStream>, admitted: Admitted, now: u64) -> Next {
+        self.wants_pushes = admitted.is_pushed;
+        match self.host.begin(self.rt, self.place, admitted) {
+            Ok(speaker) => self.talk(wire, Seat::new(self.rt, speaker), now),
+            Err(Memory) => self.close(wire, Ending::Memory, now),
+        }
+    }
+
+    fn talk(&mut self, wire: Wire<TcpStream>, seat: Seat<'a, R, H::Peer>, now: u64) -> Next {
+        let mut wire = wire;
+        let mut seat = seat;
+        let Some(speaker) = seat.take() else {
+            return self.close(wire, Ending::Memory, now);
+        };
+        let turn = take_turn(self.rt, &mut wire, speaker, &mut self.may_push);
+        let came = wire.came();
+        if came != self.came {
+            self.came = came;
+            self.liveness.hear(now);
+        }
+        match turn {
+            Turn::Went(speaker, pace) => {
+                seat.put(speaker);
+                self.stage = Stage::Open(seat, wire);
+                match pace {
+                    Pace::Waits => Next::Waits,
+                    Pace::Again => Next::Again,
+                }
+            }
+            Turn::Ended(ending) => self.close(wire, ending, now),
+        }
+    }
+
+    /// Tells the peer why the connection ends, as far as it can be told.
+    fn close(&mut self, wire: Wire<TcpStream>, ending: Ending, now: u64) -> Next {
+        self.host.note(Event::Closed(self.source, ending));
+        if ending == Ending::Broken {
+            return Next::Ended;
+        }
+        let mut wire = wire;
+        let sending = wire.close(ending);
+        self.liveness.close(now);
+        self.part(Farewell::new(wire, sending), now)
+    }
+
+    fn part(&mut self, farewell: Farewell, now: u64) -> Next {
+        let progress = farewell.go_on();
+        self.liveness.drop_bytes(progress.dropped);
+        let is_over = self.liveness.due(now, self.host.limits()) == Due::End;
+        if is_over || progress.farewell.is_done() {
+            return Next::Ended;
+        }
+        self.stage = Stage::Closing(progress.farewell);
+        if progress.may_read {
+            Next::Again
+        } else {
+            Next::Waits
+        }
+    }
+
+    /// Pings a peer that is silent, and answers whether the connection is over.
+    pub fn watch(&mut self, now: u64, limits: &Limits) -> bool
+        ensures over { due_of self.old.liveness now limits.now ≡ End → result ≡ true }
+        ensures pinged { due_of self.old.liveness now limits.now ≡ Ping → self.new.liveness ≡ pinged self.old.liveness }
+        ensures kept { due_of self.old.liveness now limits.now ≡ Nothing → result ≡ false }
+        ensures same { due_of self.old.liveness now limits.now ≡ Nothing → self.new ≡ self.old }
+    {
+        match self.liveness.due(now, limits) {
+            Due::Nothing => false,
+            Due::End => {
+                self.tell_silence();
+                true
+            }
+            Due::Ping => {
+                self.liveness.ping();
+                self.stage.ping()
+            }
+        }
+    }
+
+    /// Tells of a peer that was silent for too long. One of a connection that is closing was told of before.
+    fn tell_silence(&self) {
+        if !matches!(self.stage, Stage::Closing(_)) {
+            self.host.note(Event::Silent(self.source));
+        }
+    }
+
+    /// Begins to tell the peer that the server ends, where it can be told.
+    pub fn go_away(&mut self, now: u64) -> Next {
+        match mem::replace(&mut self.stage, Stage::Ended) {
+            Stage::Open(seat, wire) => {
+                drop(seat);
+                self.close(wire, Ending::Away, now)
+            }
+            Stage::Closing(farewell) => self.part(farewell, now),
+            Stage::Greeting(_) | Stage::Ended => Next::Ended,
+        }
+    }
+}

@@ -1,0 +1,18 @@
+//! Event loops that serve WebSockets: a few threads, each with its connections, and no thread a connection.
+//!
+//! Who answers over a connection is made by a `Host`. Whoever changes something for a connection of another loop marks
+//! it in that loop's `Ring`, and once its own turn is over wakes that loop; so nobody waits for a peer.
+#![tactic(auto)]
+
+mod accepting;
+mod connection;
+mod event_loop;
+mod farewell;
+mod host;
+mod seat;
+mod served;
+mod shared;
+
+pub use crate::event_loop::EventLoop;
+pub use crate::host::{Event, Host, Listener, Place, Ring};
+pub use crate::shared::{LoopSetup, Shared, setup};

@@ -1,0 +1,62 @@
+//! The connections that a loop serves.
+
+ghost use Rattle.std.specs.Prelude.{◌≡◌, ◌≢◌, ℕ};
+ghost use Rattle.slab.specs.Slab.{get};
+ghost use Rattle.wl_loops.specs.Sweeps.{EachWatched, Watched};
+
+use crate::connection::Connection;
+use crate::host::Host;
+use crate::shared::{Hold, Shared};
+use slab::Slab;
+use std::sync::Wait;
+use wl_liveness::Limits;
+
+/// A connection, and the place that it has.
+#[derive(Drop)]
+pub(crate) struct Served<'a, R: Wait, H: Host> {
+    pub connection: Connection<'a, R, H>,
+    pub hold: Hold,
+}
+
+/// Looks at all connections: silent peers are pinged, and those that are over end and give their places back.
+pub(crate) fn watch_all<'a, R: Wait, H: Host>(
+    rt: &R,
+    shared: &Shared<H>,
+    served: &mut Slab<Served<'a, R, H>>,
+    now: u64,
+)
+    ensures { EachWatched (λ one. one.connection.liveness) now (H.held_to shared.now.host) served.old served.new }
+{
+    let limits = *shared.host.limits();
+    for key in 0..served.capacity() {
+        if let Some(hold) = watch_one(served, key, now, &limits) {
+            shared.leave_place(rt, hold);
+        }
+    }
+}
+
+/// Looks at the connection of this key. One that is over ends, and is answered by its place.
+fn watch_one<'a, R: Wait, H: Host>(
+    served: &mut Slab<Served<'a, R, H>>,
+    key: usize,
+    now: u64,
+    limits: &Limits,
+) -> Option<Hold>
+    ensures watched { Watched (λ one. one.connection.liveness) now limits.now (get served.old key) (get served.new key) }
+    ensures others { (other : ℕ) → other ≢ key → get served.new other ≡ get served.old other }
+{
+    let is_over = match served.get_mut(key) {
+        Some(one) => one.connection.watch(now, limits),
+        None => false,
+    };
+    if !is_over {
+        return None;
+    }
+    match served.try_remove(key) {
+        Some(Served { connection, hold }) => {
+            drop(connection);
+            Some(hold)
+        }
+        None => None,
+    }
+}

@@ -1,0 +1,215 @@
+//! What the loops of a server share.
+
+ghost use Rattle.std.specs.Prelude.{◌≡◌, is_some, IfOk, IfSome};
+ghost use Rattle.wl_loops.specs.Holds.{is_served, source_of};
+
+use crate::host::{Host, Ring};
+use mio::net::TcpStream;
+use mio::{Poll, Token, Waker};
+use std::alloc::{AllocError, Global};
+use std::io;
+use std::net::Net;
+use std::sync::atomic::{AtomicBool, Ordering};
+use std::sync::{Arc, Mutex, Wait};
+use wl_admission::{PlaceLimits, Places, Rejection, Rules, Source};
+
+/// The token of a loop's waker.
+pub(crate) const WAKER: usize = usize::MAX;
+
+/// The handshakes at once of peers that are told that there is no place: the rest is let go without a word.
+const TURNED_AWAY: PlaceLimits = PlaceLimits {
+    in_all: 64,
+    by_address: 8,
+    by_loopback: 64,
+};
+
+/// Which place a connection has.
+#[derive(Clone, Copy, Debug, PartialEq, Eq)]
+pub(crate) enum Hold {
+    /// One of those that are served.
+    Served(Source),
+    /// One of those that are turned away.
+    TurnedAway(Source),
+}
+
+impl Hold {
+    pub fn source(self) -> Source
+        ensures { result ≡ source_of self }
+    {
+        match self {
+            Hold::Served(source) | Hold::TurnedAway(source) => source,
+        }
+    }
+}
+
+/// A stream on its way to the loop that is to serve it.
+#[derive(Drop)]
+pub(crate) struct Arrival {
+    pub stream: TcpStream,
+    pub hold: Hold,
+}
+
+/// What others give to a loop.
+#[derive(Drop)]
+pub(crate) struct Inbox {
+    waker: Waker,
+    arrivals: Mutex<Vec<Arrival>>,
+}
+
+impl Inbox {
+    pub fn wake(&self) {
+        let _ = self.waker.wake();
+    }
+
+    /// Gives a stream to the loop, and answers whether there was memory for that; else it is closed.
+    pub fn bring<R: Wait>(&self, rt: &R, arrival: Arrival) -> bool {
+        self.arrivals.lock(rt).push(arrival).is_ok()
+    }
+
+    pub fn next_arrival<R: Wait>(&self, rt: &R) -> Option<Arrival> {
+        self.arrivals.lock(rt).pop()
+    }
+}
+
+/// What the loops of a server share.
+#[derive(Drop)]
+pub struct Shared<H> {
+    pub(crate) alloc: Global,
+    pub(crate) host: H,
+    pub(crate) inboxes: Vec<Inbox>,
+    places: Mutex<Places>,
+    turned_away: Mutex<Places>,
+    rules: Mutex<Arc<Rules, Global>>,
+    is_ending: AtomicBool,
+}
+
+/// What is shared, and each loop's own poll.
+#[derive(Drop)]
+pub struct LoopSetup<H> {
+    pub shared: Shared<H>,
+    pub polls: Vec<Poll>,
+}
+
+/// Makes what so many loops need.
+pub fn setup<N: Net, H>(
+    net: &N,
+    alloc: Global,
+    host: H,
+    loops: usize,
+    limits: PlaceLimits,
+    rules: Rules,
+) -> io::Result<LoopSetup<H>>
+where
+    H: Drop,
+{
+    let mut polls = Vec::new(alloc);
+    let mut inboxes = Vec::new(alloc);
+    for _ in 0..loops {
+        let poll = Poll::new(net)?;
+        let waker = Waker::new(poll.registry(), Token(WAKER))?;
+        inboxes.push(Inbox {
+            waker,
+            arrivals: Mutex::new(Vec::new(alloc)),
+        })?;
+        polls.push(poll)?;
+    }
+    let rules = Arc::new(alloc, rules)?;
+    Ok(LoopSetup {
+        shared: Shared {
+            alloc,
+            host,
+            inboxes,
+            places: Mutex::new(Places::new(alloc, limits)),
+            turned_away: Mutex::new(Places::new(alloc, TURNED_AWAY)),
+            rules: Mutex::new(rules),
+            is_ending: AtomicBool::new(false),
+        },
+        polls,
+    })
+}
+
+impl<H> Shared<H> {
+    /// Puts other rules in place for the handshakes from now on.
+    pub fn set_rules<R: Wait>(&self, rt: &R, rules: Rules) -> Result<(), AllocError> {
+        let rules = Arc::new(self.alloc, rules)?;
+        *self.rules.lock(rt) = rules;
+        Ok(())
+    }
+
+    /// The rules by which a connection with this place is admitted: none where it is turned away.
+    pub(crate) fn rules_for<R: Wait>(
+        &self,
+        rt: &R,
+        hold: Hold,
+    ) -> Result<Option<Arc<Rules, Global>>, AllocError>
+        ensures { IfOk result (λ rules. is_some rules ≡ is_served hold) }
+    {
+        match hold {
+            Hold::Served(_) => Ok(Some(Arc::try_clone(&*self.rules.lock(rt))?)),
+            Hold::TurnedAway(_) => Ok(None),
+        }
+    }
+
+    /// A stream that was given to the loop of this number.
+    pub(crate) fn next_arrival<R: Wait>(&self, rt: &R, event_loop: usize) -> Option<Arrival> {
+        match self.inboxes.get(event_loop) {
+            Some(inbox) => inbox.next_arrival(rt),
+            None => None,
+        }
+    }
+
+    /// Takes a place for a connection from this address, if there is one.
+    pub(crate) fn take_place<R: Wait>(&self, rt: &R, source: Source) -> Option<Hold>
+        ensures { IfSome result (λ hold. source_of hold ≡ source) }
+    {
+        match self.places.lock(rt).take(source) {
+            Ok(()) => return Some(Hold::Served(source)),
+            Err(Rejection::NoPlace) => {}
+            Err(_) => return None,
+        }
+        match self.turned_away.lock(rt).take(source) {
+            Ok(()) => Some(Hold::TurnedAway(source)),
+            Err(_) => None,
+        }
+    }
+
+    pub(crate) fn leave_place<R: Wait>(&self, rt: &R, hold: Hold) {
+        match hold {
+            Hold::Served(source) => self.places.lock(rt).leave(source),
+            Hold::TurnedAway(source) => self.turned_away.lock(rt).leave(source),
+        }
+    }
+
+    /// How many connections have a place.
+    pub fn connections<R: Wait>(&self, rt: &R) -> u32 {
+        self.places.lock(rt).taken()
+    }
+
+    pub(crate) fn is_ending(&self) -> bool {
+        self.is_ending.load(Ordering::SeqCst)
+    }
+
+    /// Has all loops end.
+    pub fn end(&self) {
+        self.is_ending.store(true, Ordering::SeqCst);
+        for inbox in &self.inboxes {
+            inbox.wake();
+        }
+    }
+}
+
+impl<H: Host> Shared<H> {
+    /// Wakes the other loops whose connections were marked.
+    pub(crate) fn wake_marked(&self, own: usize) {
+        for (event_loop, inbox) in self.inboxes.iter().enumerate() {
+            if event_loop == own {
+                continue;
+            }
+            if let Some(ring) = self.host.ring(event_loop) {
+                if ring.take_rung() {
+                    inbox.wake();
+                }
+            }
+        }
+    }
+}

@@ -1,0 +1,105 @@
+//! What a peer tells without being asked, and whom an opener turns away.
+
+use super::OPEN;
+use super::growth::{REQUEST, answer_all};
+use std::alloc::Global;
+use std::sync::Wait;
+use std::test::Fail;
+use wl_samples::ask;
+use wl_server::{NoAnswer, NotOpened, Opener, Peer};
+use wl_service::{Client, Keeping, Leaving, Service};
+use wl_types::{Kind, Mode, Text};
+
+/// What a peer told whose request waited, and whether it was rung once the lock was free.
+#[derive(Debug, PartialEq, Eq, Drop)]
+struct Told {
+    before: Option<String>,
+    is_rung: bool,
+    after: Option<String>,
+    again: Option<String>,
+}
+
+/// The peer's request waits until the lock of another client is given up.
+fn tell_after_release<R: Wait>(rt: &R, alloc: Global, service: &Service) -> Result<Told, Fail> {
+    let mut client = service.open(rt, "https://a.test/", Kind::Window)?;
+    let mut ticket = client.request(rt, &ask(alloc, "db", Mode::Exclusive)?)?;
+    let peer = answer_all(rt, service, Peer::new(alloc), &[OPEN, REQUEST])?;
+    let (peer, before) = peer.tell(rt, service)?;
+    client.release(rt, &mut ticket);
+    let is_rung = peer.is_rung();
+    let (peer, after) = peer.tell(rt, service)?;
+    let (peer, again) = peer.tell(rt, service)?;
+    peer.end_by(rt, service);
+    Ok(Told {
+        before,
+        is_rung,
+        after,
+        again,
+    })
+}
+
+const GRANTED: &str = "{\"id\":null,\"notices\":[{\"phase\":\"granted\",\"request\":2}],\"ok\":{}}";
+
+#[test]
+fn a_peer_tells_once_what_changed(rt: HostRuntime) -> Result<(), Fail> {
+    let service = Service::new(&rt, rt.alloc())?;
+    let wanted = Told {
+        before: None,
+        is_rung: true,
+        after: Some(GRANTED.to_string(rt.alloc())?),
+        again: None,
+    };
+    assert_eq!(rt; tell_after_release(&rt, rt.alloc(), &service)?, wanted);
+    Ok(())
+}
+
+/// An opener for whom each URL is another's.
+struct Forbidding;
+
+impl Opener for Forbidding {
+    fn open<R: Wait>(
+        &self,
+        _rt: &R,
+        _url: &str,
+        _bucket: Text,
+        _kind: Kind,
+    ) -> Result<Client, NotOpened> {
+        Err(NotOpened::Forbidden)
+    }
+
+    fn close<R: Wait>(&self, rt: &R, client: Client) -> Option<Leaving> {
+        client.terminate(rt)
+    }
+}
+
+/// What a new peer answers to an open, or why it doesn't.
+fn open_by<R: Wait, O: Opener>(rt: &R, alloc: Global, opener: &O) -> Result<String, NoAnswer> {
+    let (peer, text) = Peer::new(alloc).answer_by(rt, opener, OPEN)?;
+    peer.end_by(rt, opener);
+    Ok(text)
+}
+
+const OPENED: &str = "{\"id\":1,\"notices\":[],\"ok\":{\"client\":\"client-1\"}}";
+
+#[test]
+fn an_opener_may_turn_a_peer_away(rt: HostRuntime) -> Result<(), Fail> {
+    assert_eq!(rt;
+        open_by(&rt, rt.alloc(), &Forbidding),
+        Err(NoAnswer::Forbidden)
+    );
+    let full = Service::with_keeping(&rt, rt.alloc(), Keeping::Used { most: 0 })?;
+    assert_eq!(rt;
+        open_by(&rt, rt.alloc(), &full),
+        Err(NoAnswer::TooManyManagers)
+    );
+    let service = Service::with_keeping(&rt, rt.alloc(), Keeping::Used { most: 1 })?;
+    for _ in 0..2 {
+        // The manager went with the first, so that the second is a first client too.
+        assert_eq!(rt;
+            open_by(&rt, rt.alloc(), &service),
+            Ok(OPENED.to_string(rt.alloc())?)
+        );
+        assert_eq!(rt; service.managers(&rt), 0);
+    }
+    Ok(())
+}

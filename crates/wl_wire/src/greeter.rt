@@ -1,0 +1,100 @@
+//! How a handshake is answered.
+
+use http::{HeaderMap, HeaderName, HeaderValue, Request, Response, StatusCode};
+use std::alloc::Global;
+use std::sync::{Arc, OnceLock};
+use tungstenite::Callback;
+use tungstenite::handshake::server::ErrorResponse;
+use wl_admission::{Admitted, Hello, Rejection, Rules, admit};
+
+/// Answers one handshake. What came of it stands in `verdict` from then on.
+#[derive(Drop)]
+pub struct Greeter {
+    pub alloc: Global,
+    /// None where there is no place for the connection.
+    pub rules: Option<Arc<Rules, Global>>,
+    pub verdict: Arc<OnceLock<Result<Admitted, Rejection>>, Global>,
+}
+
+/// The values of a header; none where one is no text.
+fn values<'a>(
+    alloc: Global,
+    headers: &'a HeaderMap,
+    name: HeaderName,
+) -> Result<Vec<&'a str>, Rejection> {
+    let mut found = Vec::new(alloc);
+    for value in headers.get_all(name) {
+        let Ok(text) = value.to_str() else {
+            return Err(Rejection::BadHeader);
+        };
+        if found.push(text).is_err() {
+            return Err(Rejection::Memory);
+        }
+    }
+    Ok(found)
+}
+
+impl Greeter {
+    fn judge(&self, headers: &HeaderMap) -> Result<Admitted, Rejection> {
+        let Some(rules) = &self.rules else {
+            return Err(Rejection::NoPlace);
+        };
+        let origins = values(self.alloc, headers, HeaderName::from_static("origin"))?;
+        let authorizations = values(
+            self.alloc,
+            headers,
+            HeaderName::from_static("authorization"),
+        )?;
+        let subprotocols = values(
+            self.alloc,
+            headers,
+            HeaderName::from_static("sec-websocket-protocol"),
+        )?;
+        let hello = Hello {
+            origins: origins.as_slice(),
+            authorizations: authorizations.as_slice(),
+            subprotocols: subprotocols.as_slice(),
+        };
+        admit(self.alloc, &hello, rules)
+    }
+
+    fn refusal(&self, rejection: Rejection) -> ErrorResponse {
+        let body = String::from_str(self.alloc, rejection.text()).ok();
+        let mut refused = Response::new(self.alloc, body);
+        *refused.status_mut() = match rejection.status() {
+            400 => StatusCode::BAD_REQUEST,
+            401 => StatusCode::UNAUTHORIZED,
+            _ => StatusCode::SERVICE_UNAVAILABLE,
+        };
+        refused
+    }
+}
+
+impl Callback for Greeter {
+    fn on_request(
+        self,
+        request: &Request<()>,
+        response: Response<()>,
+    ) -> Result<Response<()>, ErrorResponse> {
+        let mut response = response;
+        let verdict = match self.judge(request.headers()) {
+            Ok(admitted) if admitted.is_pushed => {
+                let name = HeaderName::from_static("sec-websocket-protocol");
+                match response
+                    .headers_mut()
+                    .insert(name, HeaderValue::from_static("weblocks.push"))
+                {
+                    Ok(_) => Ok(admitted),
+                    Err(_) => Err(Rejection::Memory),
+                }
+            }
+            verdict => verdict,
+        };
+        let answer = match &verdict {
+            Ok(_) => Ok(response),
+            Err(rejection) => Err(self.refusal(*rejection)),
+        };
+        let _ = self.verdict.try_set(verdict);
+        answer
+    }
+}

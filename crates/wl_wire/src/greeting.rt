@@ -1,0 +1,115 @@
+//! A handshake that goes on as its stream does.
+
+use crate::counted::Counted;
+use crate::greeter::Greeter;
+use crate::wire::Wire;
+use std::alloc::{AllocError, Global};
+use std::io::{Read, Write};
+use std::sync::{Arc, OnceLock};
+use tungstenite::handshake::HandshakeError;
+use tungstenite::handshake::server::{ServerHandshake, start};
+use tungstenite::{MidHandshake, NoMask, Role, WebSocket, WebSocketConfig};
+use wl_admission::{Admitted, Rejection, Rules};
+
+/// The bytes of a handshake at most.
+const HEAD: u64 = 16_384;
+
+/// The bytes of a message at most.
+const LIMIT: usize = 65_536;
+
+/// The bytes of one read of the stream. The crate's own are so many that a connection takes 128 KiB.
+const READ: usize = 2_048;
+
+/// What came of a handshake.
+type Verdict = OnceLock<Result<Admitted, Rejection>>;
+
+/// A handshake that isn't done.
+#[derive(Drop)]
+pub struct Greeting<S: Read + Write + Drop> {
+    alloc: Global,
+    handshake: MidHandshake<ServerHandshake<Counted<S>, Greeter>>,
+    verdict: Arc<Verdict, Global>,
+}
+
+/// How far a handshake is.
+#[derive(Drop)]
+pub enum Greeted<S: Read + Write + Drop> {
+    /// The stream blocks.
+    Waits(Greeting<S>),
+    /// It is done.
+    Open(Wire<S>, Admitted),
+    /// It was refused, and the peer was told so.
+    Refused(Rejection),
+    /// It was none, or the stream failed.
+    Failed,
+}
+
+fn config() -> WebSocketConfig {
+    WebSocketConfig::default()
+        .max_message_size(Some(LIMIT))
+        .max_frame_size(Some(LIMIT))
+        .read_buffer_size(READ)
+}
+
+impl<S: Read + Write + Drop> Greeting<S> {
+    /// The handshake of a peer that is to be admitted by these rules; without any it is told that there is no place.
+    pub fn new(
+        alloc: Global,
+        stream: S,
+        rules: Option<Arc<Rules, Global>>,
+    ) -> Result<Greeting<S>, AllocError> {
+        let verdict = Arc::new(alloc, OnceLock::new())?;
+        let greeter = Greeter {
+            alloc,
+            rules,
+            verdict: Arc::try_clone(&verdict)?,
+        };
+        let counted = Counted::new(stream, HEAD);
+        Ok(Greeting {
+            alloc,
+            handshake: start(alloc, counted, greeter, None),
+            verdict,
+        })
+    }
+
+    /// Goes on until the stream blocks.
+    pub fn go_on(self) -> Greeted<S> {
+        let Greeting {
+            alloc,
+            handshake,
+            verdict,
+        } = self;
+        match handshake.handshake() {
+            Ok(socket) => match taken(verdict) {
+                Some(Ok(admitted)) => Greeted::Open(opened(alloc, socket), admitted),
+                Some(Err(rejection)) => Greeted::Refused(rejection),
+                None => Greeted::Failed,
+            },
+            Err(HandshakeError::Interrupted(handshake)) => Greeted::Waits(Greeting {
+                alloc,
+                handshake,
+                verdict,
+            }),
+            Err(HandshakeError::Failure(_)) => match taken(verdict) {
+                Some(Err(rejection)) => Greeted::Refused(rejection),
+                _ => Greeted::Failed,
+            },
+        }
+    }
+}
+
+/// The wire of a handshake that is done, of which no more than the head was read.
+fn opened<S: Read + Write + Drop>(alloc: Global, socket: WebSocket<Counted<S>, NoMask>) -> Wire<S> {
+    let stream = socket.into_inner().into_stream();
+    let counted = Counted::new(stream, u64::MAX);
+    let socket = WebSocket::from_raw_socket(alloc, counted, NoMask, Role::Server, Some(config()));
+    Wire::new(alloc, socket)
+}
+
+/// What a verdict says, if one was given. The handshake has let go of it.
+fn taken(verdict: Arc<Verdict, Global>) -> Option<Result<Admitted, Rejection>> {
+    match Arc::into_inner(verdict) {
+        Some(verdict) => verdict.into_inner(),
+        None => None,
+    }
+}

@@ -1,0 +1,83 @@
+-- The subcommand `daemon`, and what its options ask for (own).
+use Rattle.std.specs.Prelude.{◌≡◌, ℕ, List, [], ◌∷◌, Bool, true, false, Option, Some, None, map, option_map, unwrap_or, codes, pos}
+use Rattle.std.specs.Net.Grammar.{IsSocketText}
+use Rattle.std.specs.declared.net.socket_addr.SocketAddr.{SocketAddr}
+use Rattle.clap.specs.Words.{App, Row, Rule, Text, all_of, first_of, new_app, new_rule, one_of, with_rule}
+use Rattle.clap.specs.declared.builder.action.ArgAction.TheVariants.{Append, Set, SetTrue}
+use Rattle.clap.specs.declared.builder.value_parser.ValueParser.{ValueParser}
+use Rattle.clap.specs.declared.builder.value_parser.ValueParser.TheVariants as values
+use Rattle.log.specs.Level.{parse_filter}
+use Rattle.wl_words.specs.Numbers.{HasNumberTo, MayHaveNumberTo}
+use Rattle.wl_words.specs.declared.daemon.DaemonOptions.{DaemonOptions}
+
+-- an option with a value, for which help has a name
+abbrev pub value_rule : Text → ValueParser → Rule
+value_rule name parser = record (new_rule name) { long = Some name; value_names = 1; action = Some Set; parser = Some parser }
+
+-- the same with a number from 1
+abbrev pub option_rule : Text → ℕ → Rule
+option_rule name most = value_rule name (values.Signed (pos 1) (pos most))
+
+-- what an option has that isn't given
+abbrev pub by_default : Text → Rule → Rule
+by_default text rule = record rule { defaults = text ∷ [] }
+
+-- an option without a value
+abbrev pub flag_rule : Text → Rule
+flag_rule name = record (new_rule name) { long = Some name; action = Some SetTrue }
+
+abbrev pub listen_app : App
+listen_app = with_rule (new_app (codes "daemon")) (by_default (codes "127.0.0.1:8080") (value_rule (codes "listen") values.String))
+
+abbrev pub limits_app : App
+limits_app =
+    with_rule
+    (with_rule
+    (with_rule
+    (with_rule
+    (with_rule listen_app (by_default (codes "10000") (option_rule (codes "connections") 1000000)))
+    (option_rule (codes "per-address") 1000000))
+    (by_default (codes "100000") (option_rule (codes "managers") 10000000)))
+    (by_default (codes "30") (option_rule (codes "idle") 86400)))
+    (option_rule (codes "loops") 64)
+
+abbrev pub admission_app : App
+admission_app =
+    with_rule
+    (with_rule
+    (with_rule limits_app (value_rule (codes "token-file") values.NonEmptyString))
+    (flag_rule (codes "open")))
+    (record (value_rule (codes "allow-origin") values.String) { action = Some Append })
+
+abbrev pub daemon_app : App
+daemon_app = with_rule (with_rule admission_app (flag_rule (codes "while-input"))) (by_default (codes "info") (value_rule (codes "log") values.String))
+
+-- an option without a value is used just where it is given
+pub record IsUsed (name : Text) (rows : List Row) (used : Bool) : Type 0 where
+  pub given : one_of name rows ≡ Some (codes "true") → used ≡ true
+  pub denied : one_of name rows ≡ Some (codes "false") → used ≡ false
+  pub missing : one_of name rows ≡ None → used ≡ false
+
+-- the options' texts ask for this
+pub record AsksFor (rows : List Row) (options : DaemonOptions) : Type 0 where
+  pub listen : (text : Text) × (one_of (codes "listen") rows ≡ Some text) × IsSocketText text options.listen
+  pub connections : HasNumberTo 1000000 (codes "connections") rows options.connections
+  pub per_address : MayHaveNumberTo 1000000 (codes "per-address") rows options.per_address
+  pub managers : HasNumberTo 10000000 (codes "managers") rows options.managers
+  pub idle : HasNumberTo 86400 (codes "idle") rows options.idle
+  pub loops : MayHaveNumberTo 64 (codes "loops") rows options.loops
+  pub token_file : option_map (λ text. text.now) options.token_file ≡ first_of (codes "token-file") rows
+  pub is_open : IsUsed (codes "open") rows options.is_open
+  pub origins : map (λ text. text.now) options.allow_origins.items ≡ unwrap_or (all_of (codes "allow-origin") rows) []
+  pub while_input : IsUsed (codes "while-input") rows options.while_input
+  pub log : (text : Text) × (one_of (codes "log") rows ≡ Some text) × (parse_filter text ≡ Some options.log)
+
+-- the option's text is no address and port
+abbrev pub HasNoAddress : Option Text → Type 0
+HasNoAddress None = ⊥
+HasNoAddress (Some text) = (address : SocketAddr) → IsSocketText text address → ⊥
+
+-- the option's text is no level
+abbrev pub HasNoLevel : Option Text → Type 0
+HasNoLevel None = ⊥
+HasNoLevel (Some text) = parse_filter text ≡ None

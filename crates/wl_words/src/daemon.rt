@@ -1,0 +1,138 @@
+//! What the daemon is asked for.
+
+ghost use Rattle.std.specs.Prelude.{◌≡◌, [], map, unwrap_or, IfErr, IfOk, codes};
+ghost use Rattle.clap.specs.Words.{all_of, found_of, one_of, rows_of};
+ghost use Rattle.wl_words.specs.Daemon.{AsksFor, HasNoAddress, HasNoLevel};
+ghost use Rattle.wl_words.specs.Numbers.{HasNumberTo, MayHaveNumberTo};
+
+use clap::ArgMatches;
+use log::LevelFilter;
+use std::alloc::Global;
+use std::net::SocketAddr;
+
+/// The connections at most.
+pub const MOST_CONNECTIONS: u32 = 1_000_000;
+
+/// The managers at most.
+pub const MOST_MANAGERS: u32 = 10_000_000;
+
+/// The seconds of silence at most.
+pub const MOST_IDLE: u32 = 86_400;
+
+/// The event loops at most.
+pub const MOST_LOOPS: u32 = 64;
+
+/// What the daemon is asked for.
+#[derive(Debug, Drop)]
+pub struct DaemonOptions<'a> {
+    /// Where to listen. Port 0 is any that is free.
+    pub listen: SocketAddr,
+    /// The connections at once, 1 to 1,000,000.
+    pub connections: u32,
+    /// The connections at once from one address; none means a quarter of all, and all from this machine.
+    pub per_address: Option<u32>,
+    /// The managers at once, 1 to 10,000,000.
+    pub managers: u32,
+    /// The seconds of silence to a ping, 1 to 86,400. After twice as many a connection ends.
+    pub idle: u32,
+    /// The event loops, 1 to 64; none means one a core.
+    pub loops: Option<u32>,
+    /// The file that lists who may come in; none means all who reach it.
+    pub token_file: Option<&'a str>,
+    /// Whether it may listen beyond this machine without a token file.
+    pub is_open: bool,
+    /// The origins whose pages may open any URL. `*` is all.
+    pub allow_origins: Vec<&'a str>,
+    /// Whether it ends with standard input.
+    pub while_input: bool,
+    /// What goes into its log.
+    pub log: LevelFilter,
+}
+
+/// Why the options ask for nothing that can be done, beyond what `clap` finds.
+#[derive(Clone, Copy, Debug, PartialEq, Eq, Drop)]
+pub enum OptionFault {
+    /// `--listen` has no address and port.
+    Listen,
+    /// `--log` has no level.
+    Log,
+    /// A growth was refused, or `clap` gave what it should not.
+    Memory,
+}
+
+/// The number of an option that has a default. `clap` has tested the range; it is tested again, since no contract of its
+/// says so.
+fn number_in(options: &ArgMatches<'_>, name: &str, most: u32) -> Result<u32, OptionFault>
+    ensures ok { IfOk result (HasNumberTo most name.now (rows_of (found_of options.now))) }
+    ensures err { IfErr result (λ fault. fault ≡ OptionFault.Memory) }
+{
+    match options.get_one::<u32>(name) {
+        Some(number) if (1..=most).contains(&number) => Ok(number),
+        _ => Err(OptionFault::Memory),
+    }
+}
+
+/// The number of an option that needn't be there.
+fn number_if_any(
+    options: &ArgMatches<'_>,
+    name: &str,
+    most: u32,
+) -> Result<Option<u32>, OptionFault>
+    ensures ok { IfOk result (MayHaveNumberTo most name.now (rows_of (found_of options.now))) }
+    ensures err { IfErr result (λ fault. fault ≡ OptionFault.Memory) }
+{
+    if options.get_str(name).is_none() {
+        return Ok(None);
+    }
+    match number_in(options, name, most) {
+        Ok(number) => Ok(Some(number)),
+        Err(fault) => Err(fault),
+    }
+}
+
+/// The texts of `--allow-origin`.
+fn origins_in<'a>(alloc: Global, options: &ArgMatches<'a>) -> Result<Vec<&'a str>, OptionFault>
+    ensures ok { IfOk result (λ found. map (λ text. text.now) found.items ≡ unwrap_or (all_of (codes "allow-origin") (rows_of (found_of options.now))) []) }
+    ensures err { IfErr result (λ fault. fault ≡ OptionFault.Memory) }
+{
+    let mut origins = Vec::new(alloc);
+    if let Some(texts) = options.get_strs("allow-origin") {
+        if origins.extend_from_slice(texts).is_err() {
+            return Err(OptionFault::Memory);
+        }
+    }
+    Ok(origins)
+}
+
+/// What the options ask for.
+pub fn daemon_in<'a>(
+    alloc: Global,
+    options: &ArgMatches<'a>,
+) -> Result<DaemonOptions<'a>, OptionFault>
+    ensures asked { IfOk result (AsksFor (rows_of (found_of options.now))) }
+    ensures listen { IfErr result (λ fault. fault ≡ OptionFault.Listen → HasNoAddress (one_of (codes "listen") (rows_of (found_of options.now)))) }
+    ensures log { IfErr result (λ fault. fault ≡ OptionFault.Log → HasNoLevel (one_of (codes "log") (rows_of (found_of options.now)))) }
+{
+    if options.get_str("listen").is_none() || options.get_str("log").is_none() {
+        return Err(OptionFault::Memory);
+    }
+    let Some(listen) = options.get_one::<SocketAddr>("listen") else {
+        return Err(OptionFault::Listen);
+    };
+    let Some(log) = options.get_one::<LevelFilter>("log") else {
+        return Err(OptionFault::Log);
+    };
+    Ok(DaemonOptions {
+        listen,
+        connections: number_in(options, "connections", MOST_CONNECTIONS)?,
+        per_address: number_if_any(options, "per-address", MOST_CONNECTIONS)?,
+        managers: number_in(options, "managers", MOST_MANAGERS)?,
+        idle: number_in(options, "idle", MOST_IDLE)?,
+        loops: number_if_any(options, "loops", MOST_LOOPS)?,
+        token_file: options.get_str("token-file"),
+        is_open: options.get_flag("open"),
+        allow_origins: origins_in(alloc, options)?,
+        while_input: options.get_flag("while-input"),
+        log,
+    })
+}
