@@ -7,6 +7,8 @@ export interface ServerOptions {
   program?: string | undefined;
   /** Where it listens: on a free port unless given. */
   port?: number | undefined;
+  /** Further options of `weblocks daemon`, as `["--token-file", "tokens"]`. */
+  words?: string[] | undefined;
 }
 
 /** A server that runs. */
@@ -15,8 +17,10 @@ export interface Server {
   readonly port: number;
   /** The number of its process. */
   readonly pid: number;
-  /** Ends it. */
+  /** Ends it in good order: each of its clients is told. */
   stop(): Promise<void>;
+  /** Ends it at once, as a machine ends that fails. */
+  kill(): Promise<void>;
 }
 
 /** A server for a test file. */
@@ -27,7 +31,7 @@ export interface TestServer {
   connect(options?: Partial<ConnectOptions>): Promise<LockManager>;
 }
 
-/** Starts a server on a free port. */
+/** Starts a server, on a free port unless one is named. It ends with this program at the latest. */
 export function startServer(options?: ServerOptions): Promise<Server>;
 
 /** Has a server run while the tests of a file do; to be called once, before them. */

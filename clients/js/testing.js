@@ -2,45 +2,42 @@
 
 import { spawn } from "node:child_process";
 import { once } from "node:events";
-import { createServer } from "node:net";
 import { createInterface } from "node:readline";
 import { after, before } from "node:test";
 import { connect } from "./weblocks.js";
 
-/** `weblocks serve` ends after so many connections: this is the most that it takes. */
-const MOST_CLIENTS = 10_000;
-
-/** The signals that end a program, and with it the servers that it started. */
-const ENDING = ["SIGHUP", "SIGINT", "SIGTERM"];
-
-/** The servers that run. */
-const running = new Set();
-
-/** Another program may take a free port before the server does. */
-const TRIES = 5;
+/** What a server may take to end once its input has, in milliseconds. */
+const ENDING = 10_000;
 
 /**
- * Starts a server, on a free port unless one is named.
+ * Starts a server, on a free port unless one is named. It ends when its input does, and so with this program.
  *
- * @param {{program?: string, port?: number}} [options] the program's path; where it is absent, that of WEBLOCKS_PROGRAM
+ * @param {{program?: string, port?: number, words?: string[]}} [options] the program's path; where it is absent, that
+ *   of WEBLOCKS_PROGRAM; and further options of `weblocks daemon`
  * @returns {Promise<Server>}
  */
-export async function startServer({ program = process.env.WEBLOCKS_PROGRAM, port } = {}) {
+export async function startServer({ program = process.env.WEBLOCKS_PROGRAM, port = 0, words = [] } = {}) {
   if (!program) throw new TypeError("Name the weblocks program: by the option program, or by WEBLOCKS_PROGRAM");
-  if (port !== undefined) return startOn(program, port);
-  for (let tries = 1; ; tries += 1) {
-    try {
-      return await startOn(program, await freePort());
-    } catch (fault) {
-      if (tries === TRIES || !fault.message.includes("cannot listen")) throw fault;
-    }
-  }
+  const child = spawn(program, ["daemon", "--listen", `127.0.0.1:${port}`, "--while-input", ...words]);
+  child.stdin.on("error", () => {});
+  const exited = new Promise((resolve) => child.once("exit", resolve));
+  const told = [];
+  child.stderr.on("data", (text) => told.push(text));
+  const listening = once(createInterface(child.stdout), "line");
+  const failed = new Promise((resolve, reject) => {
+    child.once("error", reject);
+    child.once("close", () => reject(new Error(`${program} ended: ${Buffer.concat(told).toString().trim()}`)));
+  });
+  failed.catch(() => {});
+  const [line] = await Promise.race([listening, failed]);
+  child.stderr.removeAllListeners("data").resume();
+  return new Server(child, exited, Number(line.slice(line.lastIndexOf(":") + 1)));
 }
 
 /**
  * Has a server run while the tests of a file do; to be called once, before them.
  *
- * @param {{program?: string}} [options] as those of `startServer`
+ * @param {{program?: string, port?: number, words?: string[]}} [options] as those of `startServer`
  * @returns {TestServer}
  */
 export function useServer(options) {
@@ -53,9 +50,11 @@ export function useServer(options) {
 /** A server that runs. */
 class Server {
   #child;
+  #exited;
 
-  constructor(child, port) {
+  constructor(child, exited, port) {
     this.#child = child;
+    this.#exited = exited;
     this.port = port;
     this.url = `ws://127.0.0.1:${port}`;
   }
@@ -65,12 +64,18 @@ class Server {
     return this.#child.pid;
   }
 
-  /** Ends it. */
+  /** Ends it in good order: each of its clients is told. */
   async stop() {
-    if (this.#child.exitCode !== null || this.#child.signalCode !== null) return;
-    const ended = once(this.#child, "exit");
+    this.#child.stdin.end();
+    const timer = setTimeout(() => this.#child.kill("SIGKILL"), ENDING);
+    await this.#exited;
+    clearTimeout(timer);
+  }
+
+  /** Ends it at once, as a machine ends that fails. */
+  async kill() {
     this.#child.kill("SIGKILL");
-    await ended;
+    await this.#exited;
   }
 }
 
@@ -102,61 +107,4 @@ class TestServer {
     await Promise.all(this.#managers.map((locks) => locks.close()));
     await this.#server?.stop();
   }
-}
-
-async function startOn(program, port) {
-  const words = ["serve", "--port", String(port), "--clients", String(MOST_CLIENTS)];
-  const child = spawn(program, words, { stdio: ["ignore", "pipe", "pipe"] });
-  endWithProgram(child);
-  const told = [];
-  child.stderr.on("data", (text) => told.push(text));
-  const lines = createInterface(child.stdout);
-  const listening = once(lines, "line");
-  const ended = new Promise((resolve, reject) => {
-    child.once("error", reject);
-    child.once("close", () => reject(new Error(`${program} ended: ${Buffer.concat(told).toString().trim()}`)));
-  });
-  await Promise.race([listening, ended]);
-  ended.catch(() => {});
-  return new Server(child, port);
-}
-
-async function freePort() {
-  const server = createServer();
-  server.listen(0, "127.0.0.1");
-  await once(server, "listening");
-  const { port } = server.address();
-  server.close();
-  await once(server, "close");
-  return port;
-}
-
-/** Has a server end with this program, unless that is killed outright. */
-function endWithProgram(child) {
-  if (running.size === 0) {
-    process.on("exit", killAll);
-    for (const signal of ENDING) process.on(signal, killAllAndEnd);
-  }
-  running.add(child);
-  const forget = () => {
-    running.delete(child);
-    if (running.size === 0) ignoreEnd();
-  };
-  child.once("error", forget);
-  child.once("exit", forget);
-}
-
-function killAll() {
-  for (const child of running) child.kill("SIGKILL");
-}
-
-function killAllAndEnd(signal) {
-  killAll();
-  ignoreEnd();
-  process.kill(process.pid, signal);
-}
-
-function ignoreEnd() {
-  process.off("exit", killAll);
-  for (const signal of ENDING) process.off(signal, killAllAndEnd);
 }

@@ -8,7 +8,6 @@ with WEBLOCKS_PROGRAM as the program's path, if it isn't ./weblocks.
 """
 
 import os
-import socket
 import subprocess
 import sys
 import tempfile
@@ -23,23 +22,18 @@ ORIGIN = "https://harness.test"
 
 
 class LockServer:
-    """A lock service for the time of a test run, on a free port."""
+    """A lock service for the time of a test run, on a free port; it ends with its input, and so with the tests."""
 
     def __enter__(self):
-        with socket.socket() as it:
-            it.bind(("127.0.0.1", 0))
-            port = it.getsockname()[1]
-        command = [PROGRAM, "serve", "--port", str(port), "--clients", "1000"]
-        self._process = subprocess.Popen(command, stdout=subprocess.PIPE)
-        line = self._process.stdout.readline()
-        if line != b"listening %d\n" % port:
-            raise RuntimeError(f"{PROGRAM} doesn't serve: {line!r}")
-        return f"ws://127.0.0.1:{port}"
+        command = [PROGRAM, "daemon", "--listen", "127.0.0.1:0", "--while-input", "--log", "warn"]
+        self._process = subprocess.Popen(command, stdin=subprocess.PIPE, stdout=subprocess.PIPE, text=True)
+        said, _space, place = self._process.stdout.readline().strip().partition(" ")
+        if said != "listening":
+            raise RuntimeError(f"{PROGRAM} doesn't listen")
+        return f"ws://{place}"
 
     def __exit__(self, *_why):
-        self._process.kill()
-        self._process.wait()
-        self._process.stdout.close()
+        self._process.communicate()
 
 
 def change(url, file, count):

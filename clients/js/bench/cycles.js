@@ -1,6 +1,7 @@
 /**
- * What the client costs: cycles beside a program that writes the same messages through the same socket library on one
- * connection, hand-overs of one lock among 64 clients, and the timers of 1,000 requests that wait.
+ * What the client costs over a daemon: cycles beside a program that writes the same messages through the same socket
+ * library on one connection, hand-overs of one lock among 64 clients, and the timers of 1,000 requests that wait. Then
+ * hand-overs over a server that costs next to nothing.
  *
  *     WEBLOCKS_PROGRAM=../../weblocks node bench/cycles.js
  */
@@ -44,7 +45,7 @@ async function time(milliseconds, run) {
 
 /** A connection without a client: a message, its reply, and the next. */
 async function openPlain(url) {
-  const socket = new WebSocket(url);
+  const socket = new WebSocket(url, "weblocks.push");
   await once(socket, "open");
   let answered;
   let id = 0;
@@ -91,7 +92,7 @@ async function compareCycles(url) {
   }
 }
 
-async function countHandOvers(url) {
+async function countHandOvers(url, over) {
   const options = { url, origin: ORIGIN, WebSocket, heartbeat: 60_000 };
   const clients = await Promise.all(Array.from({ length: CLIENTS }, () => connect(options)));
   const pass = (isOver, count) => {
@@ -101,7 +102,7 @@ async function countHandOvers(url) {
   };
   await time(HAND_OVER_TIME, pass);
   const { time: one, processor } = await time(HAND_OVER_TIME, pass);
-  console.log(`hand-overs among ${CLIENTS} clients: ${one.toFixed(1)} us, ${processor.toFixed(1)} us of the processor, `
+  console.log(`hand-overs among ${CLIENTS} clients over ${over}: ${one.toFixed(1)} us, ${processor.toFixed(1)} us of the processor, `
     + `${Math.round(1e6 / one)} a second`);
   await Promise.all(clients.map((locks) => locks.close()));
 }
@@ -135,10 +136,10 @@ async function startInstant() {
 
 const server = await startServer({ program: PROGRAM });
 await compareCycles(server.url);
+await countHandOvers(server.url, "a daemon");
 await countTimers(server.url);
 await server.stop();
 
 const instant = await startInstant();
-await countHandOvers(instant.url);
-await countTimers(instant.url);
+await countHandOvers(instant.url, "a server that grants at once");
 await instant.stop();

@@ -190,9 +190,9 @@ export class Session {
    */
   #lose(fault, isForGood) {
     if (this.#state === CLOSED) return;
-    const told = networkError(fault.message);
+    const told = faultOfLoss(fault);
     this.#state = isForGood ? CLOSED : LOST;
-    this.#refusalOnceClosed = () => networkError(fault.message);
+    this.#refusalOnceClosed = () => faultOfLoss(fault);
     this.#agents.cut();
     this.#outbox.reset();
     this.#wanting = 0;
@@ -243,6 +243,11 @@ export class Session {
     for (const call of this.#calls.keys()) this.#ask(call);
     this.#onRestored();
   }
+}
+
+/** What calls are rejected with that a loss ends, and those after the last one. */
+function faultOfLoss({ name, message }) {
+  return name === "SecurityError" ? securityError(message) : networkError(message);
 }
 
 function lostError() {

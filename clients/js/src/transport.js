@@ -8,12 +8,22 @@ const PUSH = "weblocks.push";
 /** What stands before a token, where it is offered as a subprotocol. */
 const BEARER = "weblocks.bearer.";
 
+/** How the package `ws` tells of a server that has no place for a further connection. */
+const FULL = /\b503$/;
+
 /** The state of a socket on which messages go both ways (HTML, `WebSocket.OPEN`). */
 export const OPEN = 1;
 
+/** A handshake that fails whatever it offers: nobody answers, or the server has no place. */
+class Unserved extends DOMException {
+  constructor(message) {
+    super(message, "NetworkError");
+  }
+}
+
 /**
- * Opens a socket. Pushes are asked for first; where that handshake fails, a second one offers no subprotocol, and a
- * server that takes that one is polled.
+ * Opens a socket. Pushes are asked for first; where that handshake is refused, a second one offers no subprotocol, and
+ * a server that takes that one is polled.
  *
  * @param {object} settings as `readSettings` gives them
  * @param {AbortSignal} signal gives up
@@ -27,7 +37,7 @@ export async function openSocket(settings, signal) {
     const socket = await shakeHands(() => new Socket(url, offered), heartbeat, signal);
     return { socket, pushes: socket.protocol === PUSH };
   } catch (fault) {
-    if (signal.aborted || (token !== undefined && !sendsHeaders())) throw fault;
+    if (signal.aborted || fault instanceof Unserved || (token !== undefined && !sendsHeaders())) throw fault;
     const socket = await shakeHands(() => openPlain(Socket, url, token), heartbeat, signal);
     return { socket, pushes: false };
   }
@@ -72,13 +82,13 @@ function shakeHands(create, patience, signal) {
   return new Promise((resolve, reject) => {
     signal.throwIfAborted();
     const socket = create();
-    const fail = (text) => {
+    const fail = (fault) => {
       finish();
       cutSocket(socket);
-      reject(networkError(text));
+      reject(fault);
     };
-    const giveUp = () => fail("Connecting was given up");
-    const timer = setTimeout(() => fail(`No server answered in ${patience} ms`), patience);
+    const giveUp = () => fail(networkError("Connecting was given up"));
+    const timer = setTimeout(() => fail(new Unserved(`No server answered in ${patience} ms`)), patience);
     const finish = () => {
       clearTimeout(timer);
       signal.removeEventListener("abort", giveUp);
@@ -89,9 +99,14 @@ function shakeHands(create, patience, signal) {
       finish();
       resolve(socket);
     };
-    socket.onerror = (event) => fail(`No connection to the server: ${event.message || "its handshake failed"}`);
-    socket.onclose = (event) => fail(`The server closed the connection (close code ${event.code})`);
+    socket.onerror = ({ message }) => fail(faultOfHandshake(message || "its handshake failed"));
+    socket.onclose = ({ code }) => fail(networkError(`The server closed the connection (close code ${code})`));
   });
+}
+
+function faultOfHandshake(text) {
+  const message = `No connection to the server: ${text}`;
+  return FULL.test(text) ? new Unserved(message) : networkError(message);
 }
 
 /** A socket of `ws` throws what it has no listener of errors for. */

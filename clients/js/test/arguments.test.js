@@ -4,14 +4,14 @@ import assert from "node:assert/strict";
 import { before, test } from "node:test";
 import { Lock, LockManager } from "../weblocks.js";
 import { assertFree, assertRejects, hold, watch } from "./support/holding.js";
-import { allTests, connectTo, startPushing } from "./support/servers.js";
+import { allTests, connectTo, startPushing, startRelayed } from "./support/servers.js";
 
 const all = allTests();
 let server;
 let locks;
 
 before(async () => {
-  server = await startPushing(all);
+  server = await startRelayed(all);
   locks = await connectTo(all, server);
 });
 

@@ -3,7 +3,7 @@
 import assert from "node:assert/strict";
 import { test } from "node:test";
 import { assertFree, assertRejects, hold, until, untilPending, watch } from "./support/holding.js";
-import { connectTo, startPushing, testWithEach } from "./support/servers.js";
+import { connectTo, startRelayed, testWithEach } from "./support/servers.js";
 
 const never = () => assert.fail("its callback was called");
 
@@ -79,7 +79,7 @@ testWithEach("a callback may close the LockManager that called it", async (agent
 });
 
 test("close ends the second connection too", async (t) => {
-  const server = await startPushing(t);
+  const server = await startRelayed(t);
   const [a, b] = [await connectTo(t, server), await connectTo(t, server)];
   const holding = await hold(a, "db");
   const promises = Array.from({ length: 1100 }, () => {

@@ -7,7 +7,7 @@ import { promisify } from "node:util";
 import { connect } from "../weblocks.js";
 import { assertRejects, hold, until, watch } from "./support/holding.js";
 import { Proxy } from "./support/proxy.js";
-import { connectTo, startPolled, startPushing } from "./support/servers.js";
+import { connectTo, startPolled, startPushing, startRelayed } from "./support/servers.js";
 import { WebSocket } from "./support/sockets.js";
 
 const run = promisify(execFile);
@@ -68,7 +68,7 @@ test("each reconnection tries pushes anew", async (t) => {
 });
 
 test("nothing is polled where pushes are spoken, but for the heartbeat", async (t) => {
-  const server = await startPushing(t);
+  const server = await startRelayed(t);
   const [a, b] = [await connectTo(t, server, { poll: 1 }), await connectTo(t, server, { poll: 1 })];
   const holding = await hold(a, "db");
   const pending = b.request("db", () => "told");
@@ -80,7 +80,7 @@ test("nothing is polled where pushes are spoken, but for the heartbeat", async (
 });
 
 test("nothing is polled while nothing is pending, but for the heartbeat", async (t) => {
-  const server = await startPushing(t, { selects: false });
+  const server = await startRelayed(t, { selects: false });
   const [a, b] = [await connectTo(t, server, { poll: 1 }), await connectTo(t, server, { poll: 1 })];
   const polls = () => server.ops.filter((op) => op === "poll").length;
   const holding = await hold(a, "db");
@@ -96,7 +96,7 @@ test("nothing is polled while nothing is pending, but for the heartbeat", async 
 });
 
 test("a token is offered as a subprotocol beside weblocks.push", async (t) => {
-  const server = await startPushing(t, { token: "se.cr_et-1" });
+  const server = await startRelayed(t, { token: "se.cr_et-1" });
   const locks = await connectTo(t, server, { token: "se.cr_et-1" });
   assert.equal(await locks.request("db", () => 1), 1);
   assert.deepEqual(server.offers[0].protocols, ["weblocks.push", "weblocks.bearer.se.cr_et-1"]);
@@ -104,14 +104,14 @@ test("a token is offered as a subprotocol beside weblocks.push", async (t) => {
 });
 
 test("a server that is polled gets the token as a header, by the second handshake", async (t) => {
-  const server = await startPushing(t, { token: "secret", selects: false });
+  const server = await startRelayed(t, { token: "secret", selects: false });
   const locks = await connectTo(t, server, { token: "secret" });
   assert.equal(await locks.request("db", () => 1), 1);
   assert.deepEqual(server.offers.map(({ authorization }) => authorization), [undefined, "Bearer secret"]);
 });
 
 test("a wrong token is a NetworkError", async (t) => {
-  const server = await startPushing(t, { token: "secret" });
+  const server = await startRelayed(t, { token: "secret" });
   const fault = await assertRejects(connectTo(t, server, { token: "wrong" }), "NetworkError");
   assert.match(fault.message, /401/);
   await assertRejects(connectTo(t, server), "NetworkError");
@@ -124,7 +124,7 @@ test("where there is no server, connect rejects with NetworkError", async (t) =>
 });
 
 test("a server may close a connection for its origin (1008) or for want of room (1013)", async (t) => {
-  const server = await startPushing(t);
+  const server = await startRelayed(t);
   server.closeCode = 1008;
   await assertRejects(connectTo(t, server), "SecurityError");
   server.closeCode = 1013;
@@ -153,7 +153,7 @@ test("an origin that the service can't read is a TypeError", async (t) => {
 
 test("a server that breaks the protocol is lost", async (t) => {
   for (const text of ["no json", "5", "{}", '{"id":9,"notices":[],"ok":{}}', '{"id":1,"notices":[]}']) {
-    const server = await startPushing(t);
+    const server = await startRelayed(t);
     server.answer = text;
     await assertRejects(connectTo(t, server), "NetworkError");
   }

@@ -10,7 +10,7 @@ import { after, before, test } from "node:test";
 import { promisify } from "node:util";
 
 import { firstProgram, TOP } from "./support/documents.js";
-import { startPolled } from "./support/servers.js";
+import { startPushing } from "./support/servers.js";
 
 /** What a command may take. */
 const MILLISECONDS = 120_000;
@@ -55,7 +55,7 @@ for (const [path, says] of [
   ["clients/js/README.md", "report is mine\n"],
 ]) {
   test(`the first program of ${path}`, async (it) => {
-    const { url } = await startPolled(it);
+    const { url } = await startPushing(it);
     await writeFile(join(folder, "first.js"), await firstProgram(path, "js", url));
     assert.equal(await printed(process.execPath, "first.js"), says);
   });

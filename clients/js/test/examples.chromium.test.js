@@ -9,7 +9,7 @@ import { after, before, test } from "node:test";
 import { Chromium, inTime } from "./browser/chromium.js";
 import { serveFiles } from "./browser/files.js";
 import { TOP, firstProgram } from "./support/documents.js";
-import { startPolled } from "./support/servers.js";
+import { startPushing } from "./support/servers.js";
 
 const SERVER = `${TOP}/examples/pages/server.mjs`;
 
@@ -48,7 +48,7 @@ after(async () => {
 });
 
 test("two pages in two browsers that share a database sell no ticket twice", async (it) => {
-  const { url } = await startPolled(it);
+  const { url } = await startPushing(it);
   const opened = pages.map((page) => chromium.open(`${page}?locks=${encodeURIComponent(url)}`, { isApart: true }));
   const both = await Promise.all(opened);
   for (const page of both) {
@@ -62,7 +62,7 @@ test("two pages in two browsers that share a database sell no ticket twice", asy
 });
 
 test("the page of docs/CLIENTS.md holds a lock as it stands", async (it) => {
-  const { url } = await startPolled(it);
+  const { url } = await startPushing(it);
   const files = await serveFiles(TOP, { "/page.html": await firstProgram("docs/CLIENTS.md", "html", url) });
   it.after(() => files.end());
   const page = await chromium.open(`${files.url}/page.html`);

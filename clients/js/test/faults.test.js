@@ -4,7 +4,7 @@ import assert from "node:assert/strict";
 import { test } from "node:test";
 import { faultOfClose, faultOfRefusal, isFinal } from "../src/faults.js";
 import { assertFree, assertRejects } from "./support/holding.js";
-import { connectTo, startPushing } from "./support/servers.js";
+import { connectTo, startRelayed } from "./support/servers.js";
 
 test("each refusal of the service is a fault of a name", () => {
   const named = {
@@ -42,7 +42,7 @@ test("there is no sense in trying again where the server doesn't let the page in
 });
 
 test("a limit of the service rejects with QuotaExceededError, and the next request goes on", async (t) => {
-  const server = await startPushing(t);
+  const server = await startRelayed(t);
   const locks = await connectTo(t, server);
   const never = () => assert.fail("its callback was called");
   server.refusal = { name: "Limit", rule: "requests" };

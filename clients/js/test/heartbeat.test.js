@@ -4,38 +4,40 @@ import assert from "node:assert/strict";
 import { test } from "node:test";
 import { assertRejects, hold, sleep, until, watch } from "./support/holding.js";
 import { Proxy } from "./support/proxy.js";
-import { connectTo, startPolled, startPushing } from "./support/servers.js";
+import { EACH, connectTo, startPolled, startPushing, startRelayed } from "./support/servers.js";
 
-const HEARTBEAT = 200;
+const HEARTBEAT = 500;
 
 test("each heartbeat one timer of a connection sends a poll", async (t) => {
-  const server = await startPushing(t);
-  await connectTo(t, server, { heartbeat: 100 });
-  await sleep(1050);
+  const server = await startRelayed(t);
+  await connectTo(t, server, { heartbeat: HEARTBEAT });
+  await sleep(10.4 * HEARTBEAT);
   const polls = server.ops.filter((op) => op === "poll").length;
   assert.ok(polls >= 5 && polls <= 11, `${polls} polls in 10 heartbeats`);
 });
 
-test("a stopped server is noticed, and its client's locks are lost", async (t) => {
-  const server = await startPolled(t);
-  const locks = await connectTo(t, server, { heartbeat: HEARTBEAT });
-  const holding = await hold(locks, "db");
-  const lost = locks.lostSignal(holding.lock);
-  let event = null;
-  locks.addEventListener("lost", (heard) => { event = heard; });
-  process.kill(server.pid, "SIGSTOP");
-  const before = Date.now();
-  const fault = await assertRejects(holding.promise, "NetworkError");
-  const took = Date.now() - before;
-  process.kill(server.pid, "SIGCONT");
-  assert.ok(took >= HEARTBEAT / 2, `it was noticed after ${took} ms`);
-  assert.ok(took <= 3 * HEARTBEAT, `it was noticed after ${took} ms`);
-  assert.equal(lost.aborted, true);
-  assert.equal(lost.reason, fault);
-  await until(() => event !== null);
-  assert.equal(event.type, "lost");
-  assert.equal(event.reason, fault);
-});
+for (const [how, start] of Object.entries(EACH)) {
+  test(`a stopped server is noticed, and its client's locks are lost (${how})`, async (t) => {
+    const server = await start(t);
+    const locks = await connectTo(t, server, { heartbeat: HEARTBEAT });
+    const holding = await hold(locks, "db");
+    const lost = locks.lostSignal(holding.lock);
+    let event = null;
+    locks.addEventListener("lost", (heard) => { event = heard; });
+    process.kill(server.pid, "SIGSTOP");
+    const before = Date.now();
+    const fault = await assertRejects(holding.promise, "NetworkError");
+    const took = Date.now() - before;
+    process.kill(server.pid, "SIGCONT");
+    assert.ok(took >= HEARTBEAT / 2, `it was noticed after ${took} ms`);
+    assert.ok(took <= 3 * HEARTBEAT, `it was noticed after ${took} ms`);
+    assert.equal(lost.aborted, true);
+    assert.equal(lost.reason, fault);
+    await until(() => event !== null);
+    assert.equal(event.type, "lost");
+    assert.equal(event.reason, fault);
+  });
+}
 
 test("dropped packets are noticed, though neither side's system is told", async (t) => {
   const proxy = await Proxy.start(t, await startPushing(t));
@@ -51,7 +53,7 @@ test("dropped packets are noticed, though neither side's system is told", async 
 });
 
 test("pushes are no sign of life: only replies are", async (t) => {
-  const server = await startPushing(t);
+  const server = await startRelayed(t);
   const locks = await connectTo(t, server, { heartbeat: HEARTBEAT, reconnect: false });
   const holding = await hold(locks, "db");
   server.isDeaf = true;
@@ -61,7 +63,7 @@ test("pushes are no sign of life: only replies are", async (t) => {
 });
 
 test("a server that is slow, but answers, isn't lost", async (t) => {
-  const server = await startPushing(t);
+  const server = await startRelayed(t);
   server.delay = 1.5 * HEARTBEAT;
   const locks = await connectTo(t, server, { heartbeat: 2 * HEARTBEAT });
   const holding = await hold(locks, "db");
@@ -91,7 +93,7 @@ test("a handshake that isn't answered is given up", async (t) => {
 });
 
 test("an opening that isn't answered is given up", async (t) => {
-  const server = await startPushing(t);
+  const server = await startRelayed(t);
   server.isDeaf = true;
   await assertRejects(connectTo(t, server, { heartbeat: HEARTBEAT }), "NetworkError");
 });

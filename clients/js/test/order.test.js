@@ -4,7 +4,7 @@ import assert from "node:assert/strict";
 import { test } from "node:test";
 import { SIGNALS_OF_AGENT } from "../src/signals.js";
 import { assertFree, hold, until, untilPending, watch } from "./support/holding.js";
-import { connectTo, startPushing, testWithEach } from "./support/servers.js";
+import { connectTo, startPushing, startRelayed, testWithEach } from "./support/servers.js";
 
 const never = () => assert.fail("its callback was called");
 
@@ -15,7 +15,7 @@ function sent(server) {
 
 test("requests reach the service in the order of the calls, where some need a signal that must be asked for",
   async (t) => {
-    const server = await startPushing(t);
+    const server = await startRelayed(t);
     const locks = await connectTo(t, server);
     const names = Array.from({ length: 60 }, (_, number) => `name ${number}`);
     const promises = names.map((name, number) => {
@@ -26,7 +26,7 @@ test("requests reach the service in the order of the calls, where some need a si
   });
 
 test("a spare signal is always ready: a request with a signal is sent at once", async (t) => {
-  const server = await startPushing(t);
+  const server = await startRelayed(t);
   const locks = await connectTo(t, server);
   assert.deepEqual(server.ops, ["open", "signal"]);
   const holding = await hold(locks, "db");
@@ -74,7 +74,7 @@ test("a release that was called for before a request reaches the service before 
 });
 
 test("before the last signal is gone the client goes on with a second connection, in order too", async (t) => {
-  const server = await startPushing(t);
+  const server = await startRelayed(t);
   const [a, b] = [await connectTo(t, server), await connectTo(t, server)];
   const holding = await hold(a, "db");
   const count = SIGNALS_OF_AGENT + 50;
@@ -116,7 +116,7 @@ test("its own query shows one clientId, and others see two", async (t) => {
 });
 
 test("a lock of the first connection is released, stolen and told lost as ever after the second serves", async (t) => {
-  const server = await startPushing(t);
+  const server = await startRelayed(t);
   const [a, b] = [await connectTo(t, server), await connectTo(t, server)];
   const [kept, stolen] = [await hold(b, "kept"), await hold(b, "stolen")];
   await useUpSignals(a, b);
@@ -128,8 +128,8 @@ test("a lock of the first connection is released, stolen and told lost as ever a
   assert.equal(await b.request("kept", { ifAvailable: true }, (lock) => lock !== null), true);
 });
 
-testWithEach("10,000 aborted requests leave nothing behind, and later ones go on", async (agent, server) => {
-  const [a, b] = [await agent(), await agent()];
+/** Has 10,000 requests be aborted, a thousand at a time. */
+async function abortMany(a, b) {
   const holding = await hold(a, "db");
   for (let round = 0; round < 10; round += 1) {
     const controllers = Array.from({ length: 1000 }, () => new AbortController());
@@ -143,14 +143,21 @@ testWithEach("10,000 aborted requests leave nothing behind, and later ones go on
   await holding.promise;
   assert.equal(await b.request("db", { signal: new AbortController().signal }, () => "granted"), "granted");
   await assertFree(a);
-  if (server.links !== undefined) {
-    assert.ok(server.links <= 13, `${server.links} connections for 10,000 signals and two agents`);
-    await until(() => server.open <= 3);
-  }
+}
+
+testWithEach("10,000 aborted requests leave nothing behind, and later ones go on", async (agent) => {
+  await abortMany(await agent(), await agent());
+});
+
+test("10,000 aborted requests take a connection for some 1,000 of them, each ended when it is done", async (t) => {
+  const server = await startRelayed(t);
+  await abortMany(await connectTo(t, server), await connectTo(t, server));
+  assert.ok(server.links <= 13, `${server.links} connections for 10,000 signals and two agents`);
+  await until(() => server.open <= 3);
 });
 
 test("1,100 requests with signals of their own, each aborted before the next, are two agents' signals", async (t) => {
-  const server = await startPushing(t);
+  const server = await startRelayed(t);
   const [a, b] = [await connectTo(t, server), await connectTo(t, server)];
   await useUpSignals(a, b, 1100);
   assert.equal(server.ops.filter((op) => op === "abort").length, 1100);

@@ -3,16 +3,15 @@
 import assert from "node:assert/strict";
 import { test } from "node:test";
 import { install } from "../polyfill.js";
-import { startServer } from "../testing.js";
 import { Lock, LockManager } from "../weblocks.js";
 import { assertRejects, hold, until, watch } from "./support/holding.js";
-import { PROGRAM, connectTo, startPolled, startPushing } from "./support/servers.js";
+import { connectTo, startPolled, startRelayed } from "./support/servers.js";
 import { WebSocket } from "./support/sockets.js";
 
 const OPTIONS = { origin: "https://a.test", WebSocket };
 
 test("navigator.locks is the server's LockManager at once, and what is asked waits for the connection", async (t) => {
-  const server = await startPushing(t);
+  const server = await startRelayed(t);
   const locks = install({ url: server.url, ...OPTIONS });
   t.after(() => locks.close());
   assert.equal(navigator.locks, locks);
@@ -52,8 +51,7 @@ test("a page may be there before its server is: plain requests wait, and others 
     t.after(() => locks.close());
     const waiting = watch(navigator.locks.request("db", () => "granted"));
     await assertRejects(navigator.locks.request("db", { ifAvailable: true }, () => {}), "NetworkError");
-    const server = await startServer({ program: PROGRAM, port: first.port });
-    t.after(() => server.stop());
+    await startPolled(t, { port: first.port });
     assert.equal((await waiting.settled).value, "granted");
   });
 
@@ -73,7 +71,7 @@ test("an opaque origin is refused though there is no connection yet", async (t) 
 });
 
 test("close before there is a connection gives up the connecting", async (t) => {
-  const server = await startPushing(t);
+  const server = await startRelayed(t);
   const locks = install({ url: server.url, ...OPTIONS });
   const waiting = watch(navigator.locks.request("db", () => assert.fail("its callback was called")));
   await locks.close();

@@ -5,7 +5,7 @@ import { test } from "node:test";
 
 import { connect } from "../weblocks.js";
 import { callInPage } from "./browser/comparing.js";
-import { FAST } from "./browser/settings.js";
+import { ALL_ORIGINS, FAST } from "./browser/settings.js";
 import { useChromium } from "./browser/using.js";
 import { connectionEnvironment } from "./standard/connections.js";
 import { logOfSteps } from "./standard/random_steps.js";
@@ -29,7 +29,7 @@ async function logInNode(options, seed) {
 
 for (const seed of SEEDS) {
   test(`of ${STEPS} random steps the same comes everywhere, by the seed ${seed}`, async (it) => {
-    const [polled, pushing] = [await startPolled(it), await startPushing(it)];
+    const [polled, pushing] = [await startPolled(it), await startPushing(it, ALL_ORIGINS)];
     const logInPage = (name, options) =>
       callInPage(used.chromium, used.files.url, "logOfStepsOn", name, options, seed, STEPS);
     const wanted = await logInPage("browser", null);

@@ -2,11 +2,10 @@
 
 import assert from "node:assert/strict";
 import { test } from "node:test";
-import { startServer } from "../testing.js";
 import { delayAfter } from "../src/delays.js";
 import { assertFree, assertRejects, hold, sleep, until, untilPending, watch } from "./support/holding.js";
 import { Proxy } from "./support/proxy.js";
-import { PROGRAM, connectTo, startPolled, startPushing } from "./support/servers.js";
+import { EACH, connectTo, startPushing, startRelayed } from "./support/servers.js";
 
 const never = () => assert.fail("its callback was called");
 
@@ -15,7 +14,7 @@ const next = (locks, type) => new Promise((resolve) => locks.addEventListener(ty
 
 /** A client behind a proxy, by which it can be cut off, and another that isn't. */
 async function startCuttable(t, options) {
-  const server = await startPushing(t);
+  const server = await startRelayed(t);
   const proxy = await Proxy.start(t, server);
   const locks = await connectTo(t, proxy, options);
   return { server, proxy, locks, other: await connectTo(t, server) };
@@ -200,40 +199,60 @@ test("close while the connection is lost gives up what waits, and the tries to c
   assert.equal(server.links, links);
 });
 
-test("the server killed and started again in the middle: what waited is granted there", async (t) => {
-  const first = await startPolled(t);
-  const [a, b] = [await connectTo(t, first, { poll: 5 }), await connectTo(t, first, { poll: 5 })];
-  const holding = await hold(a, "db");
-  const pending = watch(b.request("db", () => "granted anew"));
-  const behind = watch(a.request("db", { signal: new AbortController().signal }, () => "and behind"));
-  await untilPending(a, 2);
-  const restored = Promise.all([next(a, "restored"), next(b, "restored")]);
+for (const [how, start] of Object.entries(EACH)) {
+  test(`the server killed and started again in the middle: what waited is granted in order (${how})`, async (t) => {
+    const first = await start(t);
+    const [a, b] = [await connectTo(t, first, { poll: 5 }), await connectTo(t, first, { poll: 5 })];
+    const holdings = [await hold(a, "db"), await hold(b, "other", { mode: "shared" })];
+    const order = [];
+    const waiting = Array.from({ length: 30 }, (_, number) => {
+      const signal = number % 3 === 0 ? new AbortController().signal : undefined;
+      return watch(a.request("db", { signal }, () => { order.push(number); }));
+    });
+    await untilPending(b, 30);
+    const events = ["lost", "restored"].map((type) => Promise.all([next(a, type), next(b, type)]));
+    await first.kill();
+    for (const { promise } of holdings) await assertRejects(promise, "NetworkError");
+    await events[0];
+    for (const options of [{ ifAvailable: true }, { steal: true }]) {
+      await assertRejects(a.request("db", options, never), "NetworkError");
+    }
+    assert.ok(waiting.every(({ state }) => state === "pending"));
+    const second = await start(t, { port: first.port });
+    await events[1];
+    await Promise.all(waiting.map(({ settled }) => settled));
+    assert.deepEqual(order, Array.from({ length: 30 }, (_, number) => number));
+    await assertFree(await connectTo(t, second));
+  });
+
+  test(`a client id of before isn't its own any more: the server may have given it to another (${how})`, async (t) => {
+    const first = await start(t);
+    const locks = await connectTo(t, first);
+    const restored = next(locks, "restored");
+    await first.kill();
+    const second = await start(t, { port: first.port });
+    const other = await connectTo(t, second);
+    await restored;
+    const holdings = [await hold(locks, "own"), await hold(other, "other's")];
+    const clientIds = (await locks.query()).held.map(({ clientId }) => clientId);
+    assert.equal(new Set(clientIds).size, 2);
+    assert.deepEqual((await other.query()).held.map(({ clientId }) => clientId), clientIds);
+    for (const { release } of holdings) release();
+    await Promise.all(holdings.map(({ promise }) => promise));
+  });
+}
+
+test("a server that is stopped in good order tells it (1001), and its clients come to the next", async (t) => {
+  const first = await startPushing(t);
+  const locks = await connectTo(t, first);
+  const holding = await hold(locks, "db");
+  const events = [next(locks, "lost"), next(locks, "restored")];
   await first.stop();
   await assertRejects(holding.promise, "NetworkError");
-  assert.deepEqual([pending.state, behind.state], ["pending", "pending"]);
-  const second = await startServer({ program: PROGRAM, port: first.port });
-  t.after(() => second.stop());
-  await restored;
-  assert.equal((await pending.settled).value, "granted anew");
-  assert.equal((await behind.settled).value, "and behind");
-  await assertFree(a);
-});
-
-test("a client id of before isn't its own any more: the server may have given it to another", async (t) => {
-  const first = await startPolled(t);
-  const locks = await connectTo(t, first);
-  const restored = next(locks, "restored");
-  await first.stop();
-  const second = await startServer({ program: PROGRAM, port: first.port });
-  t.after(() => second.stop());
-  const other = await connectTo(t, second);
-  await restored;
-  const holdings = [await hold(locks, "own"), await hold(other, "other's")];
-  const clientIds = (await locks.query()).held.map(({ clientId }) => clientId);
-  assert.equal(new Set(clientIds).size, 2);
-  assert.deepEqual((await other.query()).held.map(({ clientId }) => clientId), clientIds);
-  for (const { release } of holdings) release();
-  await Promise.all(holdings.map(({ promise }) => promise));
+  assert.match((await events[0]).reason.message, /1001/);
+  await startPushing(t, { port: first.port });
+  await events[1];
+  assert.equal(await locks.request("db", () => 1), 1);
 });
 
 test("a server that ends tells it (1001), and its clients come again", async (t) => {

@@ -4,7 +4,7 @@ import assert from "node:assert/strict";
 import { test } from "node:test";
 import { SIGNALS_OF_AGENT } from "../src/signals.js";
 import { assertFree, assertRejects, hold, sleep, until, untilPending, watch } from "./support/holding.js";
-import { connectTo, startPushing, testWithEach } from "./support/servers.js";
+import { connectTo, startPushing, startRelayed, testWithEach } from "./support/servers.js";
 
 const never = () => assert.fail("its callback was called");
 
@@ -141,7 +141,7 @@ test("a page's listener on the signal is called as ever", async (t) => {
 });
 
 test("a request that is aborted while it waits for a signal of the agent's is never sent", async (t) => {
-  const server = await startPushing(t);
+  const server = await startRelayed(t);
   const locks = await connectTo(t, server);
   const controllers = Array.from({ length: 5 }, () => new AbortController());
   const promises = controllers.map(({ signal }) => watch(locks.request("db", { signal }, never)));
@@ -153,7 +153,7 @@ test("a request that is aborted while it waits for a signal of the agent's is ne
 });
 
 test("a signal that was not aborted serves the next request", async (t) => {
-  const server = await startPushing(t);
+  const server = await startRelayed(t);
   const locks = await connectTo(t, server);
   for (let round = 0; round < 2 * SIGNALS_OF_AGENT; round += 1) {
     const { signal } = new AbortController();
@@ -164,7 +164,7 @@ test("a signal that was not aborted serves the next request", async (t) => {
 });
 
 test("requests with the same signal share one of the agent's", async (t) => {
-  const server = await startPushing(t);
+  const server = await startRelayed(t);
   const [a, b] = [await connectTo(t, server), await connectTo(t, server)];
   const holding = await hold(a, "db");
   const controller = new AbortController();

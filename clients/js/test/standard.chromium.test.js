@@ -3,7 +3,7 @@
 import { test } from "node:test";
 
 import { byName, callInPage, resultsInPage, testEach, testEachBut } from "./browser/comparing.js";
-import { FAST } from "./browser/settings.js";
+import { ALL_ORIGINS, FAST } from "./browser/settings.js";
 import { useChromium } from "./browser/using.js";
 import { CHROMIUM_VERSION, chromiumDeviations } from "./standard/deviations.js";
 import { startPolled, startPushing } from "./support/servers.js";
@@ -27,13 +27,13 @@ for (const name of ["package", "polyfill"]) {
   });
 
   test(`the standard's cases in Chromium, on the ${name}, over a server that pushes`, async (it) => {
-    const { url } = await startPushing(it);
+    const { url } = await startPushing(it, ALL_ORIGINS);
     await testEach(it, await resultsInPage(used.chromium, used.files.url, name, { url }));
   });
 }
 
 test("the standard's cases in a worker of Chromium, on the package, over a server that pushes", async (it) => {
-  const { url } = await startPushing(it);
+  const { url } = await startPushing(it, ALL_ORIGINS);
   // (only a window can be made inactive, as two cases have it)
   const options = { url, kind: "window" };
   await testEach(it, byName(await callInPage(used.chromium, used.files.url, "runCasesInWorker", options)));

@@ -1,9 +1,10 @@
 #!/usr/bin/env python3
-"""Cycles a second, beside a program that writes the same messages through the same library on one connection.
+"""Cycles a second over a daemon, beside a program that writes the same messages through the same library.
 
-A cycle is a request for a free lock and its release, each awaited. The two take turns, so that both meet the same
-load of the machine. The time by the clock has the server's part in it, and means little on a machine with other work;
-the processor time is that of the client's process alone, and there the best round is the least disturbed.
+A cycle is a request for a free lock and its release, each awaited, on one connection. The two take turns, so that
+both meet the same load of the machine. The time by the clock has the server's part in it, and means little on a machine
+with other work; the processor time is that of the client's process alone, and there the best round is the least
+disturbed.
 
     PYTHONPATH=clients/python/src /usr/bin/python3 clients/python/bench/cycles.py [--program ./weblocks]
 """
@@ -64,7 +65,7 @@ async def run_client(locks: weblocks.LockManager, cycles: int) -> None:
 async def compare(url: str, cycles: int, rounds: int) -> None:
     plain, client = Times(), Times()
     async with (
-        websockets.connect(url, compression=None, ping_interval=None) as socket,
+        websockets.connect(url, subprotocols=["weblocks.push"], compression=None, ping_interval=None) as socket,
         weblocks.connect(url, origin=ORIGIN, bucket="client") as locks,
     ):
         for message in ({"id": 1, "op": "open", "url": ORIGIN, "bucket": "plain"}, {"id": 2, "op": "signal"}):
@@ -89,18 +90,19 @@ def compare_by(choose: Callable[[list[float]], float], plain: list[float], clien
 def main() -> None:
     words = argparse.ArgumentParser(description="Cycles a second, with and without the package.")
     words.add_argument("--program", default="./weblocks", help="the program that serves (default: ./weblocks)")
-    words.add_argument("--port", type=int, default=18089)
     words.add_argument("--cycles", type=int, default=100, help="in a round (default: 100)")
     words.add_argument("--rounds", type=int, default=50, help="of each (default: 50)")
     given = words.parse_args()
-    command = [given.program, "serve", "--port", str(given.port), "--clients", "10"]
-    with subprocess.Popen(command, stdout=subprocess.PIPE) as server:
-        try:
-            if server.stdout is None or not server.stdout.readline().startswith(b"listening"):
-                sys.exit("the server does not listen")
-            asyncio.run(compare(f"ws://127.0.0.1:{given.port}", given.cycles, given.rounds))
-        finally:
-            server.kill()
+    command = [given.program, "daemon", "--listen", "127.0.0.1:0", "--while-input", "--log", "warn"]
+    with subprocess.Popen(command, stdin=subprocess.PIPE, stdout=subprocess.PIPE, text=True) as server:
+        if server.stdin is None or server.stdout is None:
+            sys.exit("the server has no pipes")
+        said, _space, place = server.stdout.readline().strip().partition(" ")
+        if said != "listening":
+            sys.exit("the server does not listen")
+        asyncio.run(compare(f"ws://{place}", given.cycles, given.rounds))
+        # With its input the server ends.
+        server.stdin.close()
 
 
 if __name__ == "__main__":

@@ -24,7 +24,7 @@ class CommandLineCase(BothServersCase):
 
     def start(self, *words, url=None, origin=None, environment=None, **options):
         """Starts the command line with the service's place in its environment."""
-        service = {"WEBLOCKS_URL": url or self.stand_in.url, "WEBLOCKS_ORIGIN": origin or self.origin}
+        service = {"WEBLOCKS_URL": url or self.daemon.url, "WEBLOCKS_ORIGIN": origin or self.origin}
         path = {"PYTHONPATH": str(PACKAGE / "src")}
         options.setdefault("stdout", subprocess.PIPE)
         options.setdefault("stderr", subprocess.PIPE)
@@ -51,7 +51,7 @@ class CommandLineCase(BothServersCase):
         return process.returncode, out, err
 
     def connect(self):
-        return weblocks.sync.connect(self.stand_in.url, origin=self.origin)
+        return weblocks.sync.connect(self.daemon.url, origin=self.origin)
 
     def wait_for(self, condition):
         end = time.monotonic() + SECONDS

@@ -1,26 +1,22 @@
-"""What the tests stand on: the built program as a server, a stand-in that pushes, and a proxy that can be cut."""
+"""What the tests stand on: the built program as a server, polled or with pushes, and a proxy that can be cut."""
 
 from __future__ import annotations
 
 import asyncio
 import contextlib
 import itertools
-import json
 import logging
 import os
 import signal
 import socket
 import subprocess
+import tempfile
 import threading
 import time
 import unittest
 from collections.abc import AsyncIterator, Iterator
-from http import HTTPStatus
 from pathlib import Path
 from typing import Any
-
-import websockets
-from websockets.legacy.server import WebSocketServerProtocol, serve
 
 import weblocks
 
@@ -46,25 +42,26 @@ def free_port() -> int:
 
 
 class Server:
-    """The program, which serves on a port of its own and may be killed, stopped and started again there."""
+    """The program as `weblocks serve`, which is polled. It may be killed, stopped and started again on its port."""
 
     def __init__(self) -> None:
         self.port = free_port()
-        self.url = f"ws://127.0.0.1:{self.port}"
         self.start()
+        self.url = f"ws://127.0.0.1:{self.port}"
+
+    def command(self) -> list[str]:
+        return [PROGRAM, "serve", "--port", str(self.port), "--clients", "10000"]
 
     def start(self) -> None:
-        command = [PROGRAM, "serve", "--port", str(self.port), "--clients", "10000"]
-        self._process = subprocess.Popen(command, stdout=subprocess.PIPE)
+        self._process = subprocess.Popen(self.command(), stdin=subprocess.PIPE, stdout=subprocess.PIPE)
         assert self._process.stdout is not None
-        line = self._process.stdout.readline()
-        assert line == b"listening %d\n" % self.port, line
+        line = self._process.stdout.readline().decode()
+        assert line.startswith("listening "), line
+        self.port = int(line.replace(":", " ").split()[-1])
 
     def kill(self) -> None:
         self._process.kill()
-        self._process.wait()
-        assert self._process.stdout is not None
-        self._process.stdout.close()
+        self._close()
 
     def stop(self) -> None:
         """It is there, and does nothing, as on a machine that has come to a halt."""
@@ -72,6 +69,39 @@ class Server:
 
     def go_on(self) -> None:
         self._process.send_signal(signal.SIGCONT)
+
+    def _close(self) -> None:
+        assert self._process.stdin is not None and self._process.stdout is not None
+        self._process.stdin.close()
+        self._process.wait(SECONDS)
+        self._process.stdout.close()
+
+
+class Daemon(Server):
+    """The program as `weblocks daemon`, which pushes; with further options of it. It ends with the tests at last."""
+
+    def __init__(self, *words: str) -> None:
+        self.words = words
+        self.port = 0
+        self.start()
+        self.url = f"ws://127.0.0.1:{self.port}"
+
+    def command(self) -> list[str]:
+        return [PROGRAM, "daemon", "--listen", f"127.0.0.1:{self.port}", "--while-input", "--log", "off", *self.words]
+
+    def end(self) -> None:
+        """Ends it in good order: each of its clients is told."""
+        self._close()
+
+
+def daemon_with_tokens(case: unittest.TestCase, *lines: str) -> Daemon:
+    """A daemon for one test, that knows its clients by these lines of a file."""
+    file = Path(case.enterContext(tempfile.TemporaryDirectory()), "tokens")
+    file.touch(0o600)
+    file.write_text("".join(f"{line}\n" for line in lines))
+    daemon = Daemon("--token-file", str(file))
+    case.addCleanup(daemon.kill)
+    return daemon
 
 
 class LoopThread:
@@ -96,73 +126,6 @@ class LoopThread:
         self.loop.call_soon_threadsafe(self.loop.stop)
         self._thread.join()
         self.loop.close()
-
-
-class StandIn:
-    """A server that speaks `weblocks.push`, which the program's `serve` does not.
-
-    It hands each connection's messages on to a connection of its own to `serve`, polls that every few milliseconds, and
-    pushes what has notices. It may want a token. `polls` counts those that clients sent.
-    """
-
-    def __init__(self, behind: str, token: str | None = None) -> None:
-        self.port = free_port()
-        self.url = f"ws://127.0.0.1:{self.port}"
-        self.polls = 0
-        self._behind = behind
-        self._token = token
-        self._thread = LoopThread()
-        self._server = self._thread.run(self._listen())
-
-    def end(self) -> None:
-        async def close() -> None:
-            self._server.close()
-            await self._server.wait_closed()
-
-        self._thread.run(close())
-        self._thread.end()
-
-    async def _listen(self) -> Any:
-        return await serve(
-            self._serve,
-            "127.0.0.1",
-            self.port,
-            subprotocols=[websockets.Subprotocol("weblocks.push")],
-            process_request=self._admit,
-            compression=None,
-            max_size=None,
-            close_timeout=1,
-        )
-
-    async def _admit(self, _path: str, headers: Any) -> Any:
-        if self._token is not None and headers.get("Authorization") != f"Bearer {self._token}":
-            return HTTPStatus.UNAUTHORIZED, [], b"the token is wrong\n"
-        return None
-
-    async def _serve(self, client: WebSocketServerProtocol, _path: str = "") -> None:
-        turn = asyncio.Lock()
-        async with websockets.connect(self._behind, compression=None, max_size=None, close_timeout=1) as service:
-            pushing = asyncio.create_task(self._push(client, service, turn))
-            try:
-                async for text in client:
-                    self.polls += '"op": "poll"' in str(text)
-                    async with turn:
-                        await service.send(text)
-                        await client.send(await service.recv())
-            except websockets.ConnectionClosed:
-                pass
-            finally:
-                pushing.cancel()
-
-    async def _push(self, client: WebSocketServerProtocol, service: Any, turn: asyncio.Lock) -> None:
-        with contextlib.suppress(websockets.ConnectionClosed):
-            while True:
-                await asyncio.sleep(0.005)
-                async with turn:
-                    await service.send('{"id":0,"op":"poll"}')
-                    notices = json.loads(await service.recv())["notices"]
-                    if notices:
-                        await client.send(json.dumps({"id": None, "notices": notices, "ok": {}}))
 
 
 class Proxy:
@@ -223,17 +186,17 @@ def proxied(port: int) -> Iterator[Proxy]:
 
 
 class BothServersCase(unittest.TestCase):
-    """Tests that have a server that is polled, and a stand-in before it that pushes."""
+    """Tests that have a server that is polled, and one that pushes."""
 
     server: Server
-    stand_in: StandIn
+    daemon: Daemon
 
     @classmethod
     def setUpClass(cls) -> None:
         cls.server = Server()
         cls.addClassCleanup(cls.server.kill)
-        cls.stand_in = StandIn(cls.server.url)
-        cls.addClassCleanup(cls.stand_in.end)
+        cls.daemon = Daemon()
+        cls.addClassCleanup(cls.daemon.kill)
 
 
 class ServedCase(unittest.IsolatedAsyncioTestCase):
@@ -241,16 +204,17 @@ class ServedCase(unittest.IsolatedAsyncioTestCase):
 
     server: Server
     pushes = False
+    """Whether the server is the daemon, which pushes."""
 
     @classmethod
     def setUpClass(cls) -> None:
-        cls.server = Server()
+        cls.server = cls.start_server()
         cls.addClassCleanup(cls.server.kill)
         cls.url = cls.server.url
-        if cls.pushes:
-            cls.stand_in = StandIn(cls.server.url)
-            cls.addClassCleanup(cls.stand_in.end)
-            cls.url = cls.stand_in.url
+
+    @classmethod
+    def start_server(cls) -> Server:
+        return Daemon() if cls.pushes else Server()
 
     def setUp(self) -> None:
         self.origin = new_origin()

@@ -10,7 +10,7 @@ import unittest
 import weblocks
 import weblocks.sync
 from commands import CommandLineCase, ignore_hangups, read_all, runs, take_terminal
-from support import SECONDS, Server, proxied
+from support import SECONDS, Daemon, proxied
 
 
 class With(CommandLineCase):
@@ -83,7 +83,7 @@ class With(CommandLineCase):
         self.assertEqual(1, process.returncode)
 
     def test_where_the_connection_is_lost_the_command_is_ended(self):
-        with proxied(self.server.port) as proxy:
+        with proxied(self.daemon.port) as proxy:
             process = self.hold("echo $$ > $1; sleep 300 & wait", url=proxy.url)
             proxy.refuses = True
             proxy.cut()
@@ -154,7 +154,7 @@ class With(CommandLineCase):
             self.wait_for(lambda: locks.query().held == [])
 
     def test_a_lost_server_while_the_lock_is_waited_for_is_told_and_the_request_is_made_again(self):
-        server = Server()
+        server = Daemon()
         self.addCleanup(server.kill)
         with weblocks.sync.connect(server.url, origin=self.origin) as locks:
             with self.assertLogs("weblocks"), self.assertRaises(weblocks.LockLost):

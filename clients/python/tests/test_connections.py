@@ -12,7 +12,7 @@ import websockets
 from websockets.legacy.server import serve
 
 import weblocks
-from support import SECONDS, LoopThread, ServedCase, Server, StandIn, free_port, proxied
+from support import SECONDS, LoopThread, ServedCase, free_port, proxied
 from weblocks import transport
 
 
@@ -22,16 +22,6 @@ class Handshakes(ServedCase):
         with self.assertRaisesRegex(weblocks.Disconnected, f"no server answers at {url}: Connection refused"):
             async with self.connect(url=url):
                 pass
-
-    async def test_a_wrong_or_missing_token_raises_Forbidden_and_the_right_one_opens(self):
-        server = StandIn(self.server.url, token="right")
-        self.addCleanup(server.end)
-        for token, text in (("wrong", "refused the token"), (None, "wants a token")):
-            with self.assertRaisesRegex(weblocks.Forbidden, text):
-                async with self.connect(url=server.url, token=token):
-                    pass
-        async with self.connect(url=server.url, token="right") as locks, locks.request("db"):
-            pass
 
     async def test_a_server_that_refuses_subprotocols_is_tried_without_and_polled(self):
         server = await self.refuse("sec-websocket-protocol", 400)
@@ -158,10 +148,12 @@ class Handshakes(ServedCase):
         return await self.serve(handle)
 
 
-class Reconnections(ServedCase):
+class Reconnecting:
+    """The tests; the classes below say over which server."""
+
     async def asyncSetUp(self):
         await super().asyncSetUp()
-        self.own = Server()
+        self.own = self.start_server()
         self.addCleanup(self.own.kill)
         self.url = self.own.url
 
@@ -224,11 +216,19 @@ class Reconnections(ServedCase):
                 await hold(locks)
 
 
-class CutOff(ServedCase):
-    """The connection is there, and nothing comes over it."""
+class ReconnectionsToPolledServers(Reconnecting, ServedCase):
+    pass
+
+
+class ReconnectionsToDaemons(Reconnecting, ServedCase):
+    pushes = True
+
+
+class CuttingOff:
+    """The connection is there, and nothing comes over it; the classes below say to which server it is."""
 
     async def test_a_stopped_server_loses_the_lock_within_two_heartbeats_and_is_used_again_when_it_goes_on(self):
-        server = Server()
+        server = self.start_server()
         self.addCleanup(server.kill)
         async with self.connect(url=server.url, heartbeat=0.5, open_timeout=1) as locks:
             with self.assertRaisesRegex(weblocks.LockLost, "did not answer for 0.5 seconds"):
@@ -320,7 +320,17 @@ class CutOff(ServedCase):
                     await waiter
 
 
-class Timers(ServedCase):
+class CutOffFromPolledServers(CuttingOff, ServedCase):
+    pass
+
+
+class CutOffFromDaemons(CuttingOff, ServedCase):
+    pushes = True
+
+
+class Timers:
+    """The tests; the classes below say over which server."""
+
     async def test_a_thousand_pending_requests_cost_no_timers(self):
         loop = asyncio.get_running_loop()
         async with self.connected(2) as (locks, other):
@@ -337,6 +347,14 @@ class Timers(ServedCase):
                     task.cancel()
                 await asyncio.wait(tasks)
                 await self.until_waiting(other, 0)
+
+
+class TimersOverPolls(Timers, ServedCase):
+    pass
+
+
+class TimersOverPushes(Timers, ServedCase):
+    pushes = True
 
 
 if __name__ == "__main__":

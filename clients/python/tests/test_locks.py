@@ -11,6 +11,14 @@ from support import ServedCase
 class Behaviour:
     """The tests; the classes below say over which server."""
 
+    def note_sent(self, locks):
+        """A list of the operations that a manager asks for from now on."""
+        sent = []
+        connection = locks._dispatcher._agent._connection
+        ask = connection.ask
+        connection.ask = lambda message, *rest: (sent.append(message["op"]), ask(message, *rest))
+        return sent
+
     async def test_a_block_holds_its_lock_and_the_lock_has_name_and_mode(self):
         async with self.connected(2) as (locks, other):
             async with locks.request("db") as lock:
@@ -294,10 +302,7 @@ class Behaviour:
 class LocksOverPolls(Behaviour, ServedCase):
     async def test_a_server_that_does_not_push_is_polled_only_while_a_request_waits(self):
         async with self.connected(2) as (locks, other):
-            sent = []
-            connection = locks._dispatcher._agent._connection
-            ask = connection.ask
-            connection.ask = lambda message, *rest: (sent.append(message["op"]), ask(message, *rest))
+            sent = self.note_sent(locks)
             async with other.request("db"):
                 async with locks.request("mine"):
                     await asyncio.sleep(0.3)
@@ -316,12 +321,12 @@ class LocksOverPushes(Behaviour, ServedCase):
 
     async def test_a_server_that_pushes_is_not_polled(self):
         async with self.connected(2) as (locks, other):
-            before = self.stand_in.polls
+            sent = self.note_sent(locks)
             async with other.request("db"):
                 waiter = asyncio.create_task(locks.request("db").__aenter__())
                 await asyncio.sleep(0.5)
             await waiter
-            self.assertEqual(before, self.stand_in.polls)
+            self.assertNotIn("poll", sent)
 
     async def test_a_theft_is_told_in_the_block_without_being_asked(self):
         async with self.connected(2) as (locks, other):

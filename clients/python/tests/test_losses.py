@@ -7,8 +7,8 @@ import weblocks
 from support import ServedCase, proxied
 
 
-class Losses(ServedCase):
-    """Each test has a manager behind a proxy, whose connections it cuts."""
+class Losses:
+    """Each test has a manager behind a proxy, whose connections it cuts; the classes below say to which server."""
 
     async def asyncSetUp(self):
         await super().asyncSetUp()
@@ -16,15 +16,15 @@ class Losses(ServedCase):
         self.locks = await self.enterAsyncContext(self.connect(url=self.proxy.url))
 
     async def cut(self):
-        """Cuts the connections once other tasks have come to their awaits."""
+        """Cuts the connections once other tasks have come to their awaits; to be called when the locks are held."""
         await asyncio.sleep(0.05)
         await asyncio.to_thread(self.proxy.cut)
 
     async def test_a_lost_connection_raises_LockLost_inside_the_block_at_its_next_await(self):
-        cut = asyncio.create_task(self.cut())
         seen = []
         with self.assertRaises(weblocks.LockLost) as caught:
             async with self.locks.request("db") as lock:
+                cut = asyncio.create_task(self.cut())
                 try:
                     await asyncio.sleep(1000)
                 except BaseException as error:
@@ -39,9 +39,9 @@ class Losses(ServedCase):
         await asyncio.sleep(0)
 
     async def test_work_after_LockLost_goes_on_uncancelled(self):
-        cut = asyncio.create_task(self.cut())
         try:
             async with self.locks.request("db"):
+                cut = asyncio.create_task(self.cut())
                 await asyncio.sleep(1000)
         except weblocks.LockLost:
             await cut
@@ -90,12 +90,12 @@ class Losses(ServedCase):
             await task
 
     async def test_where_two_nested_locks_are_lost_the_outer_block_raises_LockLost(self):
-        cut = asyncio.create_task(self.cut())
         inner = None
         with self.assertRaisesRegex(weblocks.LockLost, "'outer'"):
             async with self.locks.request("outer"):
                 try:
                     async with self.locks.request("inner"):
+                        cut = asyncio.create_task(self.cut())
                         await asyncio.sleep(1000)
                 except BaseException as error:
                     inner = error
@@ -106,9 +106,9 @@ class Losses(ServedCase):
 
     async def test_the_inner_of_two_nested_locks_may_be_lost_alone(self):
         async with self.connect() as steady, steady.request("outer") as outer:
-            cut = asyncio.create_task(self.cut())
             with self.assertRaisesRegex(weblocks.LockLost, "'inner'"):
                 async with self.locks.request("inner"):
+                    cut = asyncio.create_task(self.cut())
                     await asyncio.sleep(1000)
             await cut
             await asyncio.sleep(0.01)
@@ -116,10 +116,10 @@ class Losses(ServedCase):
 
     async def test_the_outer_of_two_nested_locks_may_be_lost_alone(self):
         async with self.connect() as steady:
-            cut = asyncio.create_task(self.cut())
             with self.assertRaisesRegex(weblocks.LockLost, "'outer'"):
                 async with self.locks.request("outer"):
                     async with steady.request("inner"):
+                        cut = asyncio.create_task(self.cut())
                         await asyncio.sleep(1000)
             await cut
             self.assertEqual([], (await steady.query()).held)
@@ -132,15 +132,14 @@ class Losses(ServedCase):
         await self.expect_nothing_left()
 
     async def test_a_timeout_of_asyncio_in_the_block_does_not_take_the_loss_for_its_own(self):
-        cut = asyncio.create_task(self.cut())
         with self.assertRaises(weblocks.LockLost):
             async with self.locks.request("db"):
+                cut = asyncio.create_task(self.cut())
                 async with asyncio.timeout(60):
                     await asyncio.sleep(1000)
         await cut
 
     async def test_a_group_of_tasks_in_the_block_is_cancelled_with_it(self):
-        cut = asyncio.create_task(self.cut())
         ended = []
 
         async def work():
@@ -151,6 +150,7 @@ class Losses(ServedCase):
 
         with self.assertRaises(weblocks.LockLost):
             async with self.locks.request("db"):
+                cut = asyncio.create_task(self.cut())
                 async with asyncio.TaskGroup() as group:
                     group.create_task(work())
                     group.create_task(work())
@@ -158,9 +158,9 @@ class Losses(ServedCase):
         await cut
 
     async def test_a_block_that_swallows_the_cancellation_raises_LockLost_at_its_end(self):
-        cut = asyncio.create_task(self.cut())
         with self.assertRaises(weblocks.LockLost):
             async with self.locks.request("db"):
+                cut = asyncio.create_task(self.cut())
                 try:
                     await asyncio.sleep(1000)
                 except asyncio.CancelledError:
@@ -169,9 +169,9 @@ class Losses(ServedCase):
         await cut
 
     async def test_an_error_of_the_block_itself_comes_out_of_it_though_the_lock_is_lost(self):
-        cut = asyncio.create_task(self.cut())
         with self.assertRaisesRegex(KeyError, "mine"):
             async with self.locks.request("db"):
+                cut = asyncio.create_task(self.cut())
                 try:
                     await asyncio.sleep(1000)
                 finally:
@@ -181,9 +181,9 @@ class Losses(ServedCase):
 
     async def test_a_request_that_waits_in_a_block_is_given_up_when_the_block_loses_its_lock(self):
         async with self.connect() as steady, steady.request("busy"):
-            cut = asyncio.create_task(self.cut())
             with self.assertRaises(weblocks.LockLost):
                 async with self.locks.request("db"):
+                    cut = asyncio.create_task(self.cut())
                     async with steady.request("other"):
                         async with steady.request("busy"):
                             self.fail("the lock was granted")
@@ -197,6 +197,14 @@ class Losses(ServedCase):
                 self.proxy.swallows = True
                 cut = asyncio.create_task(self.cut())
         await cut
+
+
+class LossesOverPolls(Losses, ServedCase):
+    pass
+
+
+class LossesOverPushes(Losses, ServedCase):
+    pushes = True
 
 
 if __name__ == "__main__":

@@ -10,7 +10,7 @@ import unittest
 from datetime import UTC, datetime
 from pathlib import Path
 
-from support import PACKAGE, PROGRAM, SECONDS, TOP, BothServersCase, Server
+from support import PACKAGE, PROGRAM, SECONDS, TOP, BothServersCase, Daemon
 
 README = PACKAGE / "README.md"
 OFFLINE = {"PIP_NO_INDEX": "1", "PIP_DISABLE_PIP_VERSION_CHECK": "1", "PIP_NO_INPUT": "1"}
@@ -53,7 +53,7 @@ class Wheel(unittest.TestCase):
             sys.executable, "-m", "pip", "--python", cls.python, "install", "--no-index", wheel,
             env=cls.environment, cwd=cls.folder,
         )  # fmt: skip
-        cls.server = Server()
+        cls.server = Daemon()
         cls.addClassCleanup(cls.server.kill)
 
     def run_python(self, *words):
@@ -149,7 +149,7 @@ class Examples(BothServersCase):
             **CLEAN,
             "PATH": f"{Path(sys.executable).parent}:{CLEAN['PATH']}",
             "PYTHONPATH": str(PACKAGE / "src"),
-            "WEBLOCKS_URL": self.stand_in.url,
+            "WEBLOCKS_URL": self.daemon.url,
             "shared": str(folder),
             "job": str(job),
         }

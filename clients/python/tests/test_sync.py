@@ -12,13 +12,15 @@ import weblocks.sync
 from support import SECONDS, BothServersCase, new_origin, proxied
 
 
-class SyncCase(BothServersCase):
+class Behaviour:
+    """The tests; the classes below say over which server."""
+
     def setUp(self):
         self.origin = new_origin()
 
     def connect(self, **options):
         options.setdefault("origin", self.origin)
-        return weblocks.sync.connect(options.pop("url", self.server.url), poll_interval=0.005, **options)
+        return weblocks.sync.connect(options.pop("url", self.served.url), poll_interval=0.005, **options)
 
     def expect_nothing_left(self):
         with self.connect() as locks:
@@ -26,13 +28,12 @@ class SyncCase(BothServersCase):
             self.assertEqual(([], []), (snapshot.held, snapshot.pending))
 
     def test_a_block_holds_its_lock_and_the_lock_has_name_and_mode(self):
-        for url in (self.server.url, self.stand_in.url):
-            with self.connect(url=url) as locks, self.connect() as other:
-                with locks.request("db", mode="shared") as lock:
-                    self.assertEqual(("db", "shared", None), (lock.name, lock.mode, lock.lost))
-                    self.assertEqual(["db"], [info.name for info in other.query().held])
-                with other.request("db", if_available=True) as lock:
-                    self.assertIsNotNone(lock)
+        with self.connect() as locks, self.connect() as other:
+            with locks.request("db", mode="shared") as lock:
+                self.assertEqual(("db", "shared", None), (lock.name, lock.mode, lock.lost))
+                self.assertEqual(["db"], [info.name for info in other.query().held])
+            with other.request("db", if_available=True) as lock:
+                self.assertIsNotNone(lock)
 
     def test_threading_code_can_use_one_manager_in_many_threads(self):
         inside = []
@@ -45,7 +46,7 @@ class SyncCase(BothServersCase):
                     most.append(len(inside))
                     inside.pop()
 
-        with self.connect(url=self.stand_in.url) as locks, ThreadPoolExecutor(8) as pool:
+        with self.connect() as locks, ThreadPoolExecutor(8) as pool:
             for done in [pool.submit(work, locks) for _ in range(8)]:
                 done.result(SECONDS)
         self.assertEqual([1] * 160, most)
@@ -64,7 +65,8 @@ class SyncCase(BothServersCase):
                 self.assertIsNone(lock)
 
     def test_a_stolen_lock_shows_in_lost_by_check_and_at_the_blocks_end(self):
-        with self.connect(url=self.stand_in.url) as locks, self.connect() as other:
+        # A server that is polled tells of a theft with the reply to a heartbeat.
+        with self.connect(heartbeat=1) as locks, self.connect() as other:
             with self.assertRaises(weblocks.LockStolen):
                 with locks.request("db") as lock:
                     with other.request("db", steal=True):
@@ -81,7 +83,7 @@ class SyncCase(BothServersCase):
                         pass
 
     def test_a_lost_connection_shows_in_lost_and_the_manager_goes_on(self):
-        with proxied(self.server.port) as proxy, self.connect(url=proxy.url) as locks:
+        with proxied(self.served.port) as proxy, self.connect(url=proxy.url) as locks:
             with self.assertLogs("weblocks"), self.assertRaises(weblocks.LockLost):
                 with locks.request("db") as lock:
                     proxy.cut()
@@ -165,6 +167,18 @@ class SyncCase(BothServersCase):
         while not condition():
             self.assertLess(time.monotonic(), end)
             time.sleep(0.01)
+
+
+class SyncOverPolls(Behaviour, BothServersCase):
+    @property
+    def served(self):
+        return self.server
+
+
+class SyncOverPushes(Behaviour, BothServersCase):
+    @property
+    def served(self):
+        return self.daemon
 
 
 if __name__ == "__main__":

@@ -9,24 +9,23 @@ import unittest
 
 import weblocks.sync
 from commands import CommandLineCase
-from support import SECONDS, StandIn, free_port
+from support import SECONDS, daemon_with_tokens, free_port
 
 
 class Words(CommandLineCase):
     def test_the_service_is_named_by_words_or_by_the_environment(self):
-        words = ("--url", self.stand_in.url, "--origin", self.origin, "--bucket", "inbox")
+        words = ("--url", self.daemon.url, "--origin", self.origin, "--bucket", "inbox")
         status, out, _err = self.run_whole("query", *words, environment={})
         self.assertEqual(0, status, out)
-        environment = {"WEBLOCKS_URL": self.stand_in.url, "WEBLOCKS_ORIGIN": self.origin, "WEBLOCKS_BUCKET": "inbox"}
-        with weblocks.sync.connect(self.stand_in.url, origin=self.origin, bucket="inbox") as locks:
+        environment = {"WEBLOCKS_URL": self.daemon.url, "WEBLOCKS_ORIGIN": self.origin, "WEBLOCKS_BUCKET": "inbox"}
+        with weblocks.sync.connect(self.daemon.url, origin=self.origin, bucket="inbox") as locks:
             with locks.request("found"):
                 for options in ((words, {}), ((), environment)):
                     _status, out, _err = self.run_whole("query", *options[0], environment=options[1])
                     self.assertIn("found", out)
 
     def test_the_token_comes_from_a_file_or_from_the_environment(self):
-        server = StandIn(self.server.url, token="right")
-        self.addCleanup(server.end)
+        server = daemon_with_tokens(self, "right")
         file = self.folder / "token"
         file.write_text("right\n")
         place = {"WEBLOCKS_URL": server.url, "WEBLOCKS_ORIGIN": self.origin}

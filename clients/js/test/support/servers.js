@@ -4,7 +4,8 @@ import { after, test } from "node:test";
 import { fileURLToPath } from "node:url";
 import { startServer } from "../../testing.js";
 import { connect } from "../../weblocks.js";
-import { PushingServer } from "./pushing.js";
+import { Relay } from "./relay.js";
+import { startServing } from "./serving.js";
 import { WebSocket } from "./sockets.js";
 
 /** The program that is tested: the repository's own, unless another is named. */
@@ -22,19 +23,29 @@ export function allTests() {
   return { after: (end) => ends.push(end) };
 }
 
-/** A server that polls, as `weblocks serve` does. */
-export async function startPolled(t) {
-  const server = await startServer({ program: PROGRAM });
+/** A server that pushes, `weblocks daemon` with these options, on a free port unless one is named. */
+export async function startPushing(t, { port, words } = {}) {
+  const server = await startServer({ program: PROGRAM, port, words });
   t.after(() => server.stop());
   return server;
 }
 
-/** A server that pushes: the stand-in, before one that polls. */
-export async function startPushing(t, options) {
-  const polled = await startPolled(t);
-  const server = await PushingServer.start(polled.url, options);
+/** A server that polls, `weblocks serve`, on a free port unless one is named. */
+export async function startPolled(t, { port } = {}) {
+  const server = await startServing(PROGRAM, port);
   t.after(() => server.stop());
   return server;
+}
+
+/** One of each, by how it tells its news. */
+export const EACH = { pushed: startPushing, polled: startPolled };
+
+/** A server that pushes, behind a relay that writes down what comes, and may be deaf, slow or wrong. */
+export async function startRelayed(t, options) {
+  const server = await startPushing(t);
+  const relay = await Relay.start(server.url, options);
+  t.after(() => relay.stop());
+  return relay;
 }
 
 /** A new agent of a server; the test closes it. */
@@ -52,12 +63,11 @@ export async function connectTo(t, { url }, options = {}) {
  *   which connects agents of that server by `agent`
  */
 export function testWithEach(sentence, check) {
-  test(`${sentence} (pushed)`, async (t) => {
-    const server = await startPushing(t);
-    await check((options) => connectTo(t, server, options), server, t);
-  });
-  test(`${sentence} (polled)`, async (t) => {
-    const server = await startPolled(t);
-    await check((options) => connectTo(t, server, { ...SOON, ...options }), server, t);
-  });
+  for (const [how, start] of Object.entries(EACH)) {
+    test(`${sentence} (${how})`, async (t) => {
+      const server = await start(t);
+      const soon = how === "polled" ? SOON : {};
+      await check((options) => connectTo(t, server, { ...soon, ...options }), server, t);
+    });
+  }
 }

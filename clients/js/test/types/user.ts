@@ -39,9 +39,12 @@ await locks.close();
 const installed: LockManager = install({ url: "wss://locks.example/" });
 const platform: Pick<globalThis.LockManager, "query"> = installed;
 
-const server = useServer({ program: "./weblocks" });
+const server = useServer({ program: "./weblocks", words: ["--idle", "5"] });
 const agent: LockManager = await server.connect({ kind: "worker" });
-const port: number = (await startServer()).port;
+const started = await startServer({ port: 8080 });
+const port: number = started.port;
+await started.kill();
+await started.stop();
 
 export { agent, got, infos, mode, name, nothing, platform, port, stolen, why };
 

@@ -1,18 +1,15 @@
 /**
- * A stand-in of the tests for a server that pushes: it selects the subprotocol `weblocks.push`, hands each connection's
- * messages on to a connection of a server that polls, polls that one itself, and pushes what news the polls bring.
+ * A relay of the tests before a server: it hands each connection's messages on to one of its own, and what comes there
+ * back. It writes down what it was sent and what handshakes offered, and may be deaf, slow or wrong.
  */
 
 import { once } from "node:events";
 import { WebSocket, WebSocketServer } from "./sockets.js";
 
-/** How often it polls, in milliseconds. */
-const POLL = 2;
-
 const PUSH = "weblocks.push";
 const BEARER = "weblocks.bearer.";
 
-export class PushingServer {
+export class Relay {
   #server;
   #backend;
   #token;
@@ -43,12 +40,12 @@ export class PushingServer {
   refusal = null;
 
   /**
-   * @param {string} backend the URL of the server that polls
+   * @param {string} backend the URL of the server, which pushes
    * @param {{token?: string, selects?: boolean}} [options] what clients are to be known by, and whether
-   *   `weblocks.push` is selected: where it isn't, the stand-in never pushes
+   *   `weblocks.push` is selected: where it isn't, nothing is pushed
    */
   static async start(backend, options = {}) {
-    const server = new PushingServer(backend, options);
+    const server = new Relay(backend, options);
     await server.#listen();
     return server;
   }
@@ -108,20 +105,19 @@ export class PushingServer {
 
   #serve(socket) {
     this.links += 1;
-    const link = new Link(this.links, socket, new WebSocket(this.#backend), this);
+    const backend = new WebSocket(this.#backend, this.selects ? [PUSH] : []);
+    const link = new Link(this.links, socket, backend, this);
     this.#links.add(link);
     socket.on("close", () => this.#links.delete(link));
   }
 }
 
-/** One connection of a client, and the one to the server that polls. */
+/** One connection of a client, and the one to the server. */
 class Link {
   #number;
   #backend;
   #server;
-  #owners = [];
   #early = [];
-  #timer = null;
 
   constructor(number, socket, backend, server) {
     this.#number = number;
@@ -149,7 +145,7 @@ class Link {
     if (message.op === "open" && this.#server.closeCode !== null) {
       this.socket.close(this.#server.closeCode);
     } else if (this.#backend.readyState === WebSocket.OPEN) {
-      this.#ask(text, "client");
+      this.#backend.send(text);
     } else {
       this.#early.push(text);
     }
@@ -161,25 +157,12 @@ class Link {
   }
 
   #begin() {
-    for (const text of this.#early) this.#ask(text, "client");
-    if (!this.#server.selects) return;
-    this.#timer = setInterval(() => this.#ask('{"id":0,"op":"poll"}', "own"), POLL);
-  }
-
-  #ask(text, owner) {
-    if (this.#backend.readyState !== WebSocket.OPEN) return;
-    this.#owners.push(owner);
-    this.#backend.send(text);
+    for (const text of this.#early) this.#backend.send(text);
   }
 
   #give(text) {
-    if (this.#owners.shift() === "client") {
-      if (this.#server.delay === 0) this.socket.send(text);
-      else setTimeout(() => this.socket.send(text), this.#server.delay);
-      return;
-    }
-    const { notices } = JSON.parse(text);
-    if (notices.length > 0) this.push(notices);
+    if (this.#server.delay === 0) this.socket.send(text);
+    else setTimeout(() => this.socket.send(text), this.#server.delay);
   }
 
   /** Tells the client what it didn't ask for. */
@@ -188,12 +171,10 @@ class Link {
   }
 
   #lose() {
-    clearInterval(this.#timer);
     this.socket.terminate();
   }
 
   #end() {
-    clearInterval(this.#timer);
     this.#backend.close();
   }
 }
