@@ -34,9 +34,11 @@ impl Scene for Calls {
     fn call<R: Wait>(&mut self, rt: &R, call: &str, came: &mut String) -> Result<(), Fail> {
         let (reads, rest) = call.split_once("; ").unwrap_or((call, ""));
         let (writes, calls) = rest.split_once("; ").unwrap_or((rest, ""));
-        match greeted(self.alloc, script_of(self.alloc, reads, writes)?)? {
-            Greeted::Open(wire, _) => make_calls(rt, self.alloc, wire, calls, came),
-            _ => Ok(came.push_str("not open")?),
+        let script = script_of(self.alloc, reads, writes)?;
+        match greeted(self.alloc, script) {
+            Ok(Greeted::Open(wire, _)) => make_calls(rt, self.alloc, wire, calls, came),
+            Ok(_) => Ok(came.push_str("not open")?),
+            Err(error) => Err(Fail::from(error)),
         }
     }
 }
@@ -49,10 +51,12 @@ fn make_calls<R: Wait>(
     came: &mut String,
 ) -> Result<(), Fail> {
     let mut wire = wire;
-    let mut gap = "";
+    let mut is_first = true;
     for call in calls.split(' ') {
-        came.push_str(gap)?;
-        gap = " ";
+        if !is_first {
+            came.push(' ')?;
+        }
+        is_first = false;
         match call {
             "came" => write!(came, "{}", wire.came())?,
             "blocked" => write!(came, "{}", wire.is_blocked())?,

@@ -171,7 +171,7 @@ fn add_head(alloc: Global, piece: &mut Vec<u8>, length: usize) -> Result<(), All
 /// A frame of fewer than 126 bytes, masked with zeros.
 fn add_frame(piece: &mut Vec<u8>, kind: u8, body: &[u8]) -> Result<(), AllocError> {
     piece.push(kind)?;
-    piece.push(0x80 | (body.len() as u8 & 0x7f))?;
+    piece.push(0x80 | u8::try_from(body.len()).unwrap_or(0))?;
     piece.extend_from_slice(&[0, 0, 0, 0])?;
     piece.extend_from_slice(body)
 }
