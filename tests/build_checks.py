@@ -18,7 +18,7 @@ Checks = Iterator[tuple[str, Callable[[], None]]]
 SAID = "what was just built answers this\n"
 FIRST = "build: proving and building the program: {}\n"
 PROGRESS = """\
-build: wl_numbered was proved by an earlier run, 1 of 22 crates, 0 min
+build: wl_number_map was proved by an earlier run, 1 of 22 crates, 0 min
 build: wl_types proved, 2 of 22 crates, 0 min
 build: wl_machine proved, 3 of 22 crates, 0 min
 """

@@ -2,7 +2,7 @@
 
 use std::alloc::Global;
 use std::test::Fail;
-use wl_numbered::NumberMap;
+use wl_number_map::NumberMap;
 use wl_samples::refused;
 use wl_types::Memory;
 

@@ -24,7 +24,7 @@ use Rattle.wl_machine.specs.declared.rows.PendingRow.{PendingRow}
 use Rattle.wl_machine.specs.Grants.{granted_lock}
 use Rattle.wl_machine.proofs.Lists.{map_twice}
 use Rattle.wl_index.specs.Rows.{Entry, Tag, other, request_row, held_of, pending_of, tag, tags_of}
-use Rattle.wl_numbered.proofs.Keyed.{Found}
+use Rattle.wl_number_map.proofs.Keyed.{Found}
 use Rattle.wl_index.proofs.Counting.{length-filter-not}
 use Rattle.wl_index.proofs.Ends.{held_without, one_fewer, other_lock, other_request, pending_without}
 use Rattle.wl_index.proofs.Rows.{held_more, live_count, pending_more}

@@ -15,7 +15,7 @@ use Rattle.wl_machine.specs.declared.rows.HeldRow.{HeldRow}
 use Rattle.wl_machine.specs.declared.rows.PendingRow.{PendingRow}
 use Rattle.wl_machine.specs.Grants.{granted_lock, locks, queue}
 use Rattle.wl_machine.proofs.Lists.{same_bytes, filters_commute, filter_map}
-use Rattle.wl_numbered.proofs.Keyed.{Found, found, number_same}
+use Rattle.wl_number_map.proofs.Keyed.{Found, found, number_same}
 use Rattle.wl_index.specs.declared.request.Request.{Request}
 use Rattle.wl_index.specs.Stamps.{by_stamp, by_stamp_all}
 use Rattle.wl_index.specs.Rows.{Entry, other, waiting, holding, stamp_of, request_row, lock_row, held_of, pending_of}

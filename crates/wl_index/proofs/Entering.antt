@@ -13,7 +13,7 @@ use Rattle.wl_machine.specs.declared.rows.PendingRow.{PendingRow}
 use Rattle.wl_machine.specs.Grants.{is_exclusive, is_empty, grants, locks, queue}
 use Rattle.wl_machine.specs.Laws.{is_grantable}
 use Rattle.wl_machine.proofs.InTurn.{in_turn}
-use Rattle.wl_numbered.proofs.Keyed.{same_number, number_same}
+use Rattle.wl_number_map.proofs.Keyed.{same_number, number_same}
 use Rattle.wl_index.specs.Stamps.{by_stamp, by_stamp_all}
 use Rattle.wl_index.specs.Rows.{Entry, other, stamp_of, waiting, holding, request_row, lock_row, held_of, pending_of}
 use Rattle.wl_index.specs.Queue.{Numbered, Waiting, Matches, admits, number_and_mode, lock_and_mode}

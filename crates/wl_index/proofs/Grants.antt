@@ -19,7 +19,7 @@ use Rattle.wl_index.specs.Stamps.{Distinct, by_stamp, by_stamp_last}
 use Rattle.wl_index.specs.Rows.{Entry, holds, waiting, holding, stamp_of, request_row, lock_row, pending_of, held_of, IsTable}
 use Rattle.wl_index.proofs.Distinct.{distinct_last_come}
 use Rattle.wl_index.proofs.Lists.{all_filter, all_weaker, all_append, all_front, all_back}
-use Rattle.wl_numbered.proofs.Keyed.{number_same, found}
+use Rattle.wl_number_map.proofs.Keyed.{number_same, found}
 use Rattle.wl_index.proofs.Rows.{pending_append, apart_pending, apart_kept, is_request, pending_there}
 
 abbrev pub granted_now : ℕ → Request → Request

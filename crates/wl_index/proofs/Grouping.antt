@@ -11,7 +11,7 @@ use Rattle.wl_machine.proofs.Covers.{alike, less, rising_filter, rising_more}
 use Rattle.wl_index.specs.Lists.{at, list_at, numbers_on, IsRising, KeepsLive}
 use Rattle.wl_index.specs.Rows.{Entry}
 use Rattle.std.specs.declared.vec.Vec.{Vec}
-use Rattle.wl_numbered.proofs.Keyed.{same_number}
+use Rattle.wl_number_map.proofs.Keyed.{same_number}
 use Rattle.wl_index.proofs.Lists.{all_weaker, filter_passed, filter_whole}
 
 -- ---- one list

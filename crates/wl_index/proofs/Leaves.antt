@@ -21,7 +21,7 @@ use Rattle.wl_index.specs.declared.agents.Signal.{Signal}
 use Rattle.wl_index.specs.Roll.{agent_row, signal_row, made_by, IsRoll, aborted}
 use Rattle.wl_index.specs.Lists.{spared}
 use Rattle.wl_index.proofs.Lists.{all_append, all_front, all_back, all_weaker, all_filter}
-use Rattle.wl_numbered.proofs.Keyed.{Found, same_number, number_same, removed_at}
+use Rattle.wl_number_map.proofs.Keyed.{Found, same_number, number_same, removed_at}
 use Rattle.wl_index.proofs.Spared.{spared_fail}
 
 -- ---- a signal gets its reason

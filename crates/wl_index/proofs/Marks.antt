@@ -19,7 +19,7 @@ use Rattle.wl_index.specs.Rows.{Entry, tag, tags_of, is_fresh, taken_stage, wait
 use Rattle.wl_index.proofs.Distinct.{distinct_map}
 use Rattle.wl_index.proofs.Lists.{filter_like, filter_passed, any_by_stamp, map_by_stamp}
 use Rattle.std.proofs.Math.Bool.{and-false}
-use Rattle.wl_numbered.proofs.Keyed.{same_number, number_same, above_apart, found}
+use Rattle.wl_number_map.proofs.Keyed.{same_number, number_same, above_apart, found}
 
 abbrev pub marked : Request → Request
 marked r = record r { stage = taken_stage r.stage }

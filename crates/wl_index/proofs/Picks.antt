@@ -24,7 +24,7 @@ use Rattle.wl_index.specs.Rows.{Entry, is_taken, waiting, holding}
 use Rattle.wl_index.specs.Order.{place_of}
 use Rattle.wl_index.specs.Ends.{IsOwners, ends_entry, is_owned, place_if}
 use Rattle.wl_index.proofs.Lists.{all_back}
-use Rattle.wl_numbered.proofs.Keyed.{found, found_each}
+use Rattle.wl_number_map.proofs.Keyed.{found, found_each}
 
 -- the place of the request of a number, if it passes
 abbrev pub pick : (Entry → Bool) → List Entry → ℕ → List Place

@@ -15,7 +15,7 @@ use Rattle.wl_index.specs.declared.agents.Signal.{Signal}
 use Rattle.wl_index.specs.Lists.{IsRising, Keeps, SameLists, at, list_at, numbers_on, own_of, signed_of}
 use Rattle.wl_index.specs.Roll.{IsRoll, agent_row}
 use Rattle.wl_index.specs.Rows.{Entry}
-use Rattle.wl_numbered.proofs.Keyed.{Found, found, number_same, same_number}
+use Rattle.wl_number_map.proofs.Keyed.{Found, found, number_same, same_number}
 use Rattle.wl_index.proofs.Grouping.{no_group_rises, updated}
 use Rattle.wl_index.proofs.Rolls.{roll_stays, rows_stay}
 

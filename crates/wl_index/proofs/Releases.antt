@@ -17,7 +17,7 @@ use Rattle.wl_index.specs.Stamps.{by_stamp}
 use Rattle.wl_index.specs.Rows.{Entry, other, waits, holds, holding, stamp_of, lock_row, pending_of, held_of, IsLock}
 use Rattle.wl_index.proofs.Lists.{filter_whole, filter_none, all_weaker, any_by_stamp}
 use Rattle.std.proofs.Math.Bool.{and-false}
-use Rattle.wl_numbered.proofs.Keyed.{same_number, number_same, above_apart, found}
+use Rattle.wl_number_map.proofs.Keyed.{same_number, number_same, above_apart, found}
 use Rattle.wl_index.proofs.Rows.{removed, held_filter, pending_append}
 
 -- whether the agent's lock of this number is that entry

@@ -24,7 +24,7 @@ use Rattle.wl_index.specs.declared.agents.Agent.{Agent}
 use Rattle.wl_index.specs.declared.agents.Signal.{Signal}
 use Rattle.wl_index.specs.Roll.{agent_row, signal_row, made_by, IsRoll, at_some, reason_at}
 use Rattle.wl_index.proofs.Lists.{all_append, all_front, all_back, all_weaker}
-use Rattle.wl_numbered.proofs.Keyed.{Found, found, entry_last, same_number, number_same, above_apart}
+use Rattle.wl_number_map.proofs.Keyed.{Found, found, entry_last, same_number, number_same, above_apart}
 
 -- ---- a look-up
 

@@ -22,7 +22,7 @@ use Rattle.wl_index.specs.declared.request.Stage.TheVariants.{Pending, Held}
 use Rattle.wl_index.specs.Stamps.{place, by_stamp, filter_by_stamp}
 use Rattle.wl_index.specs.Rows.{Entry, Apart, tag, tags_of, other, waits, holds, waiting, holding, stamp_of, request_row, lock_row, pending_of, held_of}
 use Rattle.wl_index.proofs.Lists.{filter_whole, filter_none, all_weaker}
-use Rattle.wl_numbered.proofs.Keyed.{same_number, above_apart, removed_at, found}
+use Rattle.wl_number_map.proofs.Keyed.{same_number, above_apart, removed_at, found}
 
 pub removed : (id : ℕ) (es : List Entry) → IsStrictlySortedBy nat_cmp (keys_of es) → remove_entry (is_at (nat_cmp id)) es ≡ filter (other id) es
 removed id es sorted = removed_at id es sorted

@@ -8,7 +8,7 @@ use Rattle.std.specs.Ordering.{nat_cmp}
 use Rattle.std.proofs.lemmas.Bool.Decides.{nat_tests}
 use Rattle.std.proofs.lemmas.Map.Keys.{sorted_head, sorted_tail}
 use Rattle.wl_index.specs.Lists.{spared}
-use Rattle.wl_numbered.proofs.Keyed.{number_same, above_apart}
+use Rattle.wl_number_map.proofs.Keyed.{number_same, above_apart}
 
 -- tests that agree on the elements
 pub filter_agree : {X : Type 0} (p q : X → Bool) (l : List X) → AllByRecursion (λ x. p x ≡ q x) l → filter p l ≡ filter q l

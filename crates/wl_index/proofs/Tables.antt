@@ -16,7 +16,7 @@ use Rattle.wl_index.specs.Stamps.{Distinct}
 use Rattle.wl_index.specs.Rows.{Entry, other, waiting, holding, stamp_of, IsTable}
 use Rattle.wl_index.proofs.Distinct.{distinct_filter}
 use Rattle.wl_index.proofs.Lists.{filter_whole, all_filter, all_weaker, all_append}
-use Rattle.wl_numbered.proofs.Keyed.{number_same, entry_last, Found, found}
+use Rattle.wl_number_map.proofs.Keyed.{number_same, entry_last, Found, found}
 use Rattle.wl_index.proofs.Rows.{removed, locks_same}
 
 length_fewer : (p : Entry → Bool) (es : List Entry) → length (filter p es) ≤ length es

@@ -23,7 +23,7 @@ use Rattle.wl_index.specs.Lists.{at, own_of, signed_of, IsOn, Keeps, IsGrouped, 
 use Rattle.wl_index.specs.Ends.{ends_request, ends_lock, HasNone, IsOwners}
 use Rattle.wl_index.specs.Locks.{Board, asked}
 use Rattle.wl_index.proofs.Lists.{all_append, any_by_stamp}
-use Rattle.wl_numbered.proofs.Keyed.{found_each, same_number}
+use Rattle.wl_number_map.proofs.Keyed.{found_each, same_number}
 use Rattle.wl_index.proofs.Rows.{holds_or_waits}
 
 pub tags_more : (es : List Entry) (e : Entry) → tags_of (es ++ e ∷ []) ≡ tags_of es ++ tag e ∷ []

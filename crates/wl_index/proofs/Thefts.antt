@@ -19,7 +19,7 @@ use Rattle.wl_index.specs.Stamps.{by_stamp}
 use Rattle.wl_index.specs.Rows.{Entry, other, holds, holding, stamp_of, lock_row, held_of}
 use Rattle.wl_index.specs.Locks.{no_lock_on}
 use Rattle.wl_index.proofs.Lists.{filter_out, filter_none, filter_whole, all_weaker, any_by_stamp}
-use Rattle.wl_numbered.proofs.Keyed.{Found, found, same_number, number_same, above_apart}
+use Rattle.wl_number_map.proofs.Keyed.{Found, found, same_number, number_same, above_apart}
 use Rattle.wl_index.proofs.Rows.{held_filter}
 use Rattle.wl_index.proofs.Ends.{other_lock, held_without}
 

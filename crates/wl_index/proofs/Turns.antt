@@ -14,7 +14,7 @@ use Rattle.wl_index.specs.Rows.{Entry, other}
 use Rattle.wl_index.specs.Ends.{AreLive}
 use Rattle.wl_index.proofs.Lists.{all_filter, all_weaker}
 use Rattle.wl_index.proofs.Distinct.{distinct_filter}
-use Rattle.wl_numbered.proofs.Keyed.{same_number, number_same, above_apart}
+use Rattle.wl_number_map.proofs.Keyed.{same_number, number_same, above_apart}
 
 -- the next of a list's rest
 pub rest_next : {X : Type 0} (l : List X) (i : ℕ) (d : X) → i < length l → drop i l ≡ get_or l i d ∷ drop (i + 1) l

@@ -20,7 +20,7 @@ use Rattle.wl_index.specs.Queue.{Numbered, number_and_mode}
 use Rattle.wl_index.specs.Stamps.{by_stamp, by_stamp_all}
 use Rattle.wl_index.specs.Rows.{Entry, waiting, holding, stamp_of, request_row, lock_row, pending_of, held_of}
 use Rattle.wl_index.proofs.Lists.{all_filter}
-use Rattle.wl_numbered.proofs.Keyed.{same_number, number_same}
+use Rattle.wl_number_map.proofs.Keyed.{same_number, number_same}
 
 -- a request or a lock as a snapshot shows it
 abbrev pub info : Entry → LockInfo

@@ -18,7 +18,7 @@ use crate::requests::Requests;
 use std::alloc::Global;
 use std::collections::BTreeMap;
 use std::marker::Model;
-use wl_numbered::{NumberMap, Rows};
+use wl_number_map::{NumberMap, Rows};
 use wl_types::{Kind, Memory, Reason};
 
 /// A live agent: numbers that rise, with those of all its live requests; and of each of its signals numbers that rise, with

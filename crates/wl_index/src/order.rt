@@ -6,7 +6,7 @@ ghost use Rattle.wl_index.specs.declared.request.Place.{Place};
 
 use crate::request::{Place, Request, Stage};
 use std::alloc::Global;
-use wl_numbered::NumberMap;
+use wl_number_map::NumberMap;
 use wl_types::Memory;
 
 /// The places of the locks, by number.

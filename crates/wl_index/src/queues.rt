@@ -13,7 +13,7 @@ use indexmap::IndexMap;
 use std::alloc::Global;
 use std::hash::RandomState;
 use std::marker::Model;
-use wl_numbered::{NumberMap, Rows};
+use wl_number_map::{NumberMap, Rows};
 use wl_types::{Memory, Mode, Name};
 
 /// The queues by their places, and the place of each name's. A place is the number of the request that brought the

@@ -24,7 +24,7 @@ use crate::request::{
 };
 use std::alloc::Global;
 use std::marker::Model;
-use wl_numbered::{NumberMap, Rows};
+use wl_number_map::{NumberMap, Rows};
 use wl_types::Memory;
 
 /// The live requests by number, the next stamp and the next number.

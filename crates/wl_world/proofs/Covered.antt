@@ -16,9 +16,9 @@ use Rattle.wl_world.specs.declared.requests.Request.{Request}
 use Rattle.wl_world.specs.declared.rolls.Roll.{Roll}
 use Rattle.wl_world.specs.Requests.{IsRising, has_ended, with_change}
 use Rattle.wl_world.specs.Rolls.{IsCovered, IsEach, IsEnrolled, IsIndex, coming, found, leave_one, noted_of, own_of, tell_one}
-use Rattle.wl_numbered.specs.NumberMap.{NumberMap}
+use Rattle.wl_number_map.specs.NumberMap.{NumberMap}
 use Rattle.wl_machine.proofs.Covers.{alike}
-use Rattle.wl_numbered.proofs.Keyed.{entry_last, found_each, number_same, same_number}
+use Rattle.wl_number_map.proofs.Keyed.{entry_last, found_each, number_same, same_number}
 use Rattle.wl_world.proofs.Walks.{apart}
 
 -- ---- what stands at a number after f

@@ -4,8 +4,8 @@ use Rattle.std.specs.Prelude.{Option, Some, None, is_some}
 use Rattle.std.specs.List.{AllByRecursion, Contains, flat_map}
 use Rattle.std.specs.List.Sorted.{IsStrictlySortedBy}
 use Rattle.std.specs.Map.{keys_of, values_of}
-use Rattle.wl_numbered.specs.NumberMap.{NumberMap}
-use Rattle.wl_numbered.proofs.Keyed.{found_each}
+use Rattle.wl_number_map.specs.NumberMap.{NumberMap}
+use Rattle.wl_number_map.proofs.Keyed.{found_each}
 use Rattle.std.specs.Ordering.{nat_cmp}
 use Rattle.std.proofs.lemmas.List.{flat_map_more, take_more}
 use Rattle.std.proofs.lemmas.Map.Lookups.{exact_unsigned}

@@ -9,7 +9,7 @@ use Rattle.std.specs.Ordering.{nat_cmp}
 use Rattle.std.proofs.lemmas.Bool.Decides.{nat_tests}
 use Rattle.std.proofs.lemmas.Map.Keys.{below_from_sorted}
 use Rattle.std.proofs.lemmas.Map.Made.{Contains-tail}
-use Rattle.wl_numbered.proofs.Keyed.{same_number}
+use Rattle.wl_number_map.proofs.Keyed.{same_number}
 use Rattle.wl_machine.proofs.Covers.{alike}
 use Rattle.wl_world.specs.declared.requests.Request.{Request}
 use Rattle.wl_world.specs.Requests.{has_ended}

@@ -6,7 +6,7 @@ ghost use Rattle.wl_world.specs.Requests.{IsRising, news_of, noted, told, waitin
 use crate::rolls::{Roll, add, forget, leave, note_all, tell};
 use std::alloc::Global;
 use std::marker::Model;
-use wl_numbered::NumberMap;
+use wl_number_map::NumberMap;
 use wl_types::{Change, Memory, Phase};
 
 /// A request, whose it is, and the phase that it has come to since its agent's last reply with notices, if any.

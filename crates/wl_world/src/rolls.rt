@@ -10,7 +10,7 @@ ghost use Rattle.wl_world.specs.Rolls.{AreLooks, IsCovered, IsEach, IsEachAt, Is
 
 use crate::requests::Request;
 use std::alloc::Global;
-use wl_numbered::NumberMap;
+use wl_number_map::NumberMap;
 use wl_types::{Change, Memory, Phase};
 
 /// As a request comes, a roll has at most about twice as many numbers as its agent has live requests, and twice this

@@ -3,7 +3,7 @@ use Rattle.std.specs.Prelude.{not}
 use Rattle.std.specs.List.{list_any}
 use Rattle.std.specs.Map.{lookup}
 use Rattle.std.specs.BTreeMap.{is_at}
-use Rattle.wl_numbered.proofs.Keyed.{same_number}
+use Rattle.wl_number_map.proofs.Keyed.{same_number}
 use Rattle.wl_index.specs.declared.agents.Signal.{Signal}
 use Rattle.wl_index.specs.Lists.{IsRising, spared}
 use Rattle.wl_index.specs.Roll.{Register}

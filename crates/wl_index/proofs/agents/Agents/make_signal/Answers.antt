@@ -6,7 +6,7 @@ use Rattle.std.specs.BTreeMap.{is_at, insert_entry}
 use Rattle.wl_index.specs.declared.agents.Agent.{Agent}
 use Rattle.wl_index.specs.Lists.{IsRising, list_at, own_of, signed_of}
 use Rattle.wl_index.specs.Roll.{Register}
-use Rattle.wl_numbered.proofs.Keyed.{Found, entry_last, found, undone}
+use Rattle.wl_number_map.proofs.Keyed.{Found, entry_last, found, undone}
 use Rattle.wl_index.proofs.Registers.{list_more, lists_written, rises_as, rises_written, set_looks}
 use Rattle.wl_index.proofs.Rolls.{agent_there, listed_at, some_is, some_at, keys_last, rows_stay, roll_stays, signalled, signal_rows, signals_lower}
 use Rattle.wl_index.proofs.agents.Agents.make_signal.Goals.{In_ok-insert, After-remove, In-Ok}

@@ -2,7 +2,7 @@ use Rattle.std.proofs.Common.{◌≡◌, ◌∙◌, ap, sym, nat_cmp, Some, refl
 use Rattle.std.specs.Option.{option_copied_mut}
 use Rattle.std.specs.Map.{lookup, set_value}
 use Rattle.std.specs.BTreeMap.{is_at}
-use Rattle.wl_numbered.proofs.Keyed.{found}
+use Rattle.wl_number_map.proofs.Keyed.{found}
 use Rattle.wl_index.proofs.Leaves.{reason_set, reason_none, reason_roll}
 use Rattle.wl_index.proofs.agents.Agents.set_reason.Goals as goal
 

@@ -6,7 +6,7 @@ use Rattle.wl_index.specs.Event.{Happened}
 use Rattle.wl_index.specs.Locks.{Board}
 use Rattle.wl_index.specs.Queue.{without}
 use Rattle.wl_index.specs.Queues.{names_of, place_of}
-use Rattle.wl_numbered.proofs.Keyed.{Found, found}
+use Rattle.wl_number_map.proofs.Keyed.{Found, found}
 use Rattle.wl_index.proofs.Boards.{board_as, ended_room}
 use Rattle.wl_index.proofs.Ends.{live_named, one_ended, without_keeps}
 use Rattle.wl_index.proofs.InUse.{names_updated}

@@ -6,7 +6,7 @@ use Rattle.wl_machine.specs.Grants.{locks}
 use Rattle.wl_index.specs.Queue.{seized}
 use Rattle.wl_index.specs.Queues.{names_of, place_of}
 use Rattle.wl_index.specs.Rows.{held_of, pending_of, request_row}
-use Rattle.wl_numbered.proofs.Keyed.{found}
+use Rattle.wl_number_map.proofs.Keyed.{found}
 use Rattle.wl_index.proofs.Boards.{same_tags_ordered, seized_room}
 use Rattle.wl_index.proofs.Ends.{Waiter, any_from, live_named, one_seized, seized_keeps, waiter}
 use Rattle.wl_index.proofs.InUse.{names_updated}

@@ -3,7 +3,7 @@ use Rattle.std.specs.Option.{option_copied_mut}
 use Rattle.std.specs.HashMap.{get_by_text}
 use Rattle.std.specs.Map.{set_value}
 use Rattle.std.specs.BTreeMap.{is_at}
-use Rattle.wl_numbered.proofs.Keyed.{set_same}
+use Rattle.wl_number_map.proofs.Keyed.{set_same}
 use Rattle.wl_index.specs.Queue.{after_grant}
 use Rattle.wl_index.specs.Queues.{at_place, updated}
 use Rattle.wl_index.proofs.InUse.{are_updated, grant_keeps, if_none, if_some, is_updated, none_grants, set_updated}

@@ -1,7 +1,7 @@
 use Rattle.std.proofs.Common.{subst, nat_cmp, rules}
 use Rattle.std.specs.List.Sorted.{IsStrictlySortedBy}
 use Rattle.std.specs.Map.{keys_of}
-use Rattle.wl_numbered.proofs.Keyed.{entry_last}
+use Rattle.wl_number_map.proofs.Keyed.{entry_last}
 use Rattle.wl_index.proofs.Tables.{more_table}
 use Rattle.wl_index.proofs.requests.Requests.push.Goals as goal
 

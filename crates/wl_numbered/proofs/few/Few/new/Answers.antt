@@ -1,5 +1,0 @@
-use Rattle.wl_numbered.proofs.First.{few_none}
-use Rattle.wl_numbered.proofs.few.Few.new.Goals as goal
-
-pub invariant_of-result : goal.invariant_of-result
-invariant_of-result g c = few_none c.new.result.items c.new.ensures.items

@@ -1,7 +1,0 @@
-use Rattle.std.proofs.Common.{◌≡◌, ◌++◌}
-use Rattle.wl_numbered.specs.NumberMap.{shown}
-use Rattle.wl_numbered.proofs.many.Many.list.Given as goal
-
--- the rows that were there, those so far, and those to come
-abbrev pub invariant-loop-number : goal.invariant-loop-number
-invariant-loop-number g l = shown l.rows.items ++ l.number-iterator ≡ shown l.initial.rows.items ++ l.initial.number-iterator

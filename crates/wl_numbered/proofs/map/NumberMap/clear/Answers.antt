@@ -1,7 +1,0 @@
-use Rattle.std.proofs.Common.{ap}
-use Rattle.wl_numbered.specs.NumberMap.{in_order}
-use Rattle.wl_numbered.proofs.InOrder.{in_order_sorted}
-use Rattle.wl_numbered.proofs.map.NumberMap.clear.Goals as goal
-
-pub returns : goal.returns
-returns g c = record { empty = ap in_order c.clear.ensures; ordered = in_order_sorted c.clear.new.self }
