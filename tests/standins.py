@@ -26,7 +26,7 @@ if [[ $does == stop ]]; then
     echo '0 passed, 1 failed'
     exit 2
 fi
-echo 'rt: wl_numbered is kept: an earlier run on this machine proved the same files over the same libraries'
+echo 'rt: wl_number_map is kept: an earlier run on this machine proved the same files over the same libraries'
 if [[ $does == edit ]]; then
     echo >>"$RT_EDITS"
 fi
