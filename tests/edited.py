@@ -65,19 +65,21 @@ def edited_crates() -> list[str]:
     return sorted(folder.name for folder in EDITS.iterdir() if folder.is_dir())
 
 
-def kit_line() -> str:
-    """The line by which the kit names itself, or nothing where there is no kit."""
+def kit_logic() -> str:
+    """The kit's logic, by which it proves and refuses, as its line names it: releases of one logic differ in the rest.
+    Nothing where there is no kit."""
     try:
-        return subprocess.run(["rt", "version"], check=True, text=True, stdout=subprocess.PIPE).stdout.strip()
+        line = subprocess.run(["rt", "version"], check=True, text=True, stdout=subprocess.PIPE).stdout
     except (OSError, subprocess.CalledProcessError):
         return ""
+    return line.partition("logic")[2].strip()
 
 
 class Digests:
-    """Digests of all that the try of an edit reads: the kit, the edit, its crate and those below it."""
+    """Digests of all that the try of an edit reads: the kit's logic, the edit, its crate and those below it."""
 
     def __init__(self, top: Path = TOP) -> None:
-        self.top, self.kit = top, kit_line()
+        self.top, self.logic = top, kit_logic()
         self.lines: dict[str, tuple[str, list[str]]] = {}
         for line in (top / "crates.txt").read_text().splitlines():
             head, colon, below = line.partition("#")[0].partition(":")
@@ -102,7 +104,7 @@ class Digests:
 
     def of_edit(self, edit: Edit) -> str:
         handles = (self.top / "HANDLES").read_bytes()
-        whole = (self.kit.encode(), handles, self.of_crate(edit.crate).encode(), edit.path.read_bytes())
+        whole = (self.logic.encode(), handles, self.of_crate(edit.crate).encode(), edit.path.read_bytes())
         return hashlib.sha256(b"\0".join(whole)).hexdigest()[:32]
 
 
