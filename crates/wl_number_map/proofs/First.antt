@@ -1,5 +1,5 @@
 -- The first entry whose number passes a test: where a search finds it, and what a change there makes of the entries.
-use Rattle.std.proofs.Common.{◌≡◌, ℕ, zero, suc, ◌<◌, ◌≤◌, ◌==◌, Bool, true, false, cond, List, [], ◌∷◌, ◌++◌, length, take, get_or, set, refl, sym, ap, ◌∙◌, arith}
+use Rattle.std.proofs.Common.{◌≡◌, ℕ, zero, suc, ◌<◌, ◌≤◌, ◌==◌, Bool, true, false, cond, List, [], ◌∷◌, ◌++◌, length, take, get_or, refl, sym, ap, ◌∙◌, arith}
 use Rattle.std.specs.Prelude.{Some, None, is_some}
 use Rattle.std.specs.List.{IsDistinct, remove}
 use Rattle.std.specs.Map.{keys_of, lookup, set_value, remove_entry}
@@ -17,12 +17,6 @@ unfolding IsDistinct
 distinct_nil = tt
 
 module _ {X : Type 0} where
-  -- one more that doesn't pass
-  pub none_so_far : (t : ℕ → Bool) (es : List (ℕ × X)) (i : ℕ) (d : ℕ × X) → i < length es → NonePasses t (take i es) → t (get_or es i d).0 ≡ false → NonePasses t (take (suc i) es)
-  none_so_far t [] i d within none not = absurd (omega (arith, within))
-  none_so_far t (e ∷ es) zero d within none not = (not, tt)
-  none_so_far t (e ∷ es) (suc i) d within none not = (none.0, none_so_far t es i d (omega (arith, within)) none.1 not)
-
   pub first_at : (t : ℕ → Bool) (es : List (ℕ × X)) (i : ℕ) (d : ℕ × X) → i < length es → NonePasses t (take i es) → t (get_or es i d).0 ≡ true → IsFirst t es i
   first_at t [] i d within none is = absurd (omega (arith, within))
   first_at t (e ∷ es) zero d within none is = is
@@ -32,11 +26,6 @@ module _ {X : Type 0} where
   first_found t [] i d at = absurd at
   first_found t (e ∷ es) zero d at = rw at refl
   first_found t (e ∷ es) (suc i) d at = rw at.0 (first_found t es i d at.1)
-
-  pub first_set : (t : ℕ → Bool) (es : List (ℕ × X)) (i : ℕ) (d : ℕ × X) (w : X) → IsFirst t es i → set es i ((get_or es i d).0, w) ≡ set_value t es w
-  first_set t [] i d w at = absurd at
-  first_set t (e ∷ es) zero d w at = rw at refl
-  first_set t (e ∷ es) (suc i) d w at = rw at.0 (ap (λ l. e ∷ l) (first_set t es i d w at.1))
 
   pub first_removed : (t : ℕ → Bool) (es : List (ℕ × X)) (i : ℕ) → IsFirst t es i → remove es i ≡ remove_entry t es
   first_removed t [] i at = absurd at

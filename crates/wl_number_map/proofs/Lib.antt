@@ -2,5 +2,5 @@ pub mod InOrder
 pub mod Keyed
 pub mod Sorted
 pub mod First
-pub mod Both
+pub mod Put
 pub mod Weaker

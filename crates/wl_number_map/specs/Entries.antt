@@ -1,12 +1,13 @@
--- Entries in any order: where a number stands among them, what is put there, and two lists of them side by side. (own)
-use Rattle.std.specs.Prelude.{◌≡◌, ◌==◌, ℕ, zero, suc, Bool, true, false, Box, List, [], ◌∷◌, Option, Some, None, IsSome, cond}
-use Rattle.std.specs.HashMap.{HashMap}
+-- Entries in any order: where a number stands among them, what is put there, and the entries of a store. (own)
+use Rattle.std.specs.Prelude.{◌≡◌, ◌==◌, ℕ, zero, suc, Bool, true, false, List, [], ◌∷◌, Option, cond}
 use Rattle.std.specs.Map.{lookup}
+use Rattle.wl_number_map.specs.declared.store.Held.{Held}
+use Rattle.wl_number_map.specs.declared.store.Held.TheVariants.{Few, Many}
 
--- what a hash map has, where there is one
-abbrev pub hashed : {X S Z : Type 0} → Option (Box (HashMap ℕ X S) Z) → List (ℕ × X)
-hashed None = []
-hashed (Some map) = map.value.entries
+-- the entries of a store
+abbrev pub held_entries : {X : Type 0} → Held X → List (ℕ × X)
+held_entries (Few few) = few
+held_entries (Many map) = map.value.entries
 
 module _ {X : Type 0} where
   -- the first entry whose number passes stands at this place
@@ -18,7 +19,3 @@ module _ {X : Type 0} where
   -- fs finds this at a number, where `None` is nothing, and at each other number what es finds
   abbrev pub IsPut : ℕ → Option X → List (ℕ × X) → List (ℕ × X) → Type 0
   IsPut number value es fs = (q : ℕ) → lookup (λ k. q == k) fs ≡ cond (number == q) value (lookup (λ k. q == k) es)
-
-  -- what has a value in one has none in the other
-  abbrev pub AreApart : List (ℕ × X) → List (ℕ × X) → Type 0
-  AreApart es fs = (q : ℕ) → IsSome (lookup (λ k. q == k) es) → lookup (λ k. q == k) fs ≡ None

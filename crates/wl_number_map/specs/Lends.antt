@@ -5,19 +5,15 @@ use Rattle.std.specs.Map.{set_value}
 use Rattle.wl_number_map.specs.NumberMap.{NumberMap, WritesThrough}
 use Rattle.wl_number_map.specs.contracts.map.NumberMap.{the_row}
 use Rattle.wl_number_map.specs.contracts.few.Few.{the_row as few_row}
-use Rattle.wl_number_map.specs.contracts.many.Many.{the_row as many_row}
 use Rattle.wl_number_map.specs.contracts.store.Store.{the_row as store_row}
 
 -- the number has the last value written through r; at `None` the map stays as it is
 abbrev pub lends_value : (V : RattleType) → MutBor (NumberMap V.Denot) → ℕ → Option (MutBor V.Denot) → Fml
 lends_value V m number r = LendsSo (the_row V) V m r (λ n value. WritesThrough number m.now value n) (λ n. n ≡ m.now)
 
--- and what its parts end as: the few that stand together, the many that are found by hash, and both
+-- and what a few that stand together end as, and a store
 abbrev pub lends_few : (V : RattleType) → MutBor (List (ℕ × V.Denot)) → ℕ → Option (MutBor V.Denot) → Fml
 lends_few V m number r = LendsSo (few_row V) V m r (λ es value. es ≡ set_value (λ k. number == k) m.now value) (λ es. es ≡ m.now)
 
-abbrev pub lends_many : (V : RattleType) → MutBor (List (ℕ × V.Denot)) → ℕ → Option (MutBor V.Denot) → Fml
-lends_many V m number r = LendsSo (many_row V) V m r (λ es value. es ≡ set_value (λ k. number == k) m.now value) (λ es. es ≡ m.now)
-
-abbrev pub lends_both : (V : RattleType) → MutBor (List (ℕ × V.Denot)) → ℕ → Option (MutBor V.Denot) → Fml
-lends_both V m number r = LendsSo (store_row V) V m r (λ es value. es ≡ set_value (λ k. number == k) m.now value) (λ es. es ≡ m.now)
+abbrev pub lends_store : (V : RattleType) → MutBor (List (ℕ × V.Denot)) → ℕ → Option (MutBor V.Denot) → Fml
+lends_store V m number r = LendsSo (store_row V) V m r (λ es value. es ≡ set_value (λ k. number == k) m.now value) (λ es. es ≡ m.now)

@@ -1,5 +1,6 @@
 //! A few values with their numbers, found one after another.
-ghost use Rattle.std.specs.Prelude.{◌≡◌, ◌+◌, ◌<◌, ◌≤◌, ◌==◌, ◌++◌, [], length, is_some, true, IfSome, IfNone, OnOk, OnErr, Some, None};
+ghost use Rattle.std.specs.Prelude.{◌≡◌, ℕ, ◌+◌, ◌<◌, ◌≤◌, ◌==◌, ◌++◌, [], length, true, IfOk, IfSome, IfNone, OnOk, OnErr, Some, None};
+ghost use Rattle.indexmap.specs.IndexMap.{spare};
 ghost use Rattle.std.specs.Borrow.{sem};
 ghost use Rattle.std.specs.List.{IsDistinct};
 ghost use Rattle.std.specs.Map.{keys_of, lookup};
@@ -9,6 +10,7 @@ ghost use Rattle.wl_number_map.specs.Lends.{lends_few};
 ghost use Rattle.wl_number_map.specs.Entries.{IsPut};
 ghost use Rattle.wl_number_map.specs.NumberMap.{shown};
 
+use indexmap::IndexMap;
 use std::alloc::{AllocError, Global};
 use std::marker::Model;
 
@@ -57,12 +59,6 @@ impl<V> Few<V> {
             place += 1;
         }
         None
-    }
-
-    pub(crate) fn contains(&self, number: u64) -> bool
-        ensures { result ≡ is_some (lookup (λ k. number == k) self.now) }
-    {
-        self.place(number).is_some()
     }
 
     pub(crate) fn len(&self) -> usize
@@ -124,12 +120,37 @@ impl<V> Few<V> {
         }
     }
 
-    pub(crate) fn clear(&mut self)
+    /// All values and one more, at a number that has none, in a hash map. Nothing moves before it has its memory.
+    pub(crate) fn spread(
+        &mut self,
+        alloc: Global,
+        number: u64,
+        value: V,
+    ) -> Result<Box<IndexMap<u64, V>>, AllocError>
     where
         V: Drop,
-        ensures { self.new ≡ [] }
+        requires absent { lookup (λ k. number == k) self.old ≡ None }
+        ensures updates { IfOk result (λ map. IsPut number (Some value) self.old map.value.entries) }
+        ensures err { OnErr result (self.new ≡ self.old) }
     {
-        self.rows.clear();
+        let mut map = Box::new(alloc, IndexMap::with_capacity(alloc, self.len() + 1)?)?;
+        self.move_to(&mut map);
+        put_reserved(&mut map, number, value);
+        Ok(map)
+    }
+
+    /// Moves each value to a hash map that has none and has room for more than those.
+    fn move_to(&mut self, map: &mut IndexMap<u64, V>)
+    where
+        V: Drop,
+        requires none { map.old.entries ≡ [] }
+        requires room { length self.old < spare map.old }
+        ensures moved { (q : ℕ) → lookup (λ k. q == k) map.new.entries ≡ lookup (λ k. q == k) self.old }
+        ensures room_left { 0 < spare map.new }
+    {
+        while let Some((number, value)) = self.rows.pop() {
+            put_reserved(map, number, value);
+        }
     }
 
     /// Each value comes to a list, with its number.
@@ -151,4 +172,13 @@ fn make_room<V>(rows: &mut Vec<(u64, V)>) -> Result<(), AllocError>
         return Ok(());
     }
     rows.reserve_exact(rows.len().max(1))
+}
+
+/// Puts a value at a number of a hash map that has room for it.
+fn put_reserved<V: Drop>(map: &mut IndexMap<u64, V>, number: u64, value: V)
+    requires { 0 < spare map.old }
+    ensures updates { IsPut number (Some value) map.old.entries map.new.entries }
+    ensures room { spare map.old ≤ spare map.new + 1 }
+{
+    map.insert(number, value).unwrap();
 }

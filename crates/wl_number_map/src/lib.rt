@@ -1,9 +1,8 @@
-//! Values by number: the first few stand together, the others are found by hash. Contracts see them in the order of the
-//! numbers.
+//! Values by number: a few stand together, and once there are more, all are found by hash. Contracts see them in the
+//! order of the numbers.
 #![tactic(auto)]
 
 mod few;
-mod many;
 mod map;
 mod rows;
 mod store;

@@ -13,11 +13,13 @@ use crate::store::Store;
 use std::alloc::{AllocError, Global};
 use std::marker::Model;
 
-/// Values by number: a call takes the same few steps whatever number of values there is. The first few stand together, and
-/// the others are found by hash. The map keeps no order; contracts see its entries in the order of their numbers, so that
-/// it can stand where an ordered map would. The hash is a fixed one, so the numbers should be of the program's own making.
+/// Values by number: a call takes the same few steps whatever number of values there is. Up to four stand together, and
+/// once there are more, all are found by hash. The map keeps no order; contracts see its entries in the order of their
+/// numbers, so that it can stand where an ordered map would. The hash is a fixed one, so the numbers should be of the
+/// program's own making.
 pub struct NumberMap<V> {
     store: Store<V>,
+    alloc: Global,
 }
 
 impl<V> Model for NumberMap<V> {
@@ -33,7 +35,7 @@ impl<V> Model for NumberMap<V> {
 // Written out, since a derived one is read in place wherever a map is dropped.
 impl<V: Drop> Drop for NumberMap<V> {
     fn drop(self) {
-        let NumberMap { store } = self;
+        let NumberMap { store, alloc: _ } = self;
         drop(store);
     }
 }
@@ -45,6 +47,7 @@ impl<V> NumberMap<V> {
     {
         NumberMap {
             store: Store::new(alloc),
+            alloc,
         }
     }
 
@@ -91,7 +94,7 @@ impl<V> NumberMap<V> {
         ensures ordered { IsOrdered self.new }
         ensures was_ordered { IsOrdered self.old }
     {
-        self.store.insert(number, value)
+        self.store.insert(self.alloc, number, value)
     }
 
     /// Takes the value at a number out.
@@ -120,6 +123,6 @@ impl<V> NumberMap<V> {
         ensures empty { self.new.entries ≡ [] }
         ensures ordered { IsOrdered self.new }
     {
-        self.store.clear();
+        self.store.clear(self.alloc);
     }
 }

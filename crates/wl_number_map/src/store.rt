@@ -1,37 +1,39 @@
-//! Where the values stand: a few together, the others where they are found by hash.
+//! Where the values stand: a few together, or all where they are found by hash.
 ghost use Rattle.std.specs.Prelude.{◌≡◌, ◌+◌, ◌<◌, ◌^◌, ◌==◌, ◌++◌, [], length, IfOk, IfNone, OnOk, OnErr, Some, None};
 ghost use Rattle.std.specs.Borrow.{sem};
 ghost use Rattle.std.specs.List.{IsDistinct};
 ghost use Rattle.std.specs.Map.{keys_of, lookup};
 ghost use Rattle.std.specs.Option.{option_copied, option_copied_mut};
-ghost use Rattle.wl_number_map.specs.Lends.{lends_both};
+ghost use Rattle.wl_number_map.specs.Lends.{lends_store};
 ghost use Rattle.wl_number_map.specs.Entries.{IsPut};
 ghost use Rattle.wl_number_map.specs.NumberMap.{shown};
 
 use crate::few::Few;
-use crate::many::Many;
+use indexmap::IndexMap;
 use std::alloc::{AllocError, Global};
 use std::marker::Model;
 use std::mem;
 
-/// Values with distinct numbers, in any order. A value that comes while all stand together stands with them, if there is
-/// room; where some are found by hash, each new one is too.
+/// Values with distinct numbers, in any order.
 #[derive(Drop)]
 pub(crate) struct Store<V> {
-    few: Few<V>,
-    many: Many<V>,
-    alloc: Global,
+    held: Held<V>,
+}
+
+/// A store that came to many values keeps to the hash map when it shrinks, so that no value moves twice.
+#[derive(Drop)]
+enum Held<V> {
+    Few(Few<V>),
+    Many(Box<IndexMap<u64, V>>),
 }
 
 impl<V> Model for Store<V> {
-    ghost use Rattle.std.specs.Prelude.{ℕ, List, ◌++◌};
-    ghost use Rattle.wl_number_map.specs.Entries.{AreApart};
+    ghost use Rattle.std.specs.Prelude.{ℕ, List};
+    ghost use Rattle.wl_number_map.specs.Entries.{held_entries};
 
     ghost Value = { List (ℕ × V) };
 
-    ghost view = { λ s. s.few ++ s.many };
-
-    ghost invariant = { λ s. AreApart s.few s.many };
+    ghost view = { λ s. held_entries s.held };
 }
 
 impl<V> Store<V> {
@@ -39,9 +41,7 @@ impl<V> Store<V> {
         ensures { result ≡ [] }
     {
         Store {
-            few: Few::new(alloc),
-            many: Many::new(),
-            alloc,
+            held: Held::Few(Few::new(alloc)),
         }
     }
 
@@ -50,30 +50,38 @@ impl<V> Store<V> {
         ensures small { result + 4 < 2 ^ 64 }
         ensures distinct { IsDistinct (λ a b. a == b) (keys_of self.now) }
     {
-        self.few.len() + self.many.len()
+        match &self.held {
+            Held::Few(few) => few.len(),
+            Held::Many(map) => map.len(),
+        }
     }
 
     pub(crate) fn get(&self, number: u64) -> Option<&V>
         ensures { option_copied result ≡ lookup (λ k. number == k) self.now }
     {
-        match self.few.get(number) {
-            Some(value) => Some(value),
-            None => self.many.get(number),
+        match &self.held {
+            Held::Few(few) => few.get(number),
+            Held::Many(map) => map.get(&number),
         }
     }
 
     pub(crate) fn get_mut(&mut self, number: u64) -> Option<&mut V>
-        ensures* writes_back { sem 𝓛 (lends_both V.row self.entry number result) }
+        ensures* writes_back { sem 𝓛 (lends_store V.row self.entry number result) }
         ensures value { option_copied_mut result ≡ lookup (λ k. number == k) self.old }
     {
-        if self.few.contains(number) {
-            return self.few.get_mut(number);
+        match &mut self.held {
+            Held::Few(few) => few.get_mut(number),
+            Held::Many(map) => map.get_mut(&number),
         }
-        self.many.get_mut(number)
     }
 
     /// Puts a value at a number. The value that was there is the answer.
-    pub(crate) fn insert(&mut self, number: u64, value: V) -> Result<Option<V>, AllocError>
+    pub(crate) fn insert(
+        &mut self,
+        alloc: Global,
+        number: u64,
+        value: V,
+    ) -> Result<Option<V>, AllocError>
     where
         V: Drop,
         ensures old { IfOk result (λ old. old ≡ lookup (λ k. number == k) self.old) }
@@ -81,14 +89,20 @@ impl<V> Store<V> {
         ensures absent { OnErr result (lookup (λ k. number == k) self.old ≡ None) }
         ensures err { OnErr result (self.new ≡ self.old) }
     {
-        if let Some(old) = self.few.get_mut(number) {
+        let few = match &mut self.held {
+            Held::Few(few) => few,
+            Held::Many(map) => return put(map, number, value),
+        };
+        if let Some(old) = few.get_mut(number) {
             return Ok(Some(mem::replace(old, value)));
         }
-        if self.many.len() == 0 && self.few.has_room() {
-            self.few.push(number, value)?;
+        if few.has_room() {
+            few.push(number, value)?;
             return Ok(None);
         }
-        self.many.insert(self.alloc, number, value)
+        let map = few.spread(alloc, number, value)?;
+        self.held = Held::Many(map);
+        Ok(None)
     }
 
     /// Takes the value at a number out.
@@ -97,9 +111,9 @@ impl<V> Store<V> {
         ensures updates { IsPut number None self.old self.new }
         ensures unchanged { IfNone result (self.new ≡ self.old) }
     {
-        match self.few.remove(number) {
-            Some(value) => Some(value),
-            None => self.many.remove(number),
+        match &mut self.held {
+            Held::Few(few) => few.remove(number),
+            Held::Many(map) => map.swap_remove(&number),
         }
     }
 
@@ -109,17 +123,41 @@ impl<V> Store<V> {
         ensures distinct { IfOk result (λ rows. IsDistinct (λ a b. a == b) (keys_of self.now)) }
     {
         let mut rows = Vec::with_capacity(alloc, self.len())?;
-        self.few.list(&mut rows)?;
-        self.many.list(&mut rows)?;
+        match &self.held {
+            Held::Few(few) => few.list(&mut rows)?,
+            Held::Many(map) => list(map, &mut rows)?,
+        }
         Ok(rows)
     }
 
-    pub(crate) fn clear(&mut self)
+    pub(crate) fn clear(&mut self, alloc: Global)
     where
         V: Drop,
         ensures { self.new ≡ [] }
     {
-        self.few.clear();
-        self.many.clear();
+        self.held = Held::Few(Few::new(alloc));
     }
+}
+
+/// Puts a value at a number of a hash map.
+fn put<V: Drop>(map: &mut IndexMap<u64, V>, number: u64, value: V) -> Result<Option<V>, AllocError>
+    ensures old { IfOk result (λ old. old ≡ lookup (λ k. number == k) map.old.entries) }
+    ensures updates { OnOk result (IsPut number (Some value) map.old.entries map.new.entries) }
+    ensures absent { OnErr result (lookup (λ k. number == k) map.old.entries ≡ None) }
+    ensures err { OnErr result (map.new.entries ≡ map.old.entries) }
+{
+    match map.insert(number, value) {
+        Ok(old) => Ok(old),
+        Err(_) => Err(AllocError),
+    }
+}
+
+/// Each value of a hash map comes to a list, with its number.
+fn list<'a, V>(map: &'a IndexMap<u64, V>, rows: &mut Vec<(u64, &'a V)>) -> Result<(), AllocError>
+    ensures { OnOk result (shown rows.new.items ≡ shown rows.old.items ++ map.now.entries) }
+{
+    for (number, value) in map.iter() {
+        rows.push((*number, value))?;
+    }
+    Ok(())
 }

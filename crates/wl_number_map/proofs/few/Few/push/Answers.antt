@@ -2,7 +2,7 @@ use Rattle.std.proofs.Common.{◌≡◌, ◌≤◌, ◌+◌, ◌==◌, length, �
 use Rattle.std.specs.Prelude.{None}
 use Rattle.std.specs.Map.{lookup}
 use Rattle.std.proofs.lemmas.List.{length_push}
-use Rattle.wl_number_map.proofs.Both.{put_pushed}
+use Rattle.wl_number_map.proofs.Put.{put_pushed}
 use Rattle.wl_number_map.proofs.First.{distinct_pushed}
 use Rattle.wl_number_map.proofs.few.Few.push.Given.{Over}
 use Rattle.wl_number_map.proofs.few.Few.push.Goals as goal

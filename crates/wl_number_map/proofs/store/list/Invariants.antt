@@ -1,6 +1,6 @@
 use Rattle.std.proofs.Common.{◌≡◌, ◌++◌}
 use Rattle.wl_number_map.specs.NumberMap.{shown}
-use Rattle.wl_number_map.proofs.many.Many.list.Given as goal
+use Rattle.wl_number_map.proofs.store.list.Given as goal
 
 -- the rows that were there, those so far, and those to come
 abbrev pub invariant-loop-number : goal.invariant-loop-number
