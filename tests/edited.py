@@ -112,11 +112,17 @@ class Record:
     """What is on record: for each edit the digest at its last try, and where it was refused."""
 
     def __init__(self) -> None:
-        self.tried: dict[str, tuple[str, str]] = {}
+        self.tried = self.read()
+        self.changed: dict[str, tuple[str, str] | None] = {}
+
+    @staticmethod
+    def read() -> dict[str, tuple[str, str]]:
+        tried = {}
         for line in RECORD.read_text().splitlines() if RECORD.is_file() else ():
             if line and not line.startswith("#"):
                 name, digest, place = line.split(" ", 2)
-                self.tried[name] = digest, place
+                tried[name] = digest, place
+        return tried
 
     def is_due(self, edit: Edit, digest: str) -> bool:
         return self.tried.get(edit.name, ("", ""))[0] != digest
@@ -126,13 +132,15 @@ class Record:
         return sorted({*self.tried} - {edit.name for edit in edits})
 
     def note(self, edit: Edit, digest: str, place: str) -> None:
-        self.tried[edit.name] = digest, place
+        self.changed[edit.name] = digest, place
 
     def forget(self, name: str) -> None:
-        self.tried.pop(name, None)
+        self.changed[name] = None
 
     def write(self) -> None:
-        """Writes the record whole, then puts it in the place of the old one."""
+        """Writes what changed into the record, which another run may have changed meanwhile, then puts it in the place
+        of the old one."""
+        self.tried = {name: it for name, it in (self.read() | self.changed).items() if it is not None}
         lines = [f"{name} {digest} {place}\n" for name, (digest, place) in sorted(self.tried.items())]
         new = RECORD.with_name("TRIED.new")
         new.write_text(HEAD + "".join(lines))
