@@ -4,10 +4,11 @@ ghost use Rattle.std.specs.Prelude.{◌≡◌, false, true, IfErr, IfOk, OnOk};
 ghost use Rattle.wl_admission.specs.Handshakes.{terms_for};
 ghost use Rattle.wl_daemon.specs.Desks.{may_ask_for};
 
+use crate::loop_state::LoopState;
 use std::alloc::Global;
-use std::sync::{Arc, Wait};
+use std::sync::Wait;
 use wl_admission::Admitted;
-use wl_manager::{Bell, Ring};
+use wl_manager::Bell;
 use wl_origin::{KeyFault, key_of};
 use wl_server::{NotOpened, Opener};
 use wl_service::{Client, Leaving, OpenFault, Service};
@@ -20,17 +21,20 @@ pub struct Desk<'a> {
     pub alloc: Global,
     pub service: &'a Service,
     pub admitted: Admitted,
-    /// What is marked where something changed for the connection, and as what. None where its peer wants no pushes.
-    pub ring: Option<&'a Arc<Ring>>,
+    /// What the loop has that serves the connection.
+    pub event_loop: &'a LoopState,
+    /// The connection, among those of its loop.
     pub key: u64,
 }
 
 impl Desk<'_> {
+    /// Marks the connection where something changed for it; none where its peer wants no pushes.
     fn bell(&self) -> Result<Option<Bell>, Memory> {
-        match self.ring {
-            Some(ring) => Ok(Some(Bell::new(ring, self.key)?)),
-            None => Ok(None),
+        if !self.admitted.is_pushed {
+            return Ok(None);
         }
+        let ring = self.event_loop.ring.places();
+        Ok(Some(Bell::new(ring, self.key)?))
     }
 
     /// Whether the URL is for this peer. A text that is no URL is for nobody, which the service says.

@@ -1,6 +1,7 @@
 //! What the event loops have behind them.
 
 use crate::desk::Desk;
+use crate::loop_state::LoopState;
 use crate::member::Member;
 use crate::news::tell_log;
 use crate::ring::LoopRing;
@@ -19,7 +20,7 @@ pub struct Hall<'a, L> {
     pub alloc: Global,
     pub service: &'a Service,
     /// One for each loop.
-    pub rings: &'a Vec<LoopRing>,
+    pub loops: &'a Vec<LoopState>,
     pub limits: Limits,
     pub log: &'a L,
 }
@@ -40,7 +41,8 @@ impl<'a, L: Log> Host for Hall<'a, L> {
     }
 
     fn ring(&self, event_loop: usize) -> Option<&LoopRing> {
-        self.rings.get(event_loop)
+        let state = self.loops.get(event_loop)?;
+        Some(&state.ring)
     }
 
     fn begin<R: Wait>(
@@ -49,16 +51,16 @@ impl<'a, L: Log> Host for Hall<'a, L> {
         place: Place,
         admitted: Admitted,
     ) -> Result<Member<'a>, Memory> {
-        let rings: &'a Vec<LoopRing> = self.rings;
-        let ring = match rings.get(place.event_loop) {
-            Some(ring) if admitted.is_pushed => Some(ring.places()),
-            _ => None,
+        let loops: &'a Vec<LoopState> = self.loops;
+        // A connection of no loop has no room to be read in, and nobody who would tell it what changed.
+        let Some(event_loop) = loops.get(place.event_loop) else {
+            return Err(Memory);
         };
         Ok(Member::new(Desk {
             alloc: self.alloc,
             service: self.service,
             admitted,
-            ring,
+            event_loop,
             key: place.key as u64,
         }))
     }

@@ -8,6 +8,7 @@
 mod desk;
 mod entry;
 mod hall;
+mod loop_state;
 mod member;
 mod news;
 mod ring;
@@ -18,6 +19,7 @@ mod watching;
 pub use crate::desk::Desk;
 pub use crate::entry::{EntryFault, may_listen, places_for, read_rules, rules_with, trusted_scope};
 pub use crate::hall::Hall;
+pub use crate::loop_state::LoopState;
 pub use crate::member::Member;
 pub use crate::ring::LoopRing;
 pub use crate::serving::{ServeFault, Setup, serve};

@@ -28,7 +28,9 @@ impl<'a> Speaker for Member<'a> {
 
     fn answer<R: Wait>(self, rt: &R, message: &[u8]) -> Result<(Member<'a>, Answer), Memory> {
         let Member { peer, desk } = self;
-        match peer.answer_by(rt, &desk, message) {
+        // The room is locked for this message alone.
+        let answered = peer.answer_by(rt, &desk, message, &mut desk.event_loop.scratch.lock(rt));
+        match answered {
             Ok((peer, text)) => Ok((Member { peer, desk }, Answer::Text(text))),
             Err(NoAnswer::Memory) => Err(Memory),
             Err(NoAnswer::Forbidden) => Ok((

@@ -1,7 +1,7 @@
 //! The threads of a server.
 
 use crate::hall::Hall;
-use crate::ring::LoopRing;
+use crate::loop_state::LoopState;
 use crate::token_file::TokenFile;
 use crate::watching::{Over, watch};
 use log::Log;
@@ -69,12 +69,12 @@ impl From<io::Error> for ServeFault {
     }
 }
 
-fn rings_for(alloc: Global, loops: usize) -> Result<Vec<LoopRing>, Memory> {
-    let mut rings = Vec::new(alloc);
+fn states_for(alloc: Global, loops: usize) -> Result<Vec<LoopState>, Memory> {
+    let mut states = Vec::new(alloc);
     for _ in 0..loops {
-        rings.push(LoopRing::new(alloc)?)?;
+        states.push(LoopState::new(alloc)?)?;
     }
-    Ok(rings)
+    Ok(states)
 }
 
 /// Reads standard input to its end, or until it fails.
@@ -113,11 +113,11 @@ where
         while_input,
     } = asked;
     let service = Service::with_keeping(rt, alloc, Keeping::Used { most: managers })?;
-    let rings = rings_for(alloc, loops)?;
+    let states = states_for(alloc, loops)?;
     let hall = Hall {
         alloc,
         service: &service,
-        rings: &rings,
+        loops: &states,
         limits,
         log,
     };

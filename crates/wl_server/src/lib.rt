@@ -32,3 +32,4 @@ pub use crate::peer::Peer;
 pub use crate::relaying::relay;
 pub use crate::serving::serve_one;
 pub use crate::talk::Gate;
+pub use wl_codec::Scratch;

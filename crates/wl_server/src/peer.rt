@@ -26,8 +26,6 @@ pub struct Peer {
     session: Session,
     entered: Option<Entered>,
     requests: Requests,
-    // Lent to the reading of each message.
-    scratch: Scratch,
 }
 
 impl Model for Peer {
@@ -48,11 +46,11 @@ impl Peer {
             session: Session::new(alloc),
             entered: None,
             requests: Requests::new(alloc),
-            scratch: Scratch::new(alloc),
         }
     }
 
-    /// `answer_by` the service itself, which keeps each manager and opens any URL.
+    /// `answer_by` the service itself, which keeps each manager and opens any URL. The room in which the message is read
+    /// is made for it alone: who reads many keeps one, and lends it to `answer_by`.
     pub fn answer<R: Wait>(
         self,
         rt: &R,
@@ -61,7 +59,21 @@ impl Peer {
     ) -> Result<(Peer, String), Memory>
         ensures { IfOk result (λ said. Answers self message.now (string_bytes said.1) said.0) }
     {
-        match self.answer_by(rt, service, message) {
+        let mut scratch = Scratch::new(self.alloc);
+        self.answer_in(rt, service, message, &mut scratch)
+    }
+
+    /// `answer`, where the message is read in this room.
+    pub(crate) fn answer_in<R: Wait>(
+        self,
+        rt: &R,
+        service: &Service,
+        message: &[u8],
+        scratch: &mut Scratch,
+    ) -> Result<(Peer, String), Memory>
+        ensures { IfOk result (λ said. Answers self message.now (string_bytes said.1) said.0) }
+    {
+        match self.answer_by(rt, service, message, scratch) {
             Ok(said) => Ok(said),
             // Such a service gives no other cause.
             Err(_) => Err(Memory),
@@ -69,17 +81,18 @@ impl Peer {
     }
 
     /// The reply to a message, as a text. The reply tells what became of the agent's requests since the last. Where
-    /// there is none the agent was terminated.
+    /// there is none the agent was terminated. The message is read in the scratch, which any peers may share.
     pub fn answer_by<R: Wait, O: Opener>(
         self,
         rt: &R,
         opener: &O,
         message: &[u8],
+        scratch: &mut Scratch,
     ) -> Result<(Peer, String), NoAnswer>
         ensures { IfOk result (λ said. Answers self message.now (string_bytes said.1) said.0) }
     {
         let mut peer = self;
-        match peer.reply(rt, opener, message) {
+        match peer.reply(rt, opener, message, scratch) {
             Ok(text) => Ok((peer, text)),
             Err(fault) => {
                 peer.end_by(rt, opener);
@@ -93,10 +106,11 @@ impl Peer {
         rt: &R,
         opener: &O,
         message: &[u8],
+        scratch: &mut Scratch,
     ) -> Result<String, NoAnswer>
         ensures { IfOk result (λ text. Answers self.old message.now (string_bytes text) self.new) }
     {
-        let reading = read_message_with(self.alloc, message, &mut self.scratch)?;
+        let reading = read_message_with(self.alloc, message, scratch)?;
         let Plan { id, action } = self.session.plan(reading);
         let outcome = outcome_of(
             rt,
@@ -179,7 +193,6 @@ impl Peer {
             session: _session,
             entered,
             requests,
-            scratch: _scratch,
         } = self;
         drop(requests);
         entered

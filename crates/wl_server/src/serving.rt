@@ -10,6 +10,7 @@ use crate::{ServeEnd, ServeFault};
 use std::alloc::Global;
 use std::io::{Read, Write};
 use std::sync::Wait;
+use wl_codec::Scratch;
 use wl_service::Service;
 
 /// A gate that nobody stands at.
@@ -52,6 +53,7 @@ pub fn serve_gated<R: Wait, S: Read + Write + Drop, G: Gate>(
             let visit = Visit {
                 peer: Peer::new(alloc),
                 service,
+                scratch: Scratch::new(alloc),
             };
             talk(rt, &mut socket, visit, gate, connection)
         }

@@ -3,6 +3,7 @@
 use crate::link::Speaker;
 use crate::peer::Peer;
 use std::sync::Wait;
+use wl_codec::Scratch;
 use wl_service::Service;
 use wl_types::Memory;
 
@@ -10,6 +11,8 @@ use wl_types::Memory;
 pub struct Visit<'a> {
     pub peer: Peer,
     pub service: &'a Service,
+    /// Lent to the reading of each message.
+    pub scratch: Scratch,
 }
 
 impl Speaker for Visit<'_> {
@@ -18,15 +21,26 @@ impl Speaker for Visit<'_> {
     ghost answers = { λ old message text new. Answers old.peer message text new.peer };
 
     fn answer<R: Wait>(self, rt: &R, message: &[u8]) -> Result<(Self, String), Memory> {
-        let Visit { peer, service } = self;
-        match peer.answer(rt, service, message) {
-            Ok((peer, text)) => Ok((Visit { peer, service }, text)),
-            Err(Memory) => Err(Memory),
-        }
+        let Visit {
+            peer,
+            service,
+            mut scratch,
+        } = self;
+        let (peer, text) = peer.answer_in(rt, service, message, &mut scratch)?;
+        let next = Visit {
+            peer,
+            service,
+            scratch,
+        };
+        Ok((next, text))
     }
 
     fn end<R: Wait>(self, rt: &R) {
-        let Visit { peer, service: _ } = self;
+        let Visit {
+            peer,
+            service: _,
+            scratch: _scratch,
+        } = self;
         peer.end(rt)
     }
 }

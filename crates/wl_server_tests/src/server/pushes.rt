@@ -6,7 +6,7 @@ use std::alloc::Global;
 use std::sync::Wait;
 use std::test::Fail;
 use wl_samples::ask;
-use wl_server::{NoAnswer, NotOpened, Opener, Peer};
+use wl_server::{NoAnswer, NotOpened, Opener, Peer, Scratch};
 use wl_service::{Client, Keeping, Leaving, Service};
 use wl_types::{Kind, Mode, Text};
 
@@ -74,7 +74,8 @@ impl Opener for Forbidding {
 
 /// What a new peer answers to an open, or why it doesn't.
 fn open_by<R: Wait, O: Opener>(rt: &R, alloc: Global, opener: &O) -> Result<String, NoAnswer> {
-    let (peer, text) = Peer::new(alloc).answer_by(rt, opener, OPEN)?;
+    let mut scratch = Scratch::new(alloc);
+    let (peer, text) = Peer::new(alloc).answer_by(rt, opener, OPEN, &mut scratch)?;
     peer.end_by(rt, opener);
     Ok(text)
 }
