@@ -90,9 +90,14 @@ class TlsPeer(Peer):
 class Front:
     """A daemon as one comes to it through the proxy."""
 
-    def __init__(self, port: int, certificate: Certificate) -> None:
-        self.port, self.certificate = port, certificate
+    def __init__(self, port: int, certificate: Certificate, child: subprocess.Popen[bytes]) -> None:
+        self.port, self.certificate, self.child = port, certificate, child
         self.url = f"wss://localhost:{port}/"
+        self.first = self.workers()
+
+    def workers(self) -> set[str]:
+        """The processes that serve for the proxy's first one."""
+        return set(Path(f"/proc/{self.child.pid}/task/{self.child.pid}/children").read_text().split())
 
     def peer(self, *headers: str) -> TlsPeer:
         return TlsPeer(self.port, self.certificate.context, *headers)
@@ -125,7 +130,7 @@ def without_ipv6(text: str) -> str:
 class Nginx:
     """As root it would have its workers be another user, and without root it may not."""
 
-    name, file = "nginx", "nginx.conf"
+    name, file, reload = "nginx", "nginx.conf", signal.SIGHUP
 
     def __init__(self, room: Path, certificate: Certificate) -> None:
         self.room = room
@@ -152,7 +157,7 @@ class Nginx:
 class Haproxy:
     """It wants certificate and key in one file."""
 
-    name, file = "haproxy", "haproxy.cfg"
+    name, file, reload = "haproxy", "haproxy.cfg", signal.SIGUSR2
 
     def __init__(self, room: Path, certificate: Certificate) -> None:
         self.room = room
@@ -168,7 +173,7 @@ class Haproxy:
     def commands(self, text: str) -> tuple[list[str], list[str]]:
         (self.room / "haproxy.cfg").write_text(text)
         words = ["haproxy", "-f", str(self.room / "haproxy.cfg")]
-        return [*words, "-c"], [*words, "-db"]
+        return [*words, "-c"], [*words, "-W", "-db"]
 
 
 Proxy = Nginx | Haproxy
@@ -205,7 +210,7 @@ def front_of(
     with said.open("wb") as out:
         child = subprocess.Popen(serve, stdin=subprocess.DEVNULL, stdout=out, stderr=out, env=environment())
     with served(child, port, said):
-        yield Front(port, certificate)
+        yield Front(port, certificate, child)
 
 
 def hands_over(built: Built, proxy: Proxy, certificate: Certificate) -> None:
@@ -261,6 +266,20 @@ def bounds_clients(built: Built, proxy: Proxy, certificate: Certificate) -> None
         expect("what the second is told", second.ask('{"id":1,"op":"poll"}'), '{"id":1,"notices":[],"ok":{}}')
 
 
+def reload_keeps_locks(built: Built, proxy: Proxy, certificate: Certificate) -> None:
+    """A reload of the proxy, as for a new certificate, ends no connection, and so no lock."""
+    with Daemon(built.program) as daemon, front_of(built, proxy, certificate, daemon.port) as front:
+        holder, other = front.opened("https://a.test/"), front.opened("https://a.test/")
+        wish = '{"id":1,"name":"db","op":"request","options":{"ifAvailable":true}}'
+        expect("whether it is granted", '"phase":"granted"' in holder.ask(wish), True)
+        front.child.send_signal(proxy.reload)
+        until_true("another process serves", lambda: front.workers() - front.first)
+        expect("whether it is free", '"phase":"unavailable"' in other.ask(wish), True)
+        late = front.opened("https://a.test/")
+        expect("whether a new client is told so too", '"phase":"unavailable"' in late.ask(wish), True)
+        expect("the holder's reply", holder.ask('{"id":2,"op":"poll"}'), '{"id":2,"notices":[],"ok":{}}')
+
+
 def is_patient(proxy: Proxy, text: str) -> None:
     """The proxy waits for longer than it takes the daemon to end a silent peer, which is twice its 30 seconds."""
     seconds = [int(it) for it in re.findall(r"(?:proxy_(?:read|send)_timeout|timeout tunnel) +(\d+)s", text)]
@@ -301,6 +320,7 @@ def checks_of(kind: type[Nginx] | type[Haproxy], built: Built) -> Checks:
         ("headers go through", passes_headers),
         ("silence is outlasted", outlasts_silence),
         ("a client has so many connections", bounds_clients),
+        ("a reload keeps locks", reload_keeps_locks),
         ("a client asks again after a restart", asks_again),
     ):
         yield f"{name}, by {kind.name}", partial(check, built, proxy, certificate)

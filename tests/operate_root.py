@@ -131,10 +131,8 @@ def node_gets_locks(root: Root) -> None:
 
 
 def start_as_systemd(root: Root) -> None:
-    """The service's folder as systemd makes it: where only root comes by its path, and its user's alone."""
-    folder = "/run/private/weblocks"
-    make = f"rm -rf /run/weblocks {folder} && install -d -m 700 /run/private"
-    root.shell(f"{make} && install -d -o {USER} -g {USER} -m 700 {folder} && ln -s private/weblocks /run/weblocks")
+    """The service's folder as systemd makes it, for its user alone."""
+    root.shell(f"rm -rf /run/weblocks && install -d -o {USER} -g {USER} -m 700 /run/weblocks")
 
 
 def lend(root: Root, tokens: str, mode: int = 600, status: int = 0) -> str:
@@ -173,8 +171,6 @@ def tokens_change_under_a_lock(root: Root) -> None:
     """A reload lets a new token in within seconds, keeps an old one out, and ends no lock."""
     start_as_systemd(root)
     lend(root, "first\n")
-    # (its user comes to the folder by the service's own mounts, which aren't there)
-    root.shell("chmod 711 /run/private")
     before = root.inside(f"--userspec={USER}:{USER}")
     with Daemon("/usr/bin/weblocks", "--token-file", "/run/weblocks/tokens", before=before) as daemon:
         def enters(token: str) -> bool:
@@ -190,6 +186,18 @@ def tokens_change_under_a_lock(root: Root) -> None:
             until_true("the new token comes in", lambda: enters("second"))
             expect("whether the old one does", enters("first"), False)
             expect("what the holder says", holder.communicate(b"\n", timeout=SECONDS)[0], b"kept\n")
+
+
+def stays_as_it_was_set(root: Root) -> None:
+    """An upgrade, here to the same version, leaves the administrator's options, tokens and disabled service."""
+    root.shell('echo "OPTIONS=\\"--idle 60\\"" >/etc/default/weblocks')
+    lend(root, "first\n")
+    root.run("systemctl", "disable", "weblocks.service")
+    root.run("dpkg", "--no-triggers", "-i", "/tmp/weblocks.deb")
+    expect("the options", root.shell("cat /etc/default/weblocks"), 'OPTIONS="--idle 60"')
+    expect("the tokens", root.shell("stat -c %a /etc/weblocks/tokens; cat /etc/weblocks/tokens"), "600\nfirst")
+    wants = "/etc/systemd/system/multi-user.target.wants/weblocks.service"
+    expect("whether it stays disabled", root.shell(f"test ! -e {wants} && echo disabled"), "disabled")
 
 
 def is_removed(root: Root) -> None:
@@ -244,6 +252,7 @@ def root_checks(built: Built, needs: Needs) -> Checks:
             yield "the service's user is lent the tokens", lambda: tokens_are_lent(root)
             yield "links lead root nowhere", lambda: links_lead_nowhere(root)
             yield "tokens change under a lock", lambda: tokens_change_under_a_lock(root)
+            yield "an upgrade leaves what was set", lambda: stays_as_it_was_set(root)
             yield "the package is removed", lambda: is_removed(root)
             yield "the package is purged", lambda: is_purged(root)
         finally:
