@@ -93,7 +93,6 @@ class Front:
     def __init__(self, port: int, certificate: Certificate, child: subprocess.Popen[bytes]) -> None:
         self.port, self.certificate, self.child = port, certificate, child
         self.url = f"wss://localhost:{port}/"
-        self.first = self.workers()
 
     def workers(self) -> set[str]:
         """The processes that serve for the proxy's first one."""
@@ -272,8 +271,11 @@ def reload_keeps_locks(built: Built, proxy: Proxy, certificate: Certificate) -> 
         holder, other = front.opened("https://a.test/"), front.opened("https://a.test/")
         wish = '{"id":1,"name":"db","op":"request","options":{"ifAvailable":true}}'
         expect("whether it is granted", '"phase":"granted"' in holder.ask(wish), True)
+        before = front.workers()
         front.child.send_signal(proxy.reload)
-        until_true("another process serves", lambda: front.workers() - front.first)
+        until_true("another process serves", lambda: front.workers() - before)
+        # An old process that gave up its connections would do so soon.
+        time.sleep(1)
         expect("whether it is free", '"phase":"unavailable"' in other.ask(wish), True)
         late = front.opened("https://a.test/")
         expect("whether a new client is told so too", '"phase":"unavailable"' in late.ask(wish), True)
