@@ -25,7 +25,7 @@ mount -t overlay overlay -o "lowerdir=/,upperdir=$1/upper,workdir=$1/work" "$1/r
 for it in run tmp; do mount -t tmpfs tmpfs "$1/root/$it"; done
 for it in proc dev; do mount --rbind "/$it" "$1/root/$it"; done
 cp -- "$2" "$1/root/tmp/weblocks.deb"
-echo ready
+echo "ready $$"
 exec sleep 1000
 """
 ENTERED = "import asyncio, sys, weblocks\n\n\nasync def main(url, token):\n"
@@ -62,13 +62,17 @@ class Root:
             words, stdin=subprocess.DEVNULL, stdout=subprocess.PIPE, stderr=subprocess.PIPE
         )
         assert self.child.stdout is not None
-        line = read_line(self.child.stdout.fileno(), time.monotonic() + SECONDS)
-        self.fault = "" if line == b"ready\n" else self.child.communicate(timeout=SECONDS)[1].decode().strip()
+        said = read_line(self.child.stdout.fileno(), time.monotonic() + SECONDS).decode().split()
+        self.fault = ""
+        if said[:1] != ["ready"]:
+            self.fault = self.child.communicate(timeout=SECONDS)[1].decode().strip() or "it can't be made"
+        # (the child may be sudo, which stays outside)
+        self.holder = "" if self.fault else said[1]
+        self.enter = [*as_root(), "nsenter", "--mount", f"--target={self.holder}", "--"]
 
     def inside(self, *before: str) -> list[str]:
         """The words before a command that is to be run in it."""
-        enter = [*as_root(), "nsenter", "--mount", f"--target={self.child.pid}", "--", "chroot"]
-        return [*enter, *before, str(self.place / "root")]
+        return [*self.enter, "chroot", *before, str(self.place / "root")]
 
     def run(self, *words: str, script: str = "", status: int | None = 0) -> Ended:
         ended = ran([*self.inside(), *words], 120, input=script.encode())
@@ -82,16 +86,15 @@ class Root:
 
     def left(self) -> list[str]:
         """What has the package's name in it among what was written since."""
-        words = [*as_root(), "nsenter", "--mount", f"--target={self.child.pid}", "--"]
-        found = ran([*words, "find", self.place / "upper", "-name", "*weblocks*", "!", "-type", "c"])
+        found = ran([*self.enter, "find", self.place / "upper", "-name", "*weblocks*", "!", "-type", "c"])
         if found.returncode:
             raise Wrong(text_of(found))
         return sorted(it.removeprefix(str(self.place / "upper")) for it in found.stdout.decode().split())
 
     def end(self) -> None:
-        if self.child.poll() is None:
-            subprocess.run([*as_root(), "kill", str(self.child.pid)], check=False)
-            self.child.communicate()
+        if self.holder:
+            ran([*as_root(), "kill", self.holder])
+            self.child.communicate(timeout=SECONDS)
 
 
 def is_installed(root: Root) -> None:
