@@ -1,7 +1,7 @@
 /* Loaded before a program, counts what it has by malloc and the like, in the file that LIVE_COUNTS names: how many
    blocks and bytes live now, how many were ever taken, and how many blocks of each size live. The counts are in memory
-   that the file shares, so whoever reads the file sees them as they are. A block's bytes are those that it has room for.
-   What it takes from the C library is declared here, as in tests/refuse_growth.c. */
+   that the file shares, so whoever reads the file sees them as they are. A block's bytes are those that it has room
+   for. What it takes from the C library is declared here, as in tests/refuse_growth.c. */
 typedef unsigned long size;
 
 extern void *__libc_malloc(size bytes);
