@@ -1,25 +1,27 @@
 #!/usr/bin/env python3
-"""Cycles a second over a daemon, beside a program that writes the same messages through the same library.
+"""Cycles a second over a server, beside a program that writes the same messages through the same library.
 
 A cycle is a request for a free lock and its release, each awaited, on one connection. The two take turns, so that
 both meet the same load of the machine. The time by the clock has the server's part in it, and means little on a machine
 with other work; the processor time is that of the client's process alone, and there the best round is the least
 disturbed.
 
-    PYTHONPATH=clients/python/src /usr/bin/python3 clients/python/bench/cycles.py [--program ./weblocks]
+    PYTHONPATH=clients/python/src /usr/bin/python3 clients/python/bench/cycles.py [--program ./weblocks] [--serve]
 """
 
 from __future__ import annotations
 
 import argparse
 import asyncio
+import contextlib
 import json
 import statistics
 import subprocess
 import sys
 import time
-from collections.abc import Callable, Coroutine
+from collections.abc import Callable, Coroutine, Iterator
 from dataclasses import dataclass, field
+from socket import create_server
 from typing import Any
 
 import websockets
@@ -62,10 +64,10 @@ async def run_client(locks: weblocks.LockManager, cycles: int) -> None:
             pass
 
 
-async def compare(url: str, cycles: int, rounds: int) -> None:
+async def compare(url: str, subprotocols: list[str] | None, cycles: int, rounds: int) -> None:
     plain, client = Times(), Times()
     async with (
-        websockets.connect(url, subprotocols=["weblocks.push"], compression=None, ping_interval=None) as socket,
+        websockets.connect(url, subprotocols=subprotocols, compression=None, ping_interval=None) as socket,
         weblocks.connect(url, origin=ORIGIN, bucket="client") as locks,
     ):
         for message in ({"id": 1, "op": "open", "url": ORIGIN, "bucket": "plain"}, {"id": 2, "op": "signal"}):
@@ -87,22 +89,40 @@ def compare_by(choose: Callable[[list[float]], float], plain: list[float], clien
     return f"{base * 1e6:6.0f} and {ours * 1e6:6.0f} us a cycle, ratio {ours / base:.2f}"
 
 
+@contextlib.contextmanager
+def run_server(command: list[str]) -> Iterator[str]:
+    """Runs a server for as long as the block lasts, which gets its URL."""
+    with subprocess.Popen(command, stdin=subprocess.PIPE, stdout=subprocess.PIPE, text=True) as server:
+        try:
+            assert server.stdout is not None
+            said, _space, place = server.stdout.readline().strip().partition(" ")
+            if said != "listening":
+                sys.exit("the server does not listen")
+            yield f"ws://127.0.0.1:{place.rpartition(':')[2]}"
+        finally:
+            server.terminate()
+
+
+def free_port() -> int:
+    with create_server(("127.0.0.1", 0)) as it:
+        port: int = it.getsockname()[1]
+        return port
+
+
 def main() -> None:
     words = argparse.ArgumentParser(description="Cycles a second, with and without the package.")
     words.add_argument("--program", default="./weblocks", help="the program that serves (default: ./weblocks)")
+    words.add_argument("--serve", action="store_true", help="by weblocks serve, which is polled, not by the daemon")
     words.add_argument("--cycles", type=int, default=100, help="in a round (default: 100)")
     words.add_argument("--rounds", type=int, default=50, help="of each (default: 50)")
     given = words.parse_args()
     command = [given.program, "daemon", "--listen", "127.0.0.1:0", "--while-input", "--log", "warn"]
-    with subprocess.Popen(command, stdin=subprocess.PIPE, stdout=subprocess.PIPE, text=True) as server:
-        if server.stdin is None or server.stdout is None:
-            sys.exit("the server has no pipes")
-        said, _space, place = server.stdout.readline().strip().partition(" ")
-        if said != "listening":
-            sys.exit("the server does not listen")
-        asyncio.run(compare(f"ws://{place}", given.cycles, given.rounds))
-        # With its input the server ends.
-        server.stdin.close()
+    subprotocols: list[str] | None = ["weblocks.push"]
+    if given.serve:
+        command = [given.program, "serve", "--port", str(free_port()), "--clients", "10000"]
+        subprotocols = None
+    with run_server(command) as url:
+        asyncio.run(compare(url, subprotocols, given.cycles, given.rounds))
 
 
 if __name__ == "__main__":

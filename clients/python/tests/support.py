@@ -245,6 +245,12 @@ class ServedCase(unittest.IsolatedAsyncioTestCase):
         while len((await locks.query()).pending) != count:
             assert time.monotonic() < end, f"there were never {count} requests pending"
 
+    async def until_held(self, locks: weblocks.LockManager, *names: str) -> None:
+        """Waits until just these are held and nothing waits: the server learns of a lost connection by and by."""
+        end = time.monotonic() + SECONDS
+        while (left := await locks.query()).pending or [it.name for it in left.held] != [*names]:
+            assert time.monotonic() < end, f"it was never so that just {names} were held"
+
     async def expect_nothing_left(self) -> None:
         """By another client's query, nothing is held or pending."""
         async with self.connect() as locks:

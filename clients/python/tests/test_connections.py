@@ -3,6 +3,7 @@
 import asyncio
 import contextlib
 import json
+import socket
 import time
 import unittest
 import unittest.mock
@@ -243,6 +244,24 @@ class CuttingOff:
             server.go_on()
             lock = await waiter
             lock.check()
+
+    async def test_what_is_asked_of_a_stopped_server_reaches_it_in_its_order_when_it_goes_on(self):
+        server = self.start_server()
+        self.addCleanup(server.kill)
+        async with self.connect(url=server.url, heartbeat=SECONDS) as locks:
+            connection = locks._dispatcher._agent._connection
+            way_out = connection._socket.transport.get_extra_info("socket")
+            way_out.setsockopt(socket.SOL_SOCKET, socket.SO_SNDBUF, 4096)
+            server.stop()
+            blocks = [locks.request("x" * 1000, if_available=True) for _ in range(2000)]
+            tasks = [asyncio.create_task(block.__aenter__()) for block in blocks]
+            await asyncio.sleep(0.1)
+            self.assertGreater(len(connection._outbox), 100)
+            server.go_on()
+            granted = [lock is not None for lock in await asyncio.gather(*tasks)]
+            self.assertEqual([True] + [False] * 1999, granted)
+            async with locks.request("other"):
+                self.assertEqual(0, len(connection._outbox))
 
     async def test_where_bytes_are_swallowed_the_lock_is_lost_and_waiting_requests_are_asked_again(self):
         with proxied(self.server.port) as proxy:

@@ -1,6 +1,7 @@
 """What a request, a lock and a query do, over a server that is polled and over one that pushes."""
 
 import asyncio
+import json
 import time
 import unittest
 
@@ -14,9 +15,14 @@ class Behaviour:
     def note_sent(self, locks):
         """A list of the operations that a manager asks for from now on."""
         sent = []
-        connection = locks._dispatcher._agent._connection
-        ask = connection.ask
-        connection.ask = lambda message, *rest: (sent.append(message["op"]), ask(message, *rest))
+        socket = locks._dispatcher._agent._connection._socket
+        send = socket.send
+
+        async def note(text):
+            sent.append(json.loads(text)["op"])
+            await send(text)
+
+        socket.send = note
         return sent
 
     async def test_a_block_holds_its_lock_and_the_lock_has_name_and_mode(self):

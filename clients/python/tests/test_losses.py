@@ -188,8 +188,7 @@ class Losses:
                         async with steady.request("busy"):
                             self.fail("the lock was granted")
             await cut
-            snapshot = await steady.query()
-            self.assertEqual((["busy"], []), ([info.name for info in snapshot.held], snapshot.pending))
+            await self.until_held(steady, "busy")
 
     async def test_where_the_connection_is_lost_before_the_release_was_answered_the_block_raises_LockLost(self):
         with self.assertRaises(weblocks.LockLost):

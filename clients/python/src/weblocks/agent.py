@@ -4,17 +4,15 @@ from __future__ import annotations
 
 import asyncio
 from collections import deque
-from collections.abc import Callable
 from typing import Protocol
 
-from .connection import Answer, Connection, Failure
+from .connection import Connection
 from .errors import Disconnected, Error, LockLost, LockStolen
 from .messages import (
     CLOSE,
     QUERY,
     SIGNAL,
     BadReply,
-    Message,
     Reason,
     Reply,
     abort_message,
@@ -47,7 +45,7 @@ class Agent:
         self._waiting = 0
         self.client: str | None = None
         self.unanswered = 0
-        """How many messages whose order counts are on their way."""
+        """How many messages whose order counts are on their way. Whoever takes such a reply counts it off."""
 
     @classmethod
     async def open(cls, options: Options, owner: Owner) -> Agent:
@@ -60,7 +58,7 @@ class Agent:
                 raise reply.refusal
             client = reply.ok.get("client")
             agent.client = client if isinstance(client, str) else None
-            agent._ask_signals(0)
+            agent.ready(0)
         except BaseException:
             agent._connection.lose(Disconnected("the connection was not opened"))
             raise
@@ -91,33 +89,40 @@ class Agent:
         request.service = self
         request.phase = Phase.SENT
         self._unnumbered.append(request)
+        self.unanswered += 1
         message = request_message(wish.wire_name, wish.mode, request.signal, wish.steal, wish.if_available)
-        self._ask(message, lambda reply: self._number(request, reply))
+        self._connection.ask(message, self._number)
         return True
 
     def ready(self, waiting: int) -> None:
         """Asks for as many signals as so many requests want, and one to spare."""
         if self.client is not None:
-            self._ask_signals(waiting)
+            for _ in range(self._signals.count_to_ask(waiting)):
+                self._connection.ask(SIGNAL, self._add_signal)
 
     def query(self, reply: asyncio.Future[Reply]) -> None:
         """Asks for what is held and pending."""
-        self._ask(
-            QUERY,
-            lambda answer: None if reply.done() else reply.set_result(answer),
-            lambda reason: None if reply.done() else reply.set_exception(reason),
-        )
+
+        def answer(it: Reply) -> None:
+            self.unanswered -= 1
+            if not reply.done():
+                reply.set_result(it)
+
+        self.unanswered += 1
+        self._connection.ask(QUERY, answer, lambda reason: None if reply.done() else reply.set_exception(reason))
 
     def give_up(self, request: Request, reason: Reason) -> None:
         """Ends a request, whatever its phase; a grant that is on its way is released when it comes."""
         if request.phase is Phase.HELD:
-            self.release(request, lambda: None)
+            self.release(request)
         elif request.phase is Phase.SENT and request.signal is not None:
-            self._ask(abort_message(request.signal, reason), lambda _reply: None)
+            self.unanswered += 1
+            self._connection.ask(abort_message(request.signal, reason), self._aborted)
 
-    def release(self, request: Request, done: Callable[[], None]) -> None:
-        """Releases a lock; `done` is called when that was answered."""
-        self._ask(release_message(request.number), lambda reply: self._released(request, reply, done))
+    def release(self, request: Request) -> None:
+        """Releases a lock, and tells the request when that was answered."""
+        self.unanswered += 1
+        self._connection.ask(release_message(request.number), lambda reply: self._released(request, reply))
 
     def end_requests(self, reason: Error) -> None:
         """Tells whoever waits or holds a lock that it is over; what the service has is to be ended by `close`."""
@@ -134,29 +139,19 @@ class Agent:
         """In the order in which they were sent."""
         return [*self._requests.values(), *self._unnumbered]
 
-    def _ask(self, message: Message, answer: Answer, failure: Failure | None = None) -> None:
-        self.unanswered += 1
-        self._connection.ask(message, lambda reply: self._answered(reply, answer), failure)
-
-    def _answered(self, reply: Reply, answer: Answer) -> None:
-        self.unanswered -= 1
-        answer(reply)
-
-    def _ask_signals(self, waiting: int) -> None:
-        for _ in range(self._signals.count_to_ask(waiting)):
-            self._connection.ask(SIGNAL, self._add_signal)
-
     def _add_signal(self, reply: Reply) -> None:
         if reply.refusal is not None:
             self._signals.refuse()
         else:
             self._signals.add(_number_of(reply, "signal"))
 
-    def _number(self, request: Request, reply: Reply) -> None:
-        """The service has numbered a request, or refused it."""
+    def _number(self, reply: Reply) -> None:
+        """The service has numbered the first request that had no number, or refused it."""
+        self.unanswered -= 1
+        request = self._unnumbered[0]
         if reply.refusal is None:
-            request.number = _number_of(reply, "request")
-            self._requests[request.number] = request
+            request.number = number = _number_of(reply, "request")
+            self._requests[number] = request
             self._waiting += 1
         else:
             self._free_signal(request)
@@ -169,12 +164,16 @@ class Agent:
             self._signals.give_back(request.signal)
         request.signal = None
 
-    def _released(self, request: Request, reply: Reply, done: Callable[[], None]) -> None:
+    def _aborted(self, _reply: Reply) -> None:
+        """What came of the signal's request is told by a notice."""
+        self.unanswered -= 1
+
+    def _released(self, request: Request, reply: Reply) -> None:
         """The lock is free; one that was not held any more was stolen, of which the notices of this reply tell."""
+        self.unanswered -= 1
         if reply.ok.get("release") == "released":
             self._requests.pop(request.number, None)
-            request.phase = Phase.ENDED
-            done()
+            request.end_release()
         else:
             lost = LockLost(f"the lock {request.wish.name!r} was not held any more when it was released")
             asyncio.get_running_loop().call_soon(request.end, lost)
@@ -195,7 +194,7 @@ class Agent:
             self._free_signal(request)
             if request.given_up:
                 request.phase = Phase.HELD
-                self.release(request, lambda: None)
+                self.release(request)
             else:
                 request.grant()
             return

@@ -3,7 +3,6 @@
 from __future__ import annotations
 
 import asyncio
-import contextlib
 from collections import deque
 from collections.abc import Callable
 
@@ -128,10 +127,12 @@ class Connection:
 
     async def _write(self) -> None:
         """Sends what is to be sent. It begins at once, so the order of messages is that of the calls of `ask`."""
-        # That the connection is closed, the reader learns too, and says so.
-        with contextlib.suppress(ConnectionClosed):
+        try:
             while self._outbox:
                 await self._socket.send(self._outbox.popleft())
+        except ConnectionClosed:
+            # The reader learns it too, and says so.
+            pass
 
     def _take(self, reply: Reply) -> None:
         """Hands on a reply, or a push, which nobody asked for and which shows no life of the way out."""

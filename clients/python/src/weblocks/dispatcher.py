@@ -70,7 +70,7 @@ class Dispatcher:
         self._backlog.pop(request.order, None)
         request.phase = Phase.ENDED
 
-    def release(self, request: Request, done: object) -> None:
+    def release(self, request: Request) -> None:
         """A request that isn't sent has no lock."""
         raise AssertionError(f"{request.wish.name!r} has no lock to release")
 
@@ -110,9 +110,13 @@ class Dispatcher:
         if self._ended is not None:
             item.end(self._ended)
             return
-        self._backlog[item.order] = item
-        if self._agent is not None:
-            self._send(self._agent)
+        agent = self._agent
+        if agent is None:
+            self._backlog[item.order] = item
+            return
+        if self._backlog or self._former or not item.send_by(agent):
+            self._backlog[item.order] = item
+        self._send(agent)
 
     def _send(self, agent: Agent) -> None:
         """Sends what can be sent, and sees to it that signals are there for the rest.

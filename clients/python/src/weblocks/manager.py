@@ -87,7 +87,7 @@ class LockManager:
         """
         wish = Wish(name, wire_of_checked(name), mode, steal, if_available)
         check_wish(wish, timeout)
-        return LockRequest(lambda: self.submit(wish), timeout)
+        return LockRequest(self.submit, wish, timeout)
 
     def submit(self, wish: Wish) -> Request:
         """Makes a request at once, for the blocks of this package."""

@@ -3,7 +3,6 @@
 from __future__ import annotations
 
 import json
-from collections.abc import Mapping
 from dataclasses import dataclass
 from typing import Any, Literal
 
@@ -12,12 +11,13 @@ from .errors import Refused
 Mode = Literal["exclusive", "shared"]
 Kind = Literal["window", "worker"]
 Reason = Literal["AbortError", "TimeoutError"]
-Message = Mapping[str, object]
+Message = str
+"""The members of a message as JSON, all but its id: `write_message` makes them whole."""
 
-POLL: Message = {"op": "poll"}
-SIGNAL: Message = {"op": "signal"}
-QUERY: Message = {"op": "query"}
-CLOSE: Message = {"op": "close"}
+POLL: Message = '"op": "poll"'
+SIGNAL: Message = '"op": "signal"'
+QUERY: Message = '"op": "query"'
+CLOSE: Message = '"op": "close"'
 
 
 class BadReply(Exception):
@@ -40,7 +40,7 @@ class Reply:
 
 def write_message(id: int, message: Message) -> str:
     """A message as JSON, with its id."""
-    return json.dumps({"id": id, **message})
+    return f'{{"id": {id}, {message}}}'
 
 
 def read_reply(text: str | bytes) -> Reply:
@@ -61,28 +61,28 @@ def read_reply(text: str | bytes) -> Reply:
 
 def open_message(origin: str, kind: Kind, bucket: str) -> Message:
     """Opens the connection as an agent of an origin's bucket."""
-    return {"op": "open", "url": origin, "kind": kind, "bucket": bucket}
+    return f'"op": "open", "url": {json.dumps(origin)}, "kind": {json.dumps(kind)}, "bucket": {json.dumps(bucket)}'
 
 
 def request_message(wire_name: str, mode: Mode, signal: int | None, steal: bool, if_available: bool) -> Message:
     """Requests a lock. The defaults of the format are left out."""
-    options: dict[str, object] = {}
-    if mode != "exclusive":
-        options["mode"] = mode
+    options = []
+    if mode == "shared":
+        options.append('"mode": "shared"')
     if signal is not None:
-        options["signal"] = signal
+        options.append(f'"signal": {signal}')
     if steal:
-        options["steal"] = True
+        options.append('"steal": true')
     if if_available:
-        options["ifAvailable"] = True
-    return {"op": "request", "name": wire_name, "options": options}
+        options.append('"ifAvailable": true')
+    return f'"op": "request", "name": {json.dumps(wire_name)}, "options": {{{", ".join(options)}}}'
 
 
 def release_message(number: int) -> Message:
     """Releases the lock of the request of that number."""
-    return {"op": "release", "request": number}
+    return f'"op": "release", "request": {number}'
 
 
 def abort_message(signal: int, reason: Reason) -> Message:
     """Ends what the signal's requests wait for."""
-    return {"op": "abort", "signal": signal, "reason": reason}
+    return f'"op": "abort", "signal": {signal}, "reason": "{reason}"'

@@ -4,10 +4,9 @@ from __future__ import annotations
 
 import asyncio
 from collections.abc import Callable
-from dataclasses import dataclass
 from enum import Enum, auto
 from types import TracebackType
-from typing import Generic, Protocol, TypeVar, cast
+from typing import Generic, NamedTuple, Protocol, TypeVar, cast
 
 from .errors import LockLost
 from .messages import Mode, Reason
@@ -37,8 +36,7 @@ class Lock:
         return f"<Lock {self.name!r} {self.mode}{state}>"
 
 
-@dataclass(frozen=True, slots=True)
-class Wish:
+class Wish(NamedTuple):
     """What a request asks for. `wire_name` is the text that stands for the name in messages."""
 
     name: str
@@ -82,7 +80,7 @@ class Service(Protocol):
 
     def give_up(self, request: Request, reason: Reason) -> None: ...
 
-    def release(self, request: Request, done: Callable[[], None]) -> None: ...
+    def release(self, request: Request) -> None: ...
 
 
 class Sender(Protocol):
@@ -104,8 +102,9 @@ class Request:
         self.signal: int | None = None
         self.lock: Lock | None = None
         self.on_lost: Callable[[], None] | None = None
-        """Called once, when the lock is lost."""
+        """Called once, when the lock is lost before its release was begun."""
         self.outcome: asyncio.Future[Lock | None] = asyncio.get_running_loop().create_future()
+        self._released: asyncio.Future[None] | None = None
 
     def send_by(self, agent: Sender) -> bool:
         """Sends it, unless it must wait for a signal of its own."""
@@ -116,6 +115,12 @@ class Request:
         self.phase = Phase.HELD
         self.lock = Lock(self.wish.name, self.wish.mode)
         self._settle(self.lock)
+
+    def end_release(self) -> None:
+        """The service has released the lock and said so."""
+        self.phase = Phase.ENDED
+        if self._released is not None and not self._released.done():
+            self._released.set_result(None)
 
     def end(self, error: BaseException | None = None) -> None:
         """The request is gone from the service: its lock was not available, was lost, or could not be had."""
@@ -150,16 +155,17 @@ class Request:
         lock = cast(Lock, self.lock)
         if lock.lost is None and not self.given_up:
             self.given_up = True
-            released: asyncio.Future[None] = asyncio.get_running_loop().create_future()
-            self.on_lost = lambda: None if released.done() else released.set_result(None)
-            self.service.release(self, self.on_lost)
-            await released
+            self._released = asyncio.get_running_loop().create_future()
+            self.service.release(self)
+            await self._released
         return lock.lost
 
     def _lose(self, lock: Lock, reason: LockLost) -> None:
         if lock.lost is None:
             lock.lost = reason
-            if self.on_lost is not None:
+            if self._released is not None:
+                self.end_release()
+            elif self.on_lost is not None:
                 self.on_lost()
 
     def _settle(self, lock: Lock | None) -> None:
@@ -174,8 +180,9 @@ class LockRequest(Generic[LockOrNone]):
     block that ends without one of them held its lock from its first line to its last.
     """
 
-    def __init__(self, submit: Callable[[], Request], timeout: float | None) -> None:
+    def __init__(self, submit: Callable[[Wish], Request], wish: Wish, timeout: float | None) -> None:
         self._submit = submit
+        self._wish = wish
         self._timeout = timeout
         self._request: Request | None = None
         self._task: asyncio.Task[object] | None = None
@@ -185,7 +192,7 @@ class LockRequest(Generic[LockOrNone]):
     async def __aenter__(self) -> LockOrNone:
         if self._request is not None:
             raise RuntimeError("a request serves one block: call request() again for the next")
-        request = self._request = self._submit()
+        request = self._request = self._submit(self._wish)
         lock = await wait_for_lock(request, self._timeout)
         if lock is not None:
             self._task = cast("asyncio.Task[object]", asyncio.current_task())
