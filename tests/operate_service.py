@@ -1,0 +1,116 @@
+"""The unit of systemd: how exposed it leaves the service, and that the daemon serves within what it allows."""
+
+import re
+from pathlib import Path
+from typing import Any, Protocol
+
+from daemon_server import Daemon
+from operate_needs import PYTHON, Checks, Needs, ran, text_of
+from operate_package import Built
+from running import Wrong, expect
+
+UNIT = "usr/lib/systemd/system/weblocks.service"
+MOST_EXPOSED = 2.0
+FILTER = Path(__file__).resolve().parent / "operate_filter.py"
+
+
+def settings(built: Built) -> dict[str, list[str]]:
+    """What the unit sets, by name."""
+    found: dict[str, list[str]] = {}
+    for line in built.read(UNIT).splitlines():
+        name, equals, value = line.partition("=")
+        if equals and not line.startswith("#"):
+            found.setdefault(name, []).append(value)
+    return found
+
+
+def run_analyze(*words: str) -> str:
+    ended = ran(["systemd-analyze", "--no-pager", *words])
+    if ended.returncode:
+        raise Wrong(f"systemd-analyze {words[0]} has status {ended.returncode}:\n{text_of(ended)}")
+    return text_of(ended)
+
+
+def unit_is_hard(built: Built) -> None:
+    said = run_analyze("security", "--offline=yes", str(built.tree / UNIT))
+    level = re.search(r"Overall exposure level for weblocks.service: ([0-9.]+)", said)
+    if level is None:
+        raise Wrong(said)
+    print(f"exposure level: {level[1]}", flush=True)
+    expect(f"whether the exposure of {level[1]} is at most {MOST_EXPOSED}", float(level[1]) <= MOST_EXPOSED, True)
+
+
+def members(group: str) -> set[str]:
+    """The system calls of a group, those of the groups in it among them."""
+    found: set[str] = set()
+    for line in run_analyze("syscall-filter", group).splitlines()[1:]:
+        word = line.strip()
+        if word.startswith("@"):
+            found |= members(word)
+        elif word and not word.startswith("#"):
+            found.add(word)
+    return found
+
+
+def calls_left(built: Built) -> set[str]:
+    """The system calls that the unit leaves to the daemon: an allow list, from which others are taken."""
+    left = members("@default")
+    for line in settings(built)["SystemCallFilter"]:
+        names = line.removeprefix("~").split()
+        group = {call for it in names for call in (members(it) if it.startswith("@") else {it})}
+        left = left - group if line.startswith("~") else left | group
+    return left
+
+
+def daemon_serves_within(built: Built) -> None:
+    """Under the unit's filters a client gets a lock, and another is told of its grant."""
+    left = calls_left(built)
+    if "io_uring_setup" in left or "ptrace" in left or "read" not in left:
+        raise Wrong(f"the unit leaves these calls: {sorted(left)}")
+    file = built.place / "calls"
+    file.write_text("\n".join(sorted(left)))
+    families = settings(built)["RestrictAddressFamilies"]
+    expect("the families", families, ["AF_INET AF_INET6"])
+    with Daemon(built.tree / "usr/bin/weblocks", before=[PYTHON, FILTER, file]) as daemon:
+        hand_over(daemon)
+
+
+class Server(Protocol):
+    """A daemon, or a proxy in front of one."""
+
+    def opened(self, url: str, *headers: str) -> Any: ...
+
+
+def hand_over(daemon: Server) -> None:
+    """Two peers want one lock: the second is told of it without asking."""
+    push = "Sec-WebSocket-Protocol: weblocks.push"
+    ours, theirs = (daemon.opened("https://a.test/", push) for _ in range(2))
+    said = ours.ask('{"id":1,"op":"request","name":"db"}')
+    expect("whether it is granted", '"phase":"granted"' in said, True)
+    said = theirs.ask('{"id":1,"op":"request","name":"db"}')
+    expect("whether the other is granted it too", '"phase"' in said, False)
+    ours.ask('{"id":2,"op":"release","request":1}')
+    expect("the push", '"phase":"granted"' in theirs.get(), True)
+
+
+def filter_bites(built: Built) -> None:
+    """What is forbidden is refused, so that the filter of the check before is one."""
+    for what, program, why in (
+        ("a UNIX socket", "import socket; socket.socket(socket.AF_UNIX)", "Address family not supported"),
+        ("another root", "import os; os.chroot('/')", "Operation not permitted"),
+        ("memory for code", "import mmap; mmap.mmap(-1, 4096, prot=7)", "Operation not permitted"),
+    ):
+        ended = ran([PYTHON, FILTER, built.place / "calls", PYTHON, "-c", program])
+        expect(f"whether {what} is refused", why in text_of(ended), True)
+
+
+def service_checks(built: Built, needs: Needs) -> Checks:
+    def with_systemd() -> Checks:
+        yield "the unit leaves little exposed", lambda: unit_is_hard(built)
+
+    def with_seccomp() -> Checks:
+        yield "the daemon serves under the unit's filter", lambda: daemon_serves_within(built)
+        yield "the unit's filter refuses the rest", lambda: filter_bites(built)
+
+    yield from needs.each("the unit's exposure", ["systemd"], with_systemd)
+    yield from needs.each("the unit's filter", ["systemd", "python3-seccomp"], with_seccomp)
