@@ -28,8 +28,11 @@ impl<'a> Speaker for Member<'a> {
 
     fn answer<R: Wait>(self, rt: &R, message: &[u8]) -> Result<(Member<'a>, Answer), Memory> {
         let Member { peer, desk } = self;
-        // The room is locked for this message alone.
-        let answered = peer.answer_by(rt, &desk, message, &mut desk.event_loop.scratch.lock(rt));
+        let event_loop = desk.event_loop;
+        // Locked for this message alone.
+        let mut scratch = event_loop.scratch.lock(rt);
+        let answered = peer.answer_by(rt, &desk, message, &mut scratch);
+        drop(scratch);
         match answered {
             Ok((peer, text)) => Ok((Member { peer, desk }, Answer::Text(text))),
             Err(NoAnswer::Memory) => Err(Memory),
