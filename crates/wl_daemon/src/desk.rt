@@ -34,7 +34,7 @@ impl Desk<'_> {
             return Ok(None);
         }
         let ring = self.event_loop.ring.places();
-        Ok(Some(Bell::new(ring, self.key)?))
+        Ok(Some(Bell::new(self.alloc, ring, self.key)?))
     }
 
     /// Whether the URL is for this peer. A text that is no URL is for nobody, which the service says.

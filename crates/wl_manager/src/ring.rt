@@ -2,8 +2,9 @@
 
 use std::alloc::Global;
 use std::hint::spin_loop;
+use std::mem;
 use std::sync::atomic::{AtomicBool, Ordering};
-use std::sync::{Arc, Mutex};
+use std::sync::{Arc, Mutex, Wait};
 use wl_types::Memory;
 
 /// How often a list that another thread uses is tried. It is used for a few instructions.
@@ -85,22 +86,60 @@ impl Ring {
     }
 }
 
-/// An agent's place in the ring of a loop: rung once when the agent has changed requests, until it collects them.
+/// A place in the ring of a loop.
 #[derive(Drop)]
-pub struct Bell {
+struct Target {
     ring: Arc<Ring>,
     place: u64,
 }
 
-impl Bell {
-    /// A bell that adds this place to the ring, which has room for one place of each bell.
-    pub fn new(ring: &Arc<Ring>, place: u64) -> Result<Bell, Memory> {
+impl Target {
+    /// This place of the ring, which has room for one place of each target.
+    fn new(ring: &Arc<Ring>, place: u64) -> Result<Target, Memory> {
         let ring = Arc::try_clone(ring)?;
         ring.reserve(Arc::strong_count(&ring))?;
-        Ok(Bell { ring, place })
+        Ok(Target { ring, place })
+    }
+}
+
+/// An agent's place in the ring of a loop: rung once when the agent has changed requests, until it collects them.
+#[derive(Drop)]
+pub struct Bell {
+    target: Arc<Mutex<Target>>,
+}
+
+impl Bell {
+    /// A bell that adds this place to the ring, which has room for one place of each bell.
+    pub fn new(alloc: Global, ring: &Arc<Ring>, place: u64) -> Result<Bell, Memory> {
+        let target = Target::new(ring, place)?;
+        Ok(Bell {
+            target: Arc::new(alloc, Mutex::new(target))?,
+        })
+    }
+
+    /// The same bell once more, for whoever is to move it.
+    pub fn share(&self) -> Result<Bell, Memory> {
+        Ok(Bell {
+            target: Arc::try_clone(&self.target)?,
+        })
+    }
+
+    /// From now on the bell adds this place to this ring. What rings meanwhile may go to either or to neither, so whoever
+    /// moves a bell looks afterwards whether the agent has changed requests. Where memory is refused it stays.
+    pub fn move_to<R: Wait>(&self, rt: &R, ring: &Arc<Ring>, place: u64) -> Result<(), Memory> {
+        let target = Target::new(ring, place)?;
+        let left = mem::replace(&mut *self.target.lock(rt), target);
+        drop(left);
+        Ok(())
     }
 
     pub(crate) fn ring(&self) {
-        self.ring.add(self.place);
+        for _ in 0..TRIES {
+            if let Some(target) = self.target.try_lock() {
+                target.ring.add(target.place);
+                return;
+            }
+            spin_loop();
+        }
     }
 }

@@ -12,7 +12,7 @@ use wl_journal::Entry;
 use wl_types::Change;
 
 /// The entries that a journal may have before it is cut.
-const FEW: usize = 1024;
+const FEW: usize = 128;
 
 impl<C: LockCore, T: Count> Locked<C, T> {
     /// Whether no entry was cut.
@@ -47,7 +47,7 @@ impl<C: LockCore, T: Count> Locked<C, T> {
         self.book.changes()
     }
 
-    /// Cuts the journal where it has outgrown what is live, unless all entries are kept: once it has more than 1,024
+    /// Cuts the journal where it has outgrown what is live, unless all entries are kept: once it has more than 128
     /// entries, and more than two for each agent, signal and request of its base. So a cut costs a bounded number of
     /// steps for each entry that it lets go. The entries are the answer, so that they can be dropped without the lock.
     /// Where there is no memory for a cut the journal stays, and grows on.

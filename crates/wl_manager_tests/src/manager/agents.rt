@@ -158,6 +158,6 @@ fn a_journal_that_is_cut_stays_short(rt: HostRuntime) -> Result<(), Fail> {
     let asked = ask(rt.alloc(), "db", Mode::Exclusive)?;
     let manager: Arc<Brief, Global> = Manager::new(&rt, rt.alloc(), (), (), ())?;
     let left = left_of_a_thousand(&rt, rt.alloc(), &manager, &asked);
-    assert_eq!(rt; left, Ok((true, 975, 2001)));
+    assert_eq!(rt; left, Ok((true, 51, 2001)));
     Ok(())
 }

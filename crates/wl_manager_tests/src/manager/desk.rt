@@ -98,7 +98,7 @@ impl Desk {
 
     fn open_heard<R: Wait>(&mut self, rt: &R, kind: Kind) -> Result<u64, Refusal> {
         let place = (self.agents.len() as u64).wrapping_add(1);
-        let Ok(bell) = Bell::new(&self.ring, place) else {
+        let Ok(bell) = Bell::new(self.alloc, &self.ring, place) else {
             return Err(Refusal::Memory);
         };
         let agent = Manager::open_heard(&self.manager, rt, kind, Some(bell))?;
