@@ -156,8 +156,8 @@ HELPS = [(words, HELP) for words in ("--help", "-h", "help")] + [
 
 VERSION = "0.1.0"
 
-# As `rt version` names a kit.
-KIT = r"rattle-kit-\S+ logic [0-9a-f]{16}"
+# As `rt version` names a kit: its release and its logic.
+KIT = r"rattle-kit-\S+ (logic [0-9a-f]{16})"
 
 
 def names_documents(page):
@@ -171,14 +171,15 @@ def names_documents(page):
 
 
 def tells_its_version(words):
-    """The kit is the one at hand, where there is one."""
+    """The kit has the logic of the one at hand, where there is one: releases of one logic prove the same."""
     ended = run_on(words)
     found = re.fullmatch(rf"weblocks {re.escape(VERSION)} \(({KIT})\)\n", ended.out.decode())
     if not found:
         raise Wrong(f"the version is {text(ended.out)}")
     expect_end(ended, ended.out)
     if shutil.which("rt"):
-        expect("the kit", found[1], run_on(["rt", "version"]).out.decode().strip())
+        at_hand = re.fullmatch(KIT, run_on(["rt", "version"]).out.decode().strip())
+        expect("the kit's logic", found[2], at_hand and at_hand[1])
 
 
 def full_output(words):
