@@ -206,7 +206,7 @@ fn draw_told(
         let (from, to, y) = (
             scale.at(last.line),
             scale.at(told.line),
-            y.saturating_sub(7),
+            y.saturating_add(4),
         );
         if to > from {
             write!(out, "<path class=\"late\" d=\"M{from} {y}H{to}\"/>")?;

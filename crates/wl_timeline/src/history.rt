@@ -78,18 +78,24 @@ impl History {
         self.lines = self.lines.saturating_add(1);
         let said = Said::of(self.alloc, self.lines, reply)?;
         match read_line_with(self.alloc, line, &mut self.scratch)? {
-            Line::Bad(_, _) => {
-                if let Some(fault) = said.fault {
-                    self.unread.push(fault)?;
-                }
-                Ok(())
-            }
+            Line::Bad(_, _) => self.leave_unread(said),
             Line::Good(label, message) => {
                 let Message { id: _, body } = message;
                 let lane = self.lane_of(label.as_str())?;
                 self.take(lane, body, said)
             }
         }
+    }
+
+    /// A line that is no message says nothing but its error.
+    fn leave_unread(&mut self, said: Said) -> Result<(), Memory> {
+        let Said {
+            is_ok: _,
+            client: _,
+            notices: _,
+            fault,
+        } = said;
+        keep(&mut self.unread, fault)
     }
 
     /// The place of a label's lane, which is made where it has none.
@@ -149,12 +155,10 @@ impl History {
 
     /// Keeps an error that a label's line was answered by.
     fn blame(&mut self, lane: usize, fault: Option<Fault>) -> Result<(), Memory> {
-        if let Some(fault) = fault {
-            if let Some(lane) = self.lanes.get_mut(lane) {
-                lane.faults.push(fault)?;
-            }
+        match self.lanes.get_mut(lane) {
+            Some(lane) => keep(&mut lane.faults, fault),
+            None => Ok(()),
         }
-        Ok(())
     }
 
     /// The label becomes an agent, or one of an opaque origin.
@@ -239,6 +243,14 @@ impl History {
             }
         }
     }
+}
+
+/// Keeps an error, if there is one.
+fn keep(faults: &mut Vec<Fault>, fault: Option<Fault>) -> Result<(), Memory> {
+    if let Some(fault) = fault {
+        faults.push(fault)?;
+    }
+    Ok(())
 }
 
 /// The command of an agent's operation, if it changes anything.

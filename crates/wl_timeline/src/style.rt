@@ -28,8 +28,8 @@ pub(crate) const LEGEND: &str = "\
 <path class=\"end unavailable\" transform=\"translate(584 -4)\" d=\"M-5 0a5 5 0 1 0 10 0a5 5 0 1 0-10 0\"/>\
 <text x=\"596\" y=\"0\">unavailable</text>
 <path class=\"end closed\" transform=\"translate(686 -4)\" d=\"M0-8V8M-5-8V8\"/><text x=\"696\" y=\"0\">closed with its agent</text>
-<path class=\"told\" transform=\"translate(844 -8)\" d=\"M0 0-4 8H4Z\"/><text x=\"854\" y=\"0\">told</text>
-<path class=\"fault\" transform=\"translate(900 -4)\" d=\"M0-6 6 0 0 6-6 0Z\"/><text x=\"912\" y=\"0\">answered by an error</text>
+<path class=\"told\" transform=\"translate(844 -8)\" d=\"M0 0-4 8H4Z\"/><text x=\"854\" y=\"0\">agent told</text>
+<path class=\"fault\" transform=\"translate(940 -4)\" d=\"M0-6 6 0 0 6-6 0Z\"/><text x=\"952\" y=\"0\">answered by an error</text>
 ";
 
 /// The shape of an end.
