@@ -1,6 +1,7 @@
 -- A timeline that wasn't drawn, after a script that was done.
-use Rattle.std.proofs.Common.{◌≡◌, ℕ, List, ◌≤◌, ◌∙◌, refl, sym, subst, length, take, Option, Some, None, All, inl, inr, rules, arith}
+use Rattle.std.proofs.Common.{◌≡◌, ℕ, List, ◌≤◌, ◌∙◌, length, Option, Some, None, All, inl, arith}
 use Rattle.std.specs.Prelude.{Result, Ok, Err, IfOk, IfErr, IfSome}
+use Rattle.std.proofs.lemmas.List.Elements.{All-take}
 use Rattle.wl_world.specs.World.{World}
 use Rattle.wl_script.specs.Audits.{CountsDone, DoneFirst}
 use Rattle.wl_script.specs.Leaves.{Answered}
@@ -11,10 +12,7 @@ use Rattle.wl_timeline.specs.Timelines.{IsUnwritten, LeavesTimeline}
 
 -- all lines are the first lines
 all_done : (limit n : ℕ) (all : List (List ℕ)) → n ≡ length all → All (λ line. length line ≤ limit) all → DoneFirst limit all n
-all_done limit n all is within = (omega (arith, is), subst (λ some. All (λ line. length line ≤ limit) some) (sym (whole n all is)) within)
-  where
-    whole : (n : ℕ) (all : List (List ℕ)) → n ≡ length all → take n all ≡ all
-    whole n all is = grind rules
+all_done limit n all is within = (omega (arith, is), All-take (λ line. length line ≤ limit) n all within)
 
 left_by : (limit done : ℕ) (all : List (List ℕ)) (fault : ScriptFault) (old new : Option (List ℕ)) → done ≡ length all
     → All (λ line. length line ≤ limit) all → IsUnwritten done fault old new → LeavesTimeline limit all fault old new

@@ -11,7 +11,7 @@ use wl_origin::{ManagerKey, manager_of_text};
 use wl_types::{Kind, Memory, Text};
 
 /// Where a label is.
-#[derive(Clone, Copy, Debug, Drop)]
+#[derive(Clone, Copy, Drop)]
 enum Seat {
     Unopened,
     /// At an opaque origin, which has no manager.
@@ -24,7 +24,7 @@ enum Seat {
 }
 
 /// From the line at which a label opened to the line at which it closed, if it has.
-#[derive(Clone, Copy, Debug, Drop)]
+#[derive(Clone, Copy, Drop)]
 pub(crate) struct Stay {
     pub from: u64,
     pub to: Option<u64>,

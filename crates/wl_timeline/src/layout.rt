@@ -35,7 +35,7 @@ const CHARACTER: u64 = 7;
 pub(crate) const MOST_CHARACTERS: usize = 20;
 
 /// Where lines stand.
-#[derive(Clone, Copy, Debug, Drop)]
+#[derive(Clone, Copy, Drop)]
 pub(crate) struct Scale {
     pub lines: u64,
     pub width: u64,
@@ -114,7 +114,7 @@ fn extent(scale: &Scale, request: &Request, number: usize) -> (u64, u64) {
 }
 
 /// A request, by the places of its manager and of it there, and its row, if it has one.
-#[derive(Clone, Copy, Debug, Drop)]
+#[derive(Clone, Copy, Drop)]
 pub(crate) struct Bar {
     pub manager: usize,
     pub request: usize,

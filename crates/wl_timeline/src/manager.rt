@@ -8,7 +8,7 @@ use wl_origin::ManagerKey;
 use wl_types::{Ask, Change, Memory, Mode, Numbers, Phase, Refusal};
 
 /// A phase, and the line at which the request came to it.
-#[derive(Clone, Copy, Debug, Drop)]
+#[derive(Clone, Copy, Drop)]
 pub(crate) struct Step {
     pub line: u64,
     pub phase: Phase,
