@@ -7,7 +7,7 @@ use std::collections::HashMap;
 use std::hash::RandomState;
 use wl_codec::{Body, Line, Message, Scratch, read_line_with};
 use wl_core::Command;
-use wl_origin::{ManagerKey, manager_of_text};
+use wl_origin::{ManagerFault, ManagerKey, manager_of_text};
 use wl_types::{Kind, Memory, Text};
 
 /// Where a label is.
@@ -188,8 +188,11 @@ impl History {
 
     /// An agent opens at a manager, whose place is answered.
     fn enter(&mut self, url: &str, kind: Kind, bucket: Text) -> Result<Option<usize>, Memory> {
-        let Ok(Some(key)) = manager_of_text(self.alloc, url, bucket) else {
-            return Ok(None);
+        let key = match manager_of_text(self.alloc, url, bucket) {
+            Ok(Some(key)) => key,
+            // The reply had no number then, so that this isn't asked.
+            Ok(None) | Err(ManagerFault::BadUrl | ManagerFault::BadBucket) => return Ok(None),
+            Err(ManagerFault::Memory) => return Err(Memory),
         };
         let place = self.manager_of(key)?;
         let line = self.lines;

@@ -128,6 +128,9 @@ fn draw_lane(
     top: u64,
 ) -> Result<(), Memory> {
     draw_label(alloc, out, scale, lane, top)?;
+    if let Some(stay) = lane.stays.last() {
+        draw_origin(alloc, out, history, stay, top.saturating_add(31))?;
+    }
     let middle = top.saturating_add(10);
     for stay in &lane.stays {
         draw_stay(alloc, out, history, scale, stay, middle)?;
@@ -166,6 +169,28 @@ fn draw_label(
         out,
         "<path class=\"edge\" d=\"M0 {top}H{end}\"/><text class=\"label\" x=\"12\" y=\"{y}\"><title>{whole}</title>{front}</text>\n"
     )?;
+    Ok(())
+}
+
+/// Where the label was last, below it: requests of two lanes wait for each other at one manager alone.
+fn draw_origin(
+    alloc: Global,
+    out: &mut String,
+    history: &History,
+    stay: &Stay,
+    y: u64,
+) -> Result<(), Memory> {
+    let Some((place, _)) = stay.client else {
+        return Ok(());
+    };
+    if let Some(manager) = history.managers.get(place) {
+        let name = manager_name(alloc, manager)?;
+        let front = escape_front(alloc, name.as_str(), MOST_CHARACTERS)?;
+        write!(
+            out,
+            "<text class=\"quiet\" x=\"12\" y=\"{y}\">{front}</text>\n"
+        )?;
+    }
     Ok(())
 }
 
@@ -216,14 +241,20 @@ fn put_client(
     Ok(())
 }
 
-/// The origin of a manager, and its bucket where that is not the default one; escaped.
-pub(crate) fn manager_text(alloc: Global, manager: &Manager) -> Result<String, Memory> {
-    let mut text = manager.key.origin.text(alloc)?;
+/// The origin of a manager, and its bucket where that is not the default one.
+fn manager_name(alloc: Global, manager: &Manager) -> Result<String, Memory> {
+    let mut name = manager.key.origin.text(alloc)?;
     if !manager.key.bucket.is_default() {
-        text.push_str(" ")?;
-        text.push_str(manager.key.bucket.as_str())?;
+        name.push_str(" ")?;
+        name.push_str(manager.key.bucket.as_str())?;
     }
-    escape(alloc, text.as_str())
+    Ok(name)
+}
+
+/// The same, escaped.
+pub(crate) fn manager_text(alloc: Global, manager: &Manager) -> Result<String, Memory> {
+    let name = manager_name(alloc, manager)?;
+    escape(alloc, name.as_str())
 }
 
 /// A line that was answered by an error.
