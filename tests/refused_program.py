@@ -18,7 +18,7 @@ NAMES = [
 PICTURES = sorted((Path(__file__).resolve().parent / "timelines").glob("*.svg"))
 SAID = b"a growth was refused\n"
 # More growths than any run has.
-MOST = 6000
+MOST = 3000
 
 OPEN = b'{"id":1,"op":"open","url":"https://a.test/"}\n'
 OPENED = b'{"id":1,"notices":[],"ok":{"client":"client-1"}}\n'
