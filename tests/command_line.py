@@ -25,12 +25,13 @@ A lock service with the behaviour of the Web Locks API
 Usage: weblocks <COMMAND>
 
 Commands:
-  run     Answer each line of standard input by one line on standard output
-  audit   Do each line of standard input, and say for each manager whether its journal is legal
-  serve   Serve locks over WebSocket on 127.0.0.1
-  client  Send each line of standard input to a server, and print its reply as a line
-  daemon  Serve locks over WebSocket until it is stopped, and push grants to those who want that
-  help    Print this message or the help of the given subcommand(s)
+  run       Answer each line of standard input by one line on standard output
+  audit     Do each line of standard input, and say for each manager whether its journal is legal
+  timeline  Do each line of standard input, and draw what became of each request as an SVG
+  serve     Serve locks over WebSocket on 127.0.0.1
+  client    Send each line of standard input to a server, and print its reply as a line
+  daemon    Serve locks over WebSocket until it is stopped, and push grants to those who want that
+  help      Print this message or the help of the given subcommand(s)
 
 Options:
   -h, --help     Print help
@@ -75,6 +76,22 @@ Example:
   {"bucket":"inbox","entries":3,"legal":true,"origin":"https://a.test"}
 
 Scripts and audits: docs/FORMATS.md.
+"""
+
+TIMELINE_HELP = """\
+Do each line of standard input, and draw what became of each request as an SVG
+
+Usage: weblocks timeline
+
+Options:
+  -h, --help  Print help
+
+Example:
+  weblocks timeline < script.jsonl > script.svg
+
+  Bars from the line that asks for a lock to the line that ends it, in a lane for each label.
+
+What the picture has: docs/FORMATS.md.
 """
 
 SERVE_HELP = """\
@@ -145,7 +162,14 @@ Example:
 Tokens, pages, pushes and close codes: docs/FORMATS.md.
 """
 
-PAGES = {"run": RUN_HELP, "audit": AUDIT_HELP, "serve": SERVE_HELP, "client": CLIENT_HELP, "daemon": DAEMON_HELP}
+PAGES = {
+    "run": RUN_HELP,
+    "audit": AUDIT_HELP,
+    "timeline": TIMELINE_HELP,
+    "serve": SERVE_HELP,
+    "client": CLIENT_HELP,
+    "daemon": DAEMON_HELP,
+}
 
 # How a page of help is asked for, and the page.
 HELPS = [(words, HELP) for words in ("--help", "-h", "help")] + [
@@ -241,6 +265,7 @@ WRONG = [
     ("serv", no_command("serv", near_command("serve"))),
     ("clients", no_command("clients", near_command("client"))),
     ("auditt", no_command("auditt", near_command("audit"))),
+    ("timelines", no_command("timelines", near_command("timeline"))),
     ("walk", no_command("walk")),
     ("help walk", no_command("walk")),
     ("--versoin", unknown("--versoin", "--version", near_argument("--version"))),
@@ -252,6 +277,7 @@ WRONG = [
     ("serve 8080", unknown("8080", "serve")),
     ("run script.jsonl", unknown("script.jsonl", "run")),
     ("audit script.jsonl", unknown("script.jsonl", "audit")),
+    ("timeline script.jsonl", unknown("script.jsonl", "timeline")),
     ("client", missing("client", PORT)),
     ("serve", missing("serve", PORT, CLIENTS)),
     ("serve --port 8080", missing("serve", CLIENTS)),
@@ -284,7 +310,7 @@ WRONG = [
 
 NO_COMMAND = """\
 'weblocks' requires a subcommand but one was not provided
-  [subcommands: run, audit, serve, client, daemon, help]"""
+  [subcommands: run, audit, timeline, serve, client, daemon, help]"""
 
 
 def is_refused(words, why):

@@ -13,7 +13,7 @@ from running import Ended, Wrong, expect, run_on
 
 EPOCH = "1767225600"
 PARTS = ["LICENSE-MIT", "clients", "deploy", "docs", "tools"]
-COMMANDS = ["run", "audit", "serve", "client", "daemon"]
+COMMANDS = ["run", "audit", "timeline", "serve", "client", "daemon"]
 # A line of an option in a help text.
 OPTION = re.compile(r"^ +(?:(-\w), )?(?: *)(--[a-z-]+)", re.MULTILINE)
 FILES = [

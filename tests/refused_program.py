@@ -1,4 +1,4 @@
-"""Refuses each growth of memory of the built program in turn, as it answers a script, audits one, and serves a client."""
+"""Refuses each growth of memory of the built program in turn, as it answers, audits and draws scripts, and serves a client."""
 
 import re
 from pathlib import Path
@@ -14,6 +14,8 @@ NAMES = [
     "closing_ends_locks_and_requests",
     "origins_share_nothing",
 ]
+# Those of which there are pictures.
+PICTURES = sorted((Path(__file__).resolve().parent / "timelines").glob("*.svg"))
 SAID = b"a growth was refused\n"
 # More growths than any run has.
 MOST = 3000
@@ -76,6 +78,18 @@ def audit_is_refused(program, path, number, refuser):
     return was
 
 
+def timeline_is_refused(program, picture, number, refuser):
+    """Nothing is written before the picture is whole."""
+    script = (SCRIPTS / picture.name).with_suffix(".in").read_bytes()
+    ended, was = refused([program, "timeline"], script, number, refuser)
+    done = lines_done(ended, picture.read_bytes())
+    if done is not None:
+        expect("the output", ended.out, b"")
+        if done > len(script.splitlines()):
+            raise Wrong(f"it did {done} lines")
+    return was
+
+
 def server_is_refused(program, number, refuser):
     """It ends before it listens; or it can't start the connection's thread; or that connection fails, and it ends as ever."""
     before = ["env", f"LD_PRELOAD={refuser}", f"REFUSED_GROWTH={number}"]
@@ -111,5 +125,7 @@ def program_growths(program, refuser):
         path = SCRIPTS / name
         yield f"run {name}", lambda p=path: each_growth(lambda n: run_is_refused(program, p, n, refuser))
         yield f"audit {name}", lambda p=path: each_growth(lambda n: audit_is_refused(program, p, n, refuser))
+    for picture in PICTURES:
+        yield f"draw {picture.stem}", lambda p=picture: each_growth(lambda n: timeline_is_refused(program, p, n, refuser))
     yield "serve a client", lambda: each_growth(lambda n: server_is_refused(program, n, refuser))
     yield "serve, and accept no second client", lambda: connection_is_refused(program, refuser)

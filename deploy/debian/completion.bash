@@ -23,10 +23,10 @@ _weblocks() {
         return
         ;;
     esac
-    local commands="run audit serve client daemon help" words
+    local commands="run audit timeline serve client daemon help" words
     case $command in
     "") words="$commands --help -h --version -V" ;;
-    run | audit) words="--help -h" ;;
+    run | audit | timeline) words="--help -h" ;;
     serve) words="--port --clients --help -h" ;;
     client) words="--port --help -h" ;;
     daemon)

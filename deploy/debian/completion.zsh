@@ -7,6 +7,7 @@ help=('(-h --help)'{-h,--help}'[print help]')
 commands=(
     'run:answer each line of standard input by one line on standard output'
     'audit:do a script, and say for each manager whether its journal is legal'
+    'timeline:do a script, and draw what became of each request as an SVG'
     'serve:serve a number of connections on 127.0.0.1'
     'client:send each line of standard input to a server, and print its reply'
     'daemon:serve until it is stopped, and push grants'
@@ -22,7 +23,7 @@ command)
 words)
     command=$line[1]
     case $command in
-    run | audit) _arguments $help ;;
+    run | audit | timeline) _arguments $help ;;
     serve) _arguments $help '--port[port to listen on]:port' '--clients[connections after which it ends]:number' ;;
     client) _arguments $help '--port[port of the server]:port' ;;
     daemon)

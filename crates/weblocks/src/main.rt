@@ -49,6 +49,7 @@ where
     match job_of(rt.alloc(), &texts) {
         Ok(Job::Run) => run(rt),
         Ok(Job::Audit) => audit(rt),
+        Ok(Job::Timeline) => timeline(rt),
         Ok(Job::Serve { port, clients }) => done(rt, serve(rt, port, u64::from(clients))),
         Ok(Job::Client { port }) => done(rt, client(rt, port)),
         Ok(Job::Daemon(options)) => daemon(rt, &options),
@@ -82,6 +83,14 @@ fn audit<R: io::Input + Print + Eprint + AllocGlobal + RandomSource>(rt: &R) -> 
     let mut reader = Reader::new(rt.reader());
     let mut writer = Writer::new(io::writer(rt));
     let ended = wl_script::audit(rt, &mut reader, &mut writer);
+    end(rt, writer, ended)
+}
+
+/// Draws the script on standard input.
+fn timeline<R: io::Input + Print + Eprint + AllocGlobal + RandomSource>(rt: &R) -> ExitCode {
+    let mut reader = Reader::new(rt.reader());
+    let mut writer = Writer::new(io::writer(rt));
+    let ended = wl_timeline::timeline(rt, &mut reader, &mut writer);
     end(rt, writer, ended)
 }
 

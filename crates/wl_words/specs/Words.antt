@@ -7,7 +7,7 @@ use Rattle.clap.specs.declared.builder.action.ArgAction.TheVariants.{Set}
 use Rattle.clap.specs.declared.error.kind.ErrorKind.TheVariants.{ValueValidation}
 use Rattle.clap.specs.declared.builder.value_parser.ValueParser.TheVariants as values
 use Rattle.wl_words.specs.declared.job.Job.{Job}
-use Rattle.wl_words.specs.declared.job.Job.TheVariants.{Run, Audit, Serve, Client, Daemon}
+use Rattle.wl_words.specs.declared.job.Job.TheVariants.{Run, Audit, Timeline, Serve, Client, Daemon}
 use Rattle.wl_words.specs.Daemon.{AsksFor, HasNoAddress, HasNoLevel, daemon_app}
 pub use Rattle.wl_words.specs.Numbers.{HasNumber}
 use Rattle.wl_words.specs.declared.job.UsageFault.{UsageFault}
@@ -20,6 +20,10 @@ run_app = new_app (codes "run")
 -- `audit`
 abbrev pub audit_app : App
 audit_app = new_app (codes "audit")
+
+-- `timeline`
+abbrev pub timeline_app : App
+timeline_app = new_app (codes "timeline")
 
 -- a required option with a number from 1, for which help has a name
 abbrev pub number_rule : Text → ℕ → Rule
@@ -41,7 +45,7 @@ client_app = with_rule (new_app (codes "client")) (number_rule (codes "port") 65
 
 -- the program, with a version, a subcommand always, and the jobs that do scripts
 abbrev pub scripts_app : App
-scripts_app = with_subcommand (with_subcommand (on_top (λ s. record s { has_version = true; subcommand_required = true }) (new_app (codes "weblocks"))) run_app.top) audit_app.top
+scripts_app = with_subcommand (with_subcommand (with_subcommand (on_top (λ s. record s { has_version = true; subcommand_required = true }) (new_app (codes "weblocks"))) run_app.top) audit_app.top) timeline_app.top
 
 abbrev pub weblocks_app : App
 weblocks_app = with_subcommand (with_subcommand (with_subcommand scripts_app serve_app.top) client_app.top) daemon_app.top
@@ -51,6 +55,7 @@ abbrev pub IsJob : Option (Text × List Row) → Job → Type 0
 IsJob None job = ⊥
 IsJob (Some used) Run = used.0 ≡ codes "run"
 IsJob (Some used) Audit = used.0 ≡ codes "audit"
+IsJob (Some used) Timeline = used.0 ≡ codes "timeline"
 IsJob (Some used) (Serve port clients) = (used.0 ≡ codes "serve") × HasNumber (codes "port") used.1 port × (1 ≤ port) × (port ≤ 65535)
     × HasNumber (codes "clients") used.1 clients × (1 ≤ clients) × (clients ≤ 10000)
 IsJob (Some used) (Client port) = (used.0 ≡ codes "client") × HasNumber (codes "port") used.1 port × (1 ≤ port) × (port ≤ 65535)

@@ -4,12 +4,13 @@ ghost use Rattle.std.specs.Prelude.{◌≡◌, pos, IfOk, codes, false};
 ghost use Rattle.clap.specs.Words.{app_of, rule_of};
 ghost use Rattle.clap.specs.declared.builder.command.Command.TheViews.{out-Command as fields_of};
 ghost use Rattle.clap.specs.declared.builder.value_parser.ValueParser.TheVariants as values;
-ghost use Rattle.wl_words.specs.Words.{weblocks_app, audit_app, client_app, run_app, scripts_app, serve_app, number_rule};
+ghost use Rattle.wl_words.specs.Words.{weblocks_app, audit_app, client_app, run_app, scripts_app, serve_app, timeline_app, number_rule};
 
 use crate::daemon_command::daemon_command;
 use crate::texts::{
     ABOUT, AUDIT_ABOUT, AUDIT_EXAMPLE, CLIENT_ABOUT, CLIENT_EXAMPLE, CLIENTS, EXAMPLE, LISTEN_PORT,
-    RUN_ABOUT, RUN_EXAMPLE, SERVE_ABOUT, SERVE_EXAMPLE, SERVER_PORT, VERSION,
+    RUN_ABOUT, RUN_EXAMPLE, SERVE_ABOUT, SERVE_EXAMPLE, SERVER_PORT, TIMELINE_ABOUT,
+    TIMELINE_EXAMPLE, VERSION,
 };
 use clap::builder::ValueParser;
 use clap::{Arg, ArgAction, Command};
@@ -37,7 +38,8 @@ fn script_commands<'a>(alloc: Global) -> Result<Command<'a>, AllocError>
         .after_help(EXAMPLE)
         .subcommand_required(true)
         .subcommand(run_command(alloc))?
-        .subcommand(audit_command(alloc))
+        .subcommand(audit_command(alloc))?
+        .subcommand(timeline_command(alloc))
 }
 
 fn run_command<'a>(alloc: Global) -> Command<'a>
@@ -56,6 +58,15 @@ fn audit_command<'a>(alloc: Global) -> Command<'a>
     Command::new(alloc, "audit")
         .about(AUDIT_ABOUT)
         .after_help(AUDIT_EXAMPLE)
+}
+
+fn timeline_command<'a>(alloc: Global) -> Command<'a>
+    ensures app { app_of result ≡ timeline_app }
+    ensures local { (fields_of result).has_globals ≡ false }
+{
+    Command::new(alloc, "timeline")
+        .about(TIMELINE_ABOUT)
+        .after_help(TIMELINE_EXAMPLE)
 }
 
 /// A required option that has a number from 1. Help has a name for the number.

@@ -17,6 +17,8 @@ pub enum Job<'a> {
     Run,
     /// Do the script on standard input, and audit the journal of each manager.
     Audit,
+    /// Do the script on standard input, and draw what became of its requests.
+    Timeline,
     /// Serve on this port until so many clients have left.
     Serve { port: u16, clients: u32 },
     /// Send standard input to the server at this port.
@@ -57,6 +59,7 @@ fn job_in<'a>(alloc: Global, matches: &ArgMatches<'a>) -> Result<Job<'a>, UsageF
     ensures wrong { IfErr result (IsUsageFault [] (subcommand_rows_of matches.now)) }
     ensures run { subcommand_name_of matches.now ≡ Some (codes "run") → IsOk result }
     ensures audit { subcommand_name_of matches.now ≡ Some (codes "audit") → IsOk result }
+    ensures timeline { subcommand_name_of matches.now ≡ Some (codes "timeline") → IsOk result }
 {
     match matches.subcommand() {
         Some(("daemon", options)) => match daemon_in(alloc, options) {
@@ -108,10 +111,12 @@ fn plain_job_in<'a>(matches: &ArgMatches<'_>) -> Option<Job<'a>>
     ensures job { IfSome result (IsJob (subcommand_rows_of matches.now)) }
     ensures run { subcommand_name_of matches.now ≡ Some (codes "run") → IsSome result }
     ensures audit { subcommand_name_of matches.now ≡ Some (codes "audit") → IsSome result }
+    ensures timeline { subcommand_name_of matches.now ≡ Some (codes "timeline") → IsSome result }
 {
     match matches.subcommand() {
         Some(("run", _)) => Some(Job::Run),
         Some(("audit", _)) => Some(Job::Audit),
+        Some(("timeline", _)) => Some(Job::Timeline),
         Some(("serve", options)) => serve_in(options),
         Some(("client", options)) => client_in(options),
         _ => None,

@@ -42,6 +42,16 @@ pub const AUDIT_EXAMPLE: &str = "Example:
 
 Scripts and audits: docs/FORMATS.md.";
 
+pub const TIMELINE_ABOUT: &str =
+    "Do each line of standard input, and draw what became of each request as an SVG";
+
+pub const TIMELINE_EXAMPLE: &str = "Example:
+  weblocks timeline < script.jsonl > script.svg
+
+  Bars from the line that asks for a lock to the line that ends it, in a lane for each label.
+
+What the picture has: docs/FORMATS.md.";
+
 pub const SERVE_ABOUT: &str = "Serve locks over WebSocket on 127.0.0.1";
 
 pub const SERVE_EXAMPLE: &str = "Example:
