@@ -19,7 +19,7 @@ use std::{io, thread};
 use thiserror::Error;
 use wl_admission::{PlaceLimits, Rules};
 use wl_liveness::Limits;
-use wl_loops::{EventLoop, LoopSetup, Shared, setup};
+use wl_loops::{EventLoop, Lobby, LoopSetup, Shared, setup};
 use wl_service::{Keeping, Service};
 use wl_types::Memory;
 
@@ -128,6 +128,10 @@ where
         has_failed: AtomicBool::new(false),
     };
     let end = &end;
+    let Ok(lobby) = Lobby::new(&shared) else {
+        return Err(ServeFault::Memory);
+    };
+    let lobby = &lobby;
     let start = Instant::now(rt)?;
     thread::scope(thread::scope_env(), rt, |scope| -> Result<(), ServeFault> {
         let mut listener = Some(listener);
@@ -138,7 +142,7 @@ where
             };
             let mine = listener.take();
             let spawned = scope.spawn(move || {
-                let mut event_loop = EventLoop::new(rt, end.shared, place, poll, mine, start);
+                let mut event_loop = EventLoop::new(rt, end.shared, Some(lobby), place, poll, mine, start);
                 if event_loop.serve().is_err() {
                     end.has_failed.store(true, Ordering::SeqCst);
                 }
