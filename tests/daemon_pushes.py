@@ -311,20 +311,20 @@ def moves_and_ends_at_once(program):
 
 
 def an_end_among_moves(program):
-    """The server ends while connections move: each peer is told so."""
-    with Daemon(program, "--loops", "4") as daemon:
-        peers = [daemon.opened(URL, PUSH) for _ in range(8)]
-        mine = [json.loads(peer.ask(request(1)))["ok"]["request"] for peer in peers]
-        hand_round(peers, mine, 130)
-        status, _ = daemon.end()
-        expect("the status", status, 0)
-        for peer in peers:
-            try:
-                peer.get()
-            except Closed as closed:
-                expect("the code", closed.code, 1001)
-            else:
-                raise Wrong("a peer wasn't told that the server ended")
+    """The server ends as connections move, which is after some 16 hand-overs to each: every peer is told so."""
+    for turns in range(108, 148, 4):
+        with Daemon(program, "--loops", "4") as daemon:
+            peers = [daemon.opened(URL, PUSH) for _ in range(8)]
+            hand_round(peers, [json.loads(peer.ask(request(1)))["ok"]["request"] for peer in peers], turns)
+            status, _ = daemon.end()
+            expect("the status", status, 0)
+            for peer in peers:
+                try:
+                    peer.get()
+                except Closed as closed:
+                    expect("the code", closed.code, 1001)
+                else:
+                    raise Wrong("a peer wasn't told that the server ended")
 
 
 def no_wake_for_an_own_change(program):
