@@ -128,7 +128,7 @@ where
         has_failed: AtomicBool::new(false),
     };
     let end = &end;
-    let Ok(lobby) = Lobby::new(&shared) else {
+    let Ok(lobby) = Lobby::new(rt, &shared) else {
         return Err(ServeFault::Memory);
     };
     let lobby = &lobby;

@@ -6,9 +6,7 @@
 //! other poll is told once the stream is registered there, and news in its inbox, at which its first turn there looks.
 
 use super::{EventLoop, MOST};
-use crate::connection::Next;
 use crate::host::{Event, Host, Place};
-use crate::lobby::Room;
 use crate::served::Served;
 use std::sync::Wait;
 use std::time::Clock;
@@ -33,76 +31,41 @@ impl<'a, 'b, R: Wait + Clock, H: Host> EventLoop<'a, 'b, R, H> {
         self.send_away(key, meeting % rooms);
     }
 
-    /// Sends the connection of this key to another loop. It stays where there is no memory for that.
+    /// Sends the connection of this key to another loop.
     fn send_away(&mut self, key: usize, to: usize) {
         let (Some(lobby), Some(inbox)) = (self.lobby, self.shared.inboxes.get(to)) else {
             return;
         };
-        let Some(room) = lobby.room(to) else {
-            return;
-        };
-        let mut guard = room.lock(self.rt);
-        let room = &mut *guard;
-        if room.is_closed || room.moved.reserve(1).is_err() || !self.detach(key) {
-            return;
-        }
-        let Some(served) = self.served.try_remove(key) else {
-            return;
-        };
-        let source = served.hold.source();
-        room.moved.push_reserved(served);
-        drop(guard);
-        self.shared.host.note(Event::Moved(source, to));
-        inbox.set_newcomers();
-        inbox.rouse();
-    }
-
-    /// Has this loop's poll report no more of the connection of this key, and answers whether it won't.
-    fn detach(&self, key: usize) -> bool {
-        match self.served.get(key) {
-            Some(served) => served.connection.detach(self.poll.registry()),
-            None => false,
+        if let Some(source) =
+            lobby.send(self.rt, &mut self.served, key, self.poll.registry(), to)
+        {
+            inbox.set_newcomers();
+            inbox.rouse();
+            self.shared.host.note(Event::Moved(source, to));
         }
     }
 
     /// Takes in the connections that other loops sent here. Those for which there is no memory wait for the next time.
     pub(super) fn take_moved(&mut self) {
         for _ in 0..MOST {
-            if !self.take_one_moved() {
+            let Some(served) = self.next_moved() else {
                 return;
-            }
+            };
+            self.put_moved(served);
         }
     }
 
-    /// Takes in one of them, if there is one and memory for it.
-    fn take_one_moved(&mut self) -> bool {
-        let Some(lobby) = self.lobby else {
-            return false;
-        };
-        let Some(room) = lobby.room(self.number) else {
-            return false;
-        };
+    /// One of them, if there is one and memory for it.
+    fn next_moved(&mut self) -> Option<Served<'a, R, H>> {
+        let lobby = self.lobby?;
         if self.served.reserve(1).is_err() {
-            return false;
+            return None;
         }
         let place = Place {
             event_loop: self.number,
             key: self.served.vacant_key(),
         };
-        let mut room = room.lock(self.rt);
-        let is_settled = match room.moved.last_mut() {
-            Some(served) => served.connection.settle(self.poll.registry(), place),
-            None => false,
-        };
-        if !is_settled {
-            return false;
-        }
-        let Some(served) = room.moved.pop() else {
-            return false;
-        };
-        drop(room);
-        self.put_moved(served);
-        true
+        lobby.receive(self.rt, self.poll.registry(), place)
     }
 
     /// What happened to a connection on its way is looked at by its first turn.
@@ -120,16 +83,9 @@ impl<'a, 'b, R: Wait + Clock, H: Host> EventLoop<'a, 'b, R, H> {
 
     /// Takes in those on their way here for the last time: from now on none is sent.
     pub(super) fn close_room(&mut self) {
-        self.take_moved();
-        let Some(lobby) = self.lobby else {
-            return;
-        };
-        let Some(room) = lobby.room(self.number) else {
-            return;
-        };
-        let mut room = room.lock(self.rt);
-        room.is_closed = true;
-        drop(room);
+        if let Some(lobby) = self.lobby {
+            lobby.close(self.rt, self.number);
+        }
         self.take_moved();
     }
 }
