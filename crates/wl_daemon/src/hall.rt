@@ -57,13 +57,7 @@ impl<'a, L: Log> Host for Hall<'a, L> {
             return Err(Memory);
         };
         let key = place.key as u64;
-        Ok(Member::new(Desk::new(
-            self.alloc,
-            self.service,
-            admitted,
-            event_loop,
-            key,
-        )))
+        Ok(Member::new(Desk::new(self.alloc, self.service, admitted, event_loop, key)))
     }
 
     fn settle<R: Wait>(&self, rt: &R, peer: &mut Member<'a>, place: Place) -> Result<(), Memory> {

@@ -142,7 +142,15 @@ where
             };
             let mine = listener.take();
             let spawned = scope.spawn(move || {
-                let mut event_loop = EventLoop::new(rt, end.shared, Some(lobby), place, poll, mine, start);
+                let mut event_loop = EventLoop::new(
+                    rt,
+                    end.shared,
+                    Some(lobby),
+                    place,
+                    poll,
+                    mine,
+                    start,
+                );
                 if event_loop.serve().is_err() {
                     end.has_failed.store(true, Ordering::SeqCst);
                 }

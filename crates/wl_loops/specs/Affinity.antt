@@ -1,5 +1,5 @@
 -- How much another loop draws a connection (own).
-use Rattle.std.specs.Prelude.{ℕ, ◌+◌, ◌-◌, min, Bool, nat_le}
+use Rattle.std.specs.Prelude.{◌+◌, ◌-◌, min, Bool, nat_le}
 use Rattle.wl_loops.specs.declared.affinity.Affinity.{Affinity}
 
 abbrev pub new_affinity : Affinity

@@ -153,7 +153,10 @@ impl<'a, R: Wait, H: Host> Connection<'a, R, H> {
     /// Whether something may have changed that the speaker hasn't looked at.
     pub fn is_marked(&self) -> bool {
         match &self.stage {
-            Stage::Open(talk) => talk.seat.speaker().is_some_and(|speaker| speaker.is_marked()),
+            Stage::Open(talk) => talk
+                .seat
+                .speaker()
+                .is_some_and(|speaker| speaker.is_marked()),
             _ => false,
         }
     }

@@ -36,9 +36,7 @@ impl<'a, 'b, R: Wait + Clock, H: Host> EventLoop<'a, 'b, R, H> {
         let (Some(lobby), Some(inbox)) = (self.lobby, self.shared.inboxes.get(to)) else {
             return;
         };
-        if let Some(source) =
-            lobby.send(self.rt, &mut self.served, key, self.poll.registry(), to)
-        {
+        if let Some(source) = lobby.send(self.rt, &mut self.served, key, self.poll.registry(), to) {
             inbox.set_newcomers();
             inbox.rouse();
             self.shared.host.note(Event::Moved(source, to));
