@@ -5,6 +5,7 @@ use crate::loop_state::LoopState;
 use crate::token_file::TokenFile;
 use crate::watching::{Over, watch};
 use log::Log;
+use mio::Poll;
 use mio::net::TcpListener;
 use std::alloc::Global;
 use std::fs::Files;
@@ -127,8 +128,54 @@ where
         over: Over::new(),
         has_failed: AtomicBool::new(false),
     };
-    let end = &end;
-    let Ok(lobby) = Lobby::new(rt, &shared) else {
+    run_threads(rt, &end, Run {
+        log,
+        loops,
+        listener,
+        polls,
+        origins,
+        file,
+        while_input,
+    })?;
+    if end.has_failed.load(Ordering::SeqCst) {
+        return Err(ServeFault::Loop);
+    }
+    Ok(())
+}
+
+/// What the threads of a server are given.
+#[derive(Drop)]
+struct Run<'a, L> {
+    log: &'a L,
+    loops: usize,
+    listener: TcpListener,
+    polls: Vec<Poll>,
+    origins: &'a [&'a str],
+    file: Option<TokenFile<'a>>,
+    while_input: bool,
+}
+
+/// Runs the threads of a server until it ends.
+fn run_threads<'a, R, L>(
+    rt: &'a R,
+    end: &'a End<'a, Hall<'a, L>>,
+    asked: Run<'a, L>,
+) -> Result<(), ServeFault>
+where
+    R: Net + Threads + Wait + Clock + Files<File: Send, Dir: Send> + Sync,
+    R: io::Input + AllocGlobal,
+    L: Log + Sync,
+{
+    let Run {
+        log,
+        loops,
+        listener,
+        polls,
+        origins,
+        file,
+        while_input,
+    } = asked;
+    let Ok(lobby) = Lobby::new(rt, end.shared) else {
         return Err(ServeFault::Memory);
     };
     let lobby = &lobby;
@@ -176,11 +223,7 @@ where
             end.tell(rt);
         }
         Ok(())
-    })?;
-    if end.has_failed.load(Ordering::SeqCst) {
-        return Err(ServeFault::Loop);
-    }
-    Ok(())
+    })
 }
 
 /// What ends the threads of a server.
