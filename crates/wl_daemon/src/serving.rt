@@ -128,15 +128,19 @@ where
         over: Over::new(),
         has_failed: AtomicBool::new(false),
     };
-    run_threads(rt, &end, Run {
-        log,
-        loops,
-        listener,
-        polls,
-        origins,
-        file,
-        while_input,
-    })?;
+    run_threads(
+        rt,
+        &end,
+        Run {
+            log,
+            loops,
+            listener,
+            polls,
+            origins,
+            file,
+            while_input,
+        },
+    )?;
     if end.has_failed.load(Ordering::SeqCst) {
         return Err(ServeFault::Loop);
     }
