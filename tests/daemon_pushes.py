@@ -1,10 +1,14 @@
 """Pushes: a peer that asked for `weblocks.push` is told of its requests without asking, once and between messages."""
 
 import json
+import random
+import re
+import socket
+import threading
 import time
 
-from daemon_server import PUSH, Daemon, framed
-from running import expect
+from daemon_server import PUSH, Closed, Daemon, framed
+from running import Wrong, expect
 
 URL = "https://a.test/"
 
@@ -188,6 +192,184 @@ def each_waiter_in_turn(program):
             mine[turn % 64] = json.loads(holder.ask(request(1)))["ok"]["request"]
 
 
+def hand_round(peers, mine, turns):
+    """The lock goes from each peer to the next, so many times. Each asks for it again at once."""
+    count = len(peers)
+    for turn in range(turns):
+        holder, waiter = peers[turn % count], peers[(turn + 1) % count]
+        holder.send(release(2, mine[turn % count]))
+        holder.send(request(3))
+        expect("the push", waiter.get(), push(("granted", mine[(turn + 1) % count])))
+        expect("the release", holder.get(), released(2))
+        mine[turn % count] = json.loads(holder.get())["ok"]["request"]
+
+
+def moves(err):
+    """The loops to which connections moved, by what the daemon wrote."""
+    return [int(loop) for loop in re.findall("moved to loop ([0-9]+)", err)]
+
+
+def a_meeting_on_one_loop(program):
+    """Connections go to the loops in turn, so two of eight are on each of four. Those that hand a lock over meet on one
+    of these, and those with a name of their own stay where they are."""
+    with Daemon(program, "--loops", "4", "--log", "debug") as daemon:
+        peers = [daemon.opened(URL, PUSH) for _ in range(8)]
+        others = [daemon.opened(URL, PUSH) for _ in range(4)]
+        mine = [json.loads(peer.ask(request(1)))["ok"]["request"] for peer in peers]
+        for _ in range(10):
+            hand_round(peers, mine, 80)
+            for n, other in enumerate(others):
+                lock = json.loads(other.ask(request(1, f"own {n}")))["ok"]["request"]
+                expect("the release", other.ask(release(2, lock)), released(2))
+        status, err = daemon.end()
+        expect("the status", status, 0)
+        expect("how many moved, and to how many loops", (len(moves(err)), len(set(moves(err)))), (6, 1))
+
+
+def none_moves_without_pushes(program):
+    """Connections that poll, one loop, and a lock that goes over now and then among messages of other kinds."""
+    with Daemon(program, "--loops", "1", "--log", "debug") as daemon:
+        peers = [daemon.opened(URL, PUSH) for _ in range(4)]
+        hand_round(peers, [json.loads(peer.ask(request(1)))["ok"]["request"] for peer in peers], 200)
+        expect("the moves", moves(daemon.end()[1]), [])
+    with Daemon(program, "--loops", "4", "--log", "debug") as daemon:
+        peers = [daemon.opened(URL, PUSH) for _ in range(4)]
+        mine = [json.loads(peer.ask(request(1)))["ok"]["request"] for peer in peers]
+        for _ in range(50):
+            for peer in peers:
+                for _ in range(4):
+                    expect("a poll", peer.ask(POLL), POLLED)
+            hand_round(peers, mine, len(peers))
+        expect("the moves", moves(daemon.end()[1]), [])
+
+
+class Worker(threading.Thread):
+    """Takes a name and gives it back, again and again; now and then it goes away, as it waits or with the lock."""
+
+    def __init__(self, daemon, name, owners, cycles, seed):
+        super().__init__()
+        self.daemon_server, self.name_wanted, self.owners, self.cycles = daemon, name, owners, cycles
+        self.random = random.Random(seed)
+        self.fault = None
+
+    def run(self):
+        try:
+            peer = self.daemon_server.opened(URL, PUSH)
+            for cycle in range(self.cycles):
+                leaves = self.random.choice(["waiting", "holding"]) if self.random.random() < 0.03 else None
+                peer = self.cycle(peer, leaves)
+            peer.drop()
+        except Exception as fault:
+            self.fault = fault
+
+    def cycle(self, peer, leaves):
+        peer.send(request(1, self.name_wanted))
+        if leaves == "waiting":
+            peer.drop()
+            return self.daemon_server.opened(URL, PUSH)
+        reply = json.loads(peer.get())
+        mine, told = reply["ok"]["request"], reply["notices"]
+        if not told:
+            told = json.loads(peer.get())["notices"]
+        expect("what is told", told, [{"phase": "granted", "request": mine}])
+        before = self.owners.pop(self.name_wanted, None)
+        self.owners[self.name_wanted] = self.ident
+        expect("who has the lock before", before, None)
+        self.owners.pop(self.name_wanted)
+        if leaves == "holding":
+            peer.drop()
+            return self.daemon_server.opened(URL, PUSH)
+        expect("the release", peer.ask(release(2, mine)), released(2))
+        return peer
+
+
+def moves_and_ends_at_once(program):
+    """Nothing is lost or doubled where connections hand locks over, move and end, all at once: each waiter is told once,
+    no lock has two owners, and in the end none is held or waited for."""
+    with Daemon(program, "--loops", "4", "--log", "debug") as daemon:
+        owners = {}
+        workers = [Worker(daemon, f"name {n % 3}", owners, 150, n) for n in range(15)]
+        for worker in workers:
+            worker.start()
+        for worker in workers:
+            worker.join()
+        for worker in workers:
+            if worker.fault:
+                raise worker.fault
+        last = daemon.opened(URL, PUSH)
+        end = time.monotonic() + 10
+        while time.monotonic() < end:
+            ok = json.loads(last.ask('{"id":1,"op":"query"}'))["ok"]
+            if ok == {"held": [], "pending": []}:
+                break
+            time.sleep(0.05)
+        expect("what is left", ok, {"held": [], "pending": []})
+        last.drop()
+        status, err = daemon.end()
+        expect("the status", status, 0)
+        expect("whether connections moved", len(moves(err)) > 0, True)
+
+
+def an_end_among_moves(program):
+    """The server ends as connections move, which is after some 16 hand-overs to each: every peer is told so."""
+    for turns in range(108, 148, 4):
+        with Daemon(program, "--loops", "4") as daemon:
+            peers = [daemon.opened(URL, PUSH) for _ in range(8)]
+            hand_round(peers, [json.loads(peer.ask(request(1)))["ok"]["request"] for peer in peers], turns)
+            status, _ = daemon.end()
+            expect("the status", status, 0)
+            for peer in peers:
+                try:
+                    peer.get()
+                except Closed as closed:
+                    expect("the code", closed.code, 1001)
+                else:
+                    raise Wrong("a peer wasn't told that the server ended")
+
+
+def no_wake_for_an_own_change(program):
+    """What a peer changes for itself wakes no loop: the only writes of the daemon beside those to its streams, which the
+    system counts apart, are to wake one."""
+    with Daemon(program, "--loops", "4", "--log", "off") as daemon:
+        peers = [daemon.opened(URL, PUSH) for _ in range(8)]
+
+        def writes():
+            with open(f"/proc/{daemon.child.pid}/io") as file:
+                return int(dict(line.split(": ") for line in file)["syscw"])
+
+        before = writes()
+        for n in range(100):
+            for at, peer in enumerate(peers):
+                peer.send(request(n, f"own {at}"))
+            locks = [json.loads(peer.get())["ok"]["request"] for peer in peers]
+            for lock, peer in zip(locks, peers):
+                peer.send(release(n, lock))
+            for peer in peers:
+                expect("the release", peer.get(), released(n))
+        expect("the wakes", writes() - before, 0)
+        locks = [json.loads(peer.ask(request(1)))["ok"]["request"] for peer in peers[:2]]
+        peers[0].ask(release(2, locks[0]))
+        expect("the push", peers[1].get(), push(("granted", locks[1])))
+        time.sleep(0.1)
+        expect("whether a change for another wakes its loop", writes() - before, 1)
+
+
+def the_end_of_a_peer_that_says_more(program):
+    """A message and the end of the stream come together: the message is answered, and the agent ends at once."""
+    with Daemon(program) as daemon:
+        waiter = daemon.opened(URL, PUSH)
+        for turn in range(50):
+            holder = daemon.opened(URL)
+            lock = json.loads(holder.ask(request(1)))["ok"]["request"]
+            mine = json.loads(waiter.ask(request(1)))["ok"]["request"]
+            holder.sock.sendall(framed(POLL))
+            holder.sock.shutdown(socket.SHUT_WR)
+            expect("the reply", holder.get(), POLLED)
+            expect("the push", waiter.get(), push(("granted", mine)))
+            expect("the release", waiter.ask(release(2, mine)), released(2))
+            holder.drop()
+
+
 def push_checks(program):
     for name, check in [
         ("a push on one loop", on_one_loop),
@@ -200,5 +382,11 @@ def push_checks(program):
         ("many messages at once are answered in their order", many_messages_are_answered_in_order),
         ("a lock that is stolen is told by a push", a_lock_that_is_stolen),
         ("a lock goes round 64 waiters", each_waiter_in_turn),
+        ("those that hand a lock over meet on one loop", a_meeting_on_one_loop),
+        ("none moves for nothing", none_moves_without_pushes),
+        ("moves, hand-overs and ends at once", moves_and_ends_at_once),
+        ("the server ends among moves", an_end_among_moves),
+        ("a peer's own change wakes no loop", no_wake_for_an_own_change),
+        ("a message and the end of its stream at once", the_end_of_a_peer_that_says_more),
     ]:
         yield name, lambda c=check: c(program)

@@ -56,12 +56,15 @@ impl<'a, L: Log> Host for Hall<'a, L> {
         let Some(event_loop) = loops.get(place.event_loop) else {
             return Err(Memory);
         };
-        Ok(Member::new(Desk {
-            alloc: self.alloc,
-            service: self.service,
-            admitted,
-            event_loop,
-            key: place.key as u64,
-        }))
+        let key = place.key as u64;
+        Ok(Member::new(Desk::new(self.alloc, self.service, admitted, event_loop, key)))
+    }
+
+    fn settle<R: Wait>(&self, rt: &R, peer: &mut Member<'a>, place: Place) -> Result<(), Memory> {
+        let loops: &'a Vec<LoopState> = self.loops;
+        let Some(event_loop) = loops.get(place.event_loop) else {
+            return Err(Memory);
+        };
+        peer.desk.settle(rt, event_loop, place.key as u64)
     }
 }

@@ -76,4 +76,8 @@ impl Listener for Member<'_> {
     fn is_marked(&self) -> bool {
         self.peer.is_rung()
     }
+
+    fn meeting(&self) -> Option<usize> {
+        self.desk.meeting()
+    }
 }

@@ -20,6 +20,7 @@ pub fn tell_log<L: Log>(log: &L, event: Event) {
         Event::Dropped(source) => info!(log; "{}: dropped: no place", address_of(source)),
         Event::Closed(source, ending) => tell_ending(log, source, ending),
         Event::Silent(source) => info!(log; "{}: ended: silent for too long", address_of(source)),
+        Event::Moved(source, to) => debug!(log; "{}: moved to loop {to}", address_of(source)),
         Event::CannotAccept(kind) => warn!(log; "cannot accept connections: {kind}"),
     }
 }

@@ -5,6 +5,7 @@ use crate::loop_state::LoopState;
 use crate::token_file::TokenFile;
 use crate::watching::{Over, watch};
 use log::Log;
+use mio::Poll;
 use mio::net::TcpListener;
 use std::alloc::Global;
 use std::fs::Files;
@@ -19,7 +20,7 @@ use std::{io, thread};
 use thiserror::Error;
 use wl_admission::{PlaceLimits, Rules};
 use wl_liveness::Limits;
-use wl_loops::{EventLoop, LoopSetup, Shared, setup};
+use wl_loops::{EventLoop, Lobby, LoopSetup, Shared, setup};
 use wl_service::{Keeping, Service};
 use wl_types::Memory;
 
@@ -127,7 +128,61 @@ where
         over: Over::new(),
         has_failed: AtomicBool::new(false),
     };
-    let end = &end;
+    run_threads(
+        rt,
+        &end,
+        Run {
+            log,
+            loops,
+            listener,
+            polls,
+            origins,
+            file,
+            while_input,
+        },
+    )?;
+    if end.has_failed.load(Ordering::SeqCst) {
+        return Err(ServeFault::Loop);
+    }
+    Ok(())
+}
+
+/// What the threads of a server are given.
+#[derive(Drop)]
+struct Run<'a, L> {
+    log: &'a L,
+    loops: usize,
+    listener: TcpListener,
+    polls: Vec<Poll>,
+    origins: &'a [&'a str],
+    file: Option<TokenFile<'a>>,
+    while_input: bool,
+}
+
+/// Runs the threads of a server until it ends.
+fn run_threads<'a, R, L>(
+    rt: &'a R,
+    end: &'a End<'a, Hall<'a, L>>,
+    asked: Run<'a, L>,
+) -> Result<(), ServeFault>
+where
+    R: Net + Threads + Wait + Clock + Files<File: Send, Dir: Send> + Sync,
+    R: io::Input + AllocGlobal,
+    L: Log + Sync,
+{
+    let Run {
+        log,
+        loops,
+        listener,
+        polls,
+        origins,
+        file,
+        while_input,
+    } = asked;
+    let Ok(lobby) = Lobby::new(rt, end.shared) else {
+        return Err(ServeFault::Memory);
+    };
+    let lobby = &lobby;
     let start = Instant::now(rt)?;
     thread::scope(thread::scope_env(), rt, |scope| -> Result<(), ServeFault> {
         let mut listener = Some(listener);
@@ -138,7 +193,15 @@ where
             };
             let mine = listener.take();
             let spawned = scope.spawn(move || {
-                let mut event_loop = EventLoop::new(rt, end.shared, place, poll, mine, start);
+                let mut event_loop = EventLoop::new(
+                    rt,
+                    end.shared,
+                    Some(lobby),
+                    place,
+                    poll,
+                    mine,
+                    start,
+                );
                 if event_loop.serve().is_err() {
                     end.has_failed.store(true, Ordering::SeqCst);
                 }
@@ -164,11 +227,7 @@ where
             end.tell(rt);
         }
         Ok(())
-    })?;
-    if end.has_failed.load(Ordering::SeqCst) {
-        return Err(ServeFault::Loop);
-    }
-    Ok(())
+    })
 }
 
 /// What ends the threads of a server.

@@ -1,2 +1,3 @@
+pub mod Affinity
 pub mod Holds
 pub mod Sweeps

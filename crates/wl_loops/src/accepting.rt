@@ -60,7 +60,7 @@ impl Acceptor {
         };
         if let Some(inbox) = shared.inboxes.get(next) {
             if inbox.bring(rt, arrival) {
-                inbox.wake();
+                inbox.rouse();
                 return;
             }
         }

@@ -4,23 +4,25 @@ ghost use Rattle.std.specs.Prelude.{◌≡◌, true, false};
 ghost use Rattle.wl_liveness.specs.Liveness.{due_of, new_liveness, pinged};
 ghost use Rattle.wl_liveness.specs.declared.liveness.Due.TheVariants.{Nothing, Ping, End};
 
+use crate::affinity::Affinity;
 use crate::farewell::Farewell;
 use crate::host::{Event, Host, Listener, Place};
 use crate::seat::Seat;
+use crate::talk::Talk;
+use mio::Registry;
 use mio::net::TcpStream;
 use std::mem;
 use std::sync::Wait;
 use wl_admission::{Admitted, Source};
 use wl_liveness::{Due, Limits, Liveness};
 use wl_types::Memory;
-use wl_wire::{Ending, Greeted, Greeting, Pace, Sending, Turn, Wire, take_turn};
+use wl_wire::{Ending, Greeted, Greeting, Pace, Sending, Wire};
 
 /// How far a connection is.
 #[derive(Drop)]
 enum Stage<'a, R: Wait, P: Listener> {
     Greeting(Greeting<TcpStream>),
-    // Let go of in this order, so that whoever sees the stream closed finds the speaker ended.
-    Open(Seat<'a, R, P>, Wire<TcpStream>),
+    Open(Talk<'a, R, P>),
     Closing(Farewell),
     Ended,
 }
@@ -29,7 +31,7 @@ impl<'a, R: Wait, P: Listener> Stage<'a, R, P> {
     /// Pings the peer, where it can be, and answers whether the stream failed.
     fn ping(&mut self) -> bool {
         match self {
-            Stage::Open(_, wire) => matches!(wire.ping(), Sending::Failed(_)),
+            Stage::Open(talk) => matches!(talk.wire.ping(), Sending::Failed(_)),
             _ => false,
         }
     }
@@ -60,6 +62,7 @@ pub struct Connection<'a, R: Wait, H: Host> {
     wants_pushes: bool,
     // Something may have changed that wasn't pushed.
     may_push: bool,
+    affinity: Affinity,
     // It stands among those that have a turn.
     pub is_queued: bool,
 }
@@ -86,14 +89,15 @@ impl<'a, R: Wait, H: Host> Connection<'a, R, H> {
             came: 0,
             wants_pushes: false,
             may_push: false,
+            affinity: Affinity::new(),
             is_queued: false,
         }
     }
 
-    /// The stream is ready for something.
-    pub fn hear_of(&mut self) {
-        if let Stage::Open(_, wire) = &mut self.stage {
-            wire.wake();
+    /// The stream is ready for something; its end may be there too.
+    pub fn hear_of(&mut self, may_end: bool) {
+        if let Stage::Open(talk) = &mut self.stage {
+            talk.wire.wake_for(may_end);
         }
     }
 
@@ -104,21 +108,68 @@ impl<'a, R: Wait, H: Host> Connection<'a, R, H> {
         self.may_push = self.wants_pushes;
     }
 
+    /// Another loop changed something.
+    pub fn tell(&mut self) {
+        self.affinity.tell();
+    }
+
+    /// The number of the place where it meets those that draw it, if another loop does.
+    pub fn meeting_if_drawn(&self) -> Option<usize> {
+        if !self.affinity.is_drawn() || self.is_queued {
+            return None;
+        }
+        match &self.stage {
+            Stage::Open(talk) => talk.seat.speaker()?.meeting(),
+            _ => None,
+        }
+    }
+
+    /// What drew it counts no more.
+    pub fn stay(&mut self) {
+        self.affinity = Affinity::new();
+    }
+
+    /// Has this poll report no more of its stream, and answers whether it won't. One that isn't open stays.
+    pub fn detach(&self, registry: &Registry) -> bool {
+        match &self.stage {
+            Stage::Open(talk) => talk.detach(registry),
+            _ => false,
+        }
+    }
+
+    /// Has its stream and its speaker report to this place, and answers whether they will. Else it stays on its way.
+    pub fn settle(&mut self, registry: &Registry, place: Place) -> bool {
+        let is_settled = match &mut self.stage {
+            Stage::Open(talk) => talk.settle(self.rt, self.host, registry, place),
+            _ => false,
+        };
+        if is_settled {
+            self.place = place;
+            self.affinity = Affinity::new();
+        }
+        is_settled
+    }
+
     /// Whether something may have changed that the speaker hasn't looked at.
     pub fn is_marked(&self) -> bool {
         match &self.stage {
-            Stage::Open(seat, _) => seat.speaker().is_some_and(|speaker| speaker.is_marked()),
+            Stage::Open(talk) => talk
+                .seat
+                .speaker()
+                .is_some_and(|speaker| speaker.is_marked()),
             _ => false,
         }
     }
 
     /// Goes on for as long as the stream doesn't block, or for a turn.
     pub fn go_on(&mut self, now: u64) -> Next {
+        if matches!(self.stage, Stage::Open(..)) {
+            return self.converse(now);
+        }
         match mem::replace(&mut self.stage, Stage::Ended) {
             Stage::Greeting(greeting) => self.greet(greeting, now),
-            Stage::Open(seat, wire) => self.talk(wire, seat, now),
             Stage::Closing(farewell) => self.part(farewell, now),
-            Stage::Ended => Next::Ended,
+            Stage::Open(..) | Stage::Ended => Next::Ended,
         }
     }
 
@@ -143,34 +194,37 @@ impl<'a, R: Wait, H: Host> Connection<'a, R, H> {
     fn begin(&mut self, wire: Wire<TcpStream>, admitted: Admitted, now: u64) -> Next {
         self.wants_pushes = admitted.is_pushed;
         match self.host.begin(self.rt, self.place, admitted) {
-            Ok(speaker) => self.talk(wire, Seat::new(self.rt, speaker), now),
+            Ok(speaker) => {
+                let seat = Seat::new(self.rt, speaker);
+                self.stage = Stage::Open(Talk { seat, wire });
+                self.converse(now)
+            }
             Err(Memory) => self.close(wire, Ending::Memory, now),
         }
     }
 
-    fn talk(&mut self, wire: Wire<TcpStream>, seat: Seat<'a, R, H::Peer>, now: u64) -> Next {
-        let mut wire = wire;
-        let mut seat = seat;
-        let Some(speaker) = seat.take() else {
-            return self.close(wire, Ending::Memory, now);
+    /// Goes on, where it is open.
+    fn converse(&mut self, now: u64) -> Next {
+        match self.talk(now) {
+            Ok(Pace::Waits) => Next::Waits,
+            Ok(Pace::Again) => Next::Again,
+            Err(ending) => self.leave(ending, now),
+        }
+    }
+
+    /// A turn of a connection that is open, or why it is to end.
+    fn talk(&mut self, now: u64) -> Result<Pace, Ending> {
+        let Stage::Open(talk) = &mut self.stage else {
+            return Err(Ending::Broken);
         };
-        let turn = take_turn(self.rt, &mut wire, speaker, &mut self.may_push);
-        let came = wire.came();
+        let talked = talk.go_on(self.rt, &mut self.may_push);
+        let came = talk.wire.came();
         if came != self.came {
             self.came = came;
             self.liveness.hear(now);
+            self.affinity.ask();
         }
-        match turn {
-            Turn::Went(speaker, pace) => {
-                seat.put(speaker);
-                self.stage = Stage::Open(seat, wire);
-                match pace {
-                    Pace::Waits => Next::Waits,
-                    Pace::Again => Next::Again,
-                }
-            }
-            Turn::Ended(ending) => self.close(wire, ending, now),
-        }
+        talked
     }
 
     /// Tells the peer why the connection ends, as far as it can be told.
@@ -229,10 +283,16 @@ impl<'a, R: Wait, H: Host> Connection<'a, R, H> {
 
     /// Begins to tell the peer that the server ends, where it can be told.
     pub fn go_away(&mut self, now: u64) -> Next {
+        self.leave(Ending::Away, now)
+    }
+
+    /// Ends what is open, for this reason; what is closing goes on.
+    fn leave(&mut self, ending: Ending, now: u64) -> Next {
         match mem::replace(&mut self.stage, Stage::Ended) {
-            Stage::Open(seat, wire) => {
+            Stage::Open(talk) => {
+                let Talk { seat, wire } = talk;
                 drop(seat);
-                self.close(wire, Ending::Away, now)
+                self.close(wire, ending, now)
             }
             Stage::Closing(farewell) => self.part(farewell, now),
             Stage::Greeting(_) | Stage::Ended => Next::Ended,

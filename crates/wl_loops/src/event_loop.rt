@@ -3,11 +3,15 @@
 ghost use Rattle.std.specs.Prelude.{◌≡◌, ◌-◌, ◌<◌, ◌≤◌};
 ghost use Rattle.wl_loops.specs.Sweeps.{EachWatched};
 
+mod moves;
+
 use crate::accepting::Acceptor;
 use crate::connection::{Connection, Next};
 use crate::host::{Host, Place, Ring};
+use crate::lobby::Lobby;
 use crate::served::{Served, watch_all};
-use crate::shared::{Arrival, Shared, WAKER};
+use crate::shared::{Arrival, Inbox, Shared, WAKER};
+use mio::event::Event;
 use mio::net::TcpListener;
 use mio::{Events, Interest, Poll, Token};
 use slab::Slab;
@@ -31,9 +35,11 @@ const LISTENER: usize = WAKER - 1;
 
 /// A loop, and the connections that it serves.
 #[derive(Drop)]
-pub struct EventLoop<'a, R: Wait, H: Host> {
+pub struct EventLoop<'a, 'b, R: Wait, H: Host> {
     rt: &'a R,
     shared: &'a Shared<H>,
+    // None where each connection stays on its loop.
+    lobby: Option<&'b Lobby<'a, R, H>>,
     number: usize,
     poll: Poll,
     acceptor: Option<Acceptor>,
@@ -50,20 +56,23 @@ pub struct EventLoop<'a, R: Wait, H: Host> {
     is_leaving: bool,
 }
 
-impl<'a, R: Wait + Clock, H: Host> EventLoop<'a, R, H> {
-    /// The loop of this number, from 0. One of a server's loops has the listener.
+impl<'a, 'b, R: Wait + Clock, H: Host> EventLoop<'a, 'b, R, H> {
+    /// The loop of this number, from 0. One of a server's loops has the listener. All of them have the same start, since
+    /// a connection takes its times along to another loop.
     pub fn new(
         rt: &'a R,
         shared: &'a Shared<H>,
+        lobby: Option<&'b Lobby<'a, R, H>>,
         number: usize,
         poll: Poll,
         listener: Option<TcpListener>,
         start: Instant,
-    ) -> EventLoop<'a, R, H> {
+    ) -> EventLoop<'a, 'b, R, H> {
         let alloc = shared.alloc;
         EventLoop {
             rt,
             shared,
+            lobby,
             number,
             poll,
             acceptor: listener.map(Acceptor::new),
@@ -93,19 +102,15 @@ impl<'a, R: Wait + Clock, H: Host> EventLoop<'a, R, H> {
                     return Ok(());
                 }
             }
-            let timeout = self.timeout();
-            if let Err(error) = self.poll.poll(&mut events, Some(timeout)) {
-                if error.kind() != ErrorKind::Interrupted {
-                    return Err(error);
-                }
-            }
+            self.wait(&mut events)?;
             self.look_at_clock();
-            let is_woken = self.take_events(&events);
-            self.take_arrivals();
-            // Whoever woke this loop has taken the mark of its ring.
-            if is_woken || self.is_rung() {
-                self.take_marked();
-            }
+            self.take_events(&events);
+            self.take_newcomers();
+            // What is marked by now is mostly news from other loops, and behind these turns what they changed here.
+            self.take_marked(true);
+            self.take_turns();
+            self.shared.wake_marked(self.number);
+            self.take_marked(false);
             self.take_turns();
             self.sweep_in_time();
             self.shared.wake_marked(self.number);
@@ -113,18 +118,34 @@ impl<'a, R: Wait + Clock, H: Host> EventLoop<'a, R, H> {
         Ok(())
     }
 
-    fn timeout(&self) -> Duration {
-        if self.queue.is_empty() && !self.is_rung() {
-            Duration::from_millis(SWEEP)
-        } else {
-            Duration::ZERO
+    /// Waits until a stream is ready, or somebody wakes the loop, or it is time to look at all connections. Where a
+    /// connection is to have a turn it doesn't wait.
+    fn wait(&mut self, events: &mut Events) -> io::Result<()> {
+        let timeout = self.fall_asleep();
+        let waited = self.poll.poll(events, Some(timeout));
+        if let Some(inbox) = self.shared.inboxes.get(self.number) {
+            inbox.set_asleep(false);
+        }
+        match waited {
+            Err(error) if error.kind() != ErrorKind::Interrupted => Err(error),
+            _ => Ok(()),
         }
     }
 
-    fn is_rung(&self) -> bool {
-        match self.shared.host.ring(self.number) {
-            Some(ring) => ring.is_rung(),
-            None => false,
+    /// Says that this loop sleeps, if it has nothing to do, and answers for how long it may.
+    fn fall_asleep(&self) -> Duration {
+        if !self.queue.is_empty() {
+            return Duration::ZERO;
+        }
+        let Some(inbox) = self.shared.inboxes.get(self.number) else {
+            return Duration::from_millis(SWEEP);
+        };
+        inbox.set_asleep(true);
+        // The last look, which `Inbox` speaks of.
+        if self.shared.is_rung(self.number) || inbox.has_newcomers() {
+            Duration::ZERO
+        } else {
+            Duration::from_millis(SWEEP)
         }
     }
 
@@ -134,22 +155,26 @@ impl<'a, R: Wait + Clock, H: Host> EventLoop<'a, R, H> {
         }
     }
 
-    /// Takes note of what is ready, and answers whether the loop was woken.
-    fn take_events(&mut self, events: &Events) -> bool {
-        let mut is_woken = false;
+    /// Takes note of what is ready.
+    fn take_events(&mut self, events: &Events) {
         for event in events {
             match event.token().0 {
-                WAKER => is_woken = true,
+                // What it was woken for stands elsewhere.
+                WAKER => {}
                 LISTENER => self.accept(),
-                key => {
-                    if let Some(served) = self.served.get_mut(key) {
-                        served.connection.hear_of();
-                        self.enqueue(key);
-                    }
-                }
+                key => self.hear_of(key, event),
             }
         }
-        is_woken
+    }
+
+    /// The stream of this key is ready for something.
+    fn hear_of(&mut self, key: usize, event: &Event) {
+        if let Some(served) = self.served.get_mut(key) {
+            // A report after which the stream's end isn't reported once more.
+            let may_end = event.is_read_closed() || event.is_write_closed() || event.is_error();
+            served.connection.hear_of(may_end);
+            self.enqueue(key);
+        }
     }
 
     fn accept(&mut self)
@@ -160,9 +185,19 @@ impl<'a, R: Wait + Clock, H: Host> EventLoop<'a, R, H> {
         }
     }
 
-    fn take_arrivals(&mut self) {
+    /// Takes in what was given to this loop.
+    fn take_newcomers(&mut self) {
+        if let Some(inbox) = self.shared.inboxes.get(self.number) {
+            if inbox.take_newcomers() {
+                self.take_arrivals(inbox);
+                self.take_moved();
+            }
+        }
+    }
+
+    fn take_arrivals(&mut self, inbox: &Inbox) {
         for _ in 0..MOST {
-            let Some(arrival) = self.shared.next_arrival(self.rt, self.number) else {
+            let Some(arrival) = inbox.next_arrival(self.rt) else {
                 return;
             };
             let hold = arrival.hold;
@@ -220,42 +255,42 @@ impl<'a, R: Wait + Clock, H: Host> EventLoop<'a, R, H> {
     }
 
     /// Those that were marked get a turn, to push what changed.
-    fn take_marked(&mut self) {
-        let mut keys = mem::replace(&mut self.keys, Vec::new(self.shared.alloc));
-        let are_all = match self.shared.host.ring(self.number) {
-            Some(ring) => {
-                let _ = ring.take_rung();
-                ring.collect(&mut keys)
-            }
-            None => true,
+    fn take_marked(&mut self, from_others: bool) {
+        let Some(ring) = self.shared.host.ring(self.number) else {
+            return;
         };
-        if are_all {
+        if !ring.take_rung() {
+            return;
+        }
+        let mut keys = mem::replace(&mut self.keys, Vec::new(self.shared.alloc));
+        if ring.collect(&mut keys) {
             for key in &keys {
-                self.mark(*key);
+                self.mark(*key, from_others);
             }
         } else {
-            self.mark_all();
+            self.mark_all(from_others);
         }
         self.keys = keys;
     }
 
-    fn mark(&mut self, key: usize) {
+    /// The connection of this key gets a turn, if it has changes that nobody looked at: what it changed itself it was
+    /// told with the answer.
+    fn mark(&mut self, key: usize, from_others: bool) {
         if let Some(served) = self.served.get_mut(key) {
-            served.connection.mark();
-            self.enqueue(key);
+            if served.connection.is_marked() {
+                served.connection.mark();
+                if from_others {
+                    served.connection.tell();
+                }
+                self.enqueue(key);
+            }
         }
     }
 
     /// As `take_marked`, where a mark was missed: by looking at each connection.
-    fn mark_all(&mut self) {
+    fn mark_all(&mut self, from_others: bool) {
         for key in 0..self.served.capacity() {
-            let is_marked = match self.served.get(key) {
-                Some(served) => served.connection.is_marked(),
-                None => false,
-            };
-            if is_marked {
-                self.mark(key);
-            }
+            self.mark(key, from_others);
         }
     }
 
@@ -273,7 +308,7 @@ impl<'a, R: Wait + Clock, H: Host> EventLoop<'a, R, H> {
                 None => Next::Waits,
             };
             match next {
-                Next::Waits => {}
+                Next::Waits => self.move_drawn(*key),
                 Next::Again => self.enqueue(*key),
                 Next::Ended => self.end_one(*key),
             }
@@ -292,6 +327,10 @@ impl<'a, R: Wait + Clock, H: Host> EventLoop<'a, R, H> {
         self.swept = self.now;
         watch_all(self.rt, self.shared, &mut self.served, self.now);
         self.accept();
+        // Those for which there was no memory are looked at once more.
+        if let Some(inbox) = self.shared.inboxes.get(self.number) {
+            inbox.set_newcomers();
+        }
     }
 
     /// Takes no more connections, and begins to tell each peer that the server ends.
@@ -301,6 +340,7 @@ impl<'a, R: Wait + Clock, H: Host> EventLoop<'a, R, H> {
         }
         self.is_leaving = true;
         self.acceptor = None;
+        self.close_room();
         for key in 0..self.served.capacity() {
             let next = match self.served.get_mut(key) {
                 Some(served) => served.connection.go_away(self.now),

@@ -32,6 +32,10 @@ pub trait Ring {
 pub trait Listener: Speaker {
     /// Whether its place was marked since it last looked for changes.
     fn is_marked(&self) -> bool;
+
+    /// A number that it has in common with all that may mark its place: these meet on one loop, if they mark each other
+    /// often. None where nobody marks it.
+    fn meeting(&self) -> Option<usize>;
 }
 
 /// What a server's log may tell of its connections.
@@ -45,6 +49,8 @@ pub enum Event {
     Closed(Source, Ending),
     /// A connection ended because nothing came for too long.
     Silent(Source),
+    /// A connection goes to the loop of this number, where those are served that it hands over to.
+    Moved(Source, usize),
     /// The system gives no further connection for now.
     CannotAccept(ErrorKind),
 }
@@ -77,4 +83,8 @@ pub trait Host {
         place: Place,
         admitted: Admitted,
     ) -> Result<Self::Peer, Memory>;
+
+    /// From now on what changes for the peer marks this place. Where memory is refused it marks the one before. What
+    /// changes meanwhile may mark neither, so whoever calls this looks afterwards for changes.
+    fn settle<R: Wait>(&self, rt: &R, peer: &mut Self::Peer, place: Place) -> Result<(), Memory>;
 }

@@ -50,20 +50,67 @@ pub(crate) struct Arrival {
 }
 
 /// What others give to a loop.
+///
+/// A loop that is awake is never woken by a system call. Before it blocks it says that it sleeps, and then looks once
+/// more at all that may be there for it; whoever gives it something does that first, and then wakes it if it can take
+/// back that it sleeps. All of these steps stand in one order. So either the last look comes behind what was given, and
+/// finds it; or what was given comes behind that look, hence behind the word that the loop sleeps, and whoever gave it
+/// finds that word, or somebody else took it meanwhile and is waking the loop.
 #[derive(Drop)]
 pub(crate) struct Inbox {
     waker: Waker,
+    is_asleep: AtomicBool,
     arrivals: Mutex<Vec<Arrival>>,
+    // A stream or a connection was given to the loop since it last took them in.
+    has_newcomers: AtomicBool,
 }
 
 impl Inbox {
-    pub fn wake(&self) {
+    fn new(alloc: Global, waker: Waker) -> Inbox {
+        Inbox {
+            waker,
+            is_asleep: AtomicBool::new(false),
+            arrivals: Mutex::new(Vec::new(alloc)),
+            has_newcomers: AtomicBool::new(false),
+        }
+    }
+
+    /// Wakes the loop, if it sleeps, for what was given to it before.
+    pub fn rouse(&self) {
+        if self.is_asleep.load(Ordering::SeqCst) && self.is_asleep.swap(false, Ordering::SeqCst) {
+            self.wake();
+        }
+    }
+
+    /// Has the wait of the loop that is under way, or else the next one, end.
+    fn wake(&self) {
         let _ = self.waker.wake();
+    }
+
+    /// The loop is about to block, once it has looked at all that may be there for it; or it goes on.
+    pub fn set_asleep(&self, is_asleep: bool) {
+        self.is_asleep.store(is_asleep, Ordering::SeqCst);
     }
 
     /// Gives a stream to the loop, and answers whether there was memory for that; else it is closed.
     pub fn bring<R: Wait>(&self, rt: &R, arrival: Arrival) -> bool {
-        self.arrivals.lock(rt).push(arrival).is_ok()
+        let is_brought = self.arrivals.lock(rt).push(arrival).is_ok();
+        self.set_newcomers();
+        is_brought
+    }
+
+    /// A stream or a connection was given to the loop.
+    pub fn set_newcomers(&self) {
+        self.has_newcomers.store(true, Ordering::SeqCst);
+    }
+
+    pub fn has_newcomers(&self) -> bool {
+        self.has_newcomers.load(Ordering::SeqCst)
+    }
+
+    /// The same, and from now on it has none: whoever finds some takes them in.
+    pub fn take_newcomers(&self) -> bool {
+        self.has_newcomers() && self.has_newcomers.swap(false, Ordering::SeqCst)
     }
 
     pub fn next_arrival<R: Wait>(&self, rt: &R) -> Option<Arrival> {
@@ -107,10 +154,7 @@ where
     for _ in 0..loops {
         let poll = Poll::new(net)?;
         let waker = Waker::new(poll.registry(), Token(WAKER))?;
-        inboxes.push(Inbox {
-            waker,
-            arrivals: Mutex::new(Vec::new(alloc)),
-        })?;
+        inboxes.push(Inbox::new(alloc, waker))?;
         polls.push(poll)?;
     }
     let rules = Arc::new(alloc, rules)?;
@@ -147,14 +191,6 @@ impl<H> Shared<H> {
         match hold {
             Hold::Served(_) => Ok(Some(Arc::try_clone(&*self.rules.lock(rt))?)),
             Hold::TurnedAway(_) => Ok(None),
-        }
-    }
-
-    /// A stream that was given to the loop of this number.
-    pub(crate) fn next_arrival<R: Wait>(&self, rt: &R, event_loop: usize) -> Option<Arrival> {
-        match self.inboxes.get(event_loop) {
-            Some(inbox) => inbox.next_arrival(rt),
-            None => None,
         }
     }
 
@@ -202,14 +238,17 @@ impl<H: Host> Shared<H> {
     /// Wakes the other loops whose connections were marked.
     pub(crate) fn wake_marked(&self, own: usize) {
         for (event_loop, inbox) in self.inboxes.iter().enumerate() {
-            if event_loop == own {
-                continue;
+            if event_loop != own && self.is_rung(event_loop) {
+                inbox.rouse();
             }
-            if let Some(ring) = self.host.ring(event_loop) {
-                if ring.take_rung() {
-                    inbox.wake();
-                }
-            }
+        }
+    }
+
+    /// Whether connections of this loop were marked that it hasn't collected.
+    pub(crate) fn is_rung(&self, event_loop: usize) -> bool {
+        match self.host.ring(event_loop) {
+            Some(ring) => ring.is_rung(),
+            None => false,
         }
     }
 }

@@ -4,14 +4,24 @@ ghost use Rattle.std.specs.Prelude.{◌≡◌};
 
 use std::io;
 use std::io::{ErrorKind, Read, Write};
+use std::sync::atomic::{AtomicBool, Ordering};
 
 /// A stream that counts the bytes that came, since they alone are a sign of life, and gives no more than so many.
+///
+/// It may be told when its stream is ready (`hear_of`), as a poll does that reports each change once. Then it asks the
+/// system no more once a read was short: all was taken that was there, and what comes later is reported.
 #[derive(Drop)]
 pub struct Counted<S> {
     stream: S,
     came: u64,
     // What may still come.
     left: u64,
+    // Nothing is there until the stream is ready once more. The two flags are changed behind a `&`, which leaves what a
+    // socket over this stream is known to be.
+    is_drained: AtomicBool,
+    // A short read says nothing: nobody reports when the stream is ready, or its end may be there, of which there will
+    // be no further report.
+    reads_on: AtomicBool,
 }
 
 impl<S> Counted<S> {
@@ -25,7 +35,16 @@ impl<S> Counted<S> {
             stream,
             came: 0,
             left: limit,
+            is_drained: AtomicBool::new(false),
+            reads_on: AtomicBool::new(true),
         }
+    }
+
+    /// The stream may be ready to be read. Unless its end may be there too, a short read from now on takes all that is
+    /// there until this is called again.
+    pub fn hear_of(&self, may_end: bool) {
+        self.reads_on.store(may_end, Ordering::SeqCst);
+        self.is_drained.store(false, Ordering::SeqCst);
     }
 
     /// How many bytes came, at most 2^64 - 1.
@@ -33,6 +52,12 @@ impl<S> Counted<S> {
         ensures { result ≡ self.now.came }
     {
         self.came
+    }
+
+    pub fn get_ref(&self) -> &S
+        ensures { result.now ≡ self.now.stream }
+    {
+        &self.stream
     }
 
     pub fn into_stream(self) -> S
@@ -49,8 +74,15 @@ impl<S: Read> Read for Counted<S> {
         if self.left == 0 {
             return Err(io::Error::from(ErrorKind::FileTooLarge));
         }
+        if self.is_drained.load(Ordering::SeqCst) {
+            return Err(io::Error::from(ErrorKind::WouldBlock));
+        }
+        let room = buf.len();
         let got = self.stream.read(buf);
         if let Ok(count) = &got {
+            if *count > 0 && *count < room && !self.reads_on.load(Ordering::SeqCst) {
+                self.is_drained.store(true, Ordering::SeqCst);
+            }
             let count = *count as u64;
             self.came = self.came.saturating_add(count);
             self.left = self.left.saturating_sub(count);

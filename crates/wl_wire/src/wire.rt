@@ -54,11 +54,21 @@ impl<S: Read + Write + Drop> Wire<S> {
         self.socket.get_ref().came()
     }
 
-    /// The stream may be ready for something.
+    /// The stream may be ready for something. It is read until it blocks.
     pub fn wake(&mut self)
         ensures socket { self.new.socket ≡ self.old.socket }
         ensures reads { self.new.may_read ≡ true }
     {
+        self.wake_for(true);
+    }
+
+    /// The same, where each time that the stream becomes ready is told so, and whether its end may be there with what
+    /// came. If not, a read that is short is the last one until the next time.
+    pub fn wake_for(&mut self, may_end: bool)
+        ensures socket { self.new.socket ≡ self.old.socket }
+        ensures reads { self.new.may_read ≡ true }
+    {
+        self.socket.get_ref().hear_of(may_end);
         self.may_read = true;
     }
 
@@ -141,6 +151,13 @@ impl<S: Read + Write + Drop> Wire<S> {
     {
         self.is_blocked = true;
         self.socket.read()
+    }
+
+    /// The stream.
+    pub fn stream(&self) -> &S
+        ensures { result.now ≡ self.now.socket.stream.stream }
+    {
+        self.socket.get_ref().get_ref()
     }
 
     /// The stream.

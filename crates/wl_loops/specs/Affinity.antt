@@ -1,0 +1,17 @@
+-- How much another loop draws a connection (own).
+use Rattle.std.specs.Prelude.{◌+◌, ◌-◌, min, Bool, nat_le}
+use Rattle.wl_loops.specs.declared.affinity.Affinity.{Affinity}
+
+abbrev pub new_affinity : Affinity
+new_affinity = record { pull = 0 }
+
+-- Another loop had news for it: that counts as much as four messages of its own.
+abbrev pub told : Affinity → Affinity
+told affinity = record { pull = min (affinity.pull + 4) 32 }
+
+-- its peer sent something
+abbrev pub asked : Affinity → Affinity
+asked affinity = record { pull = affinity.pull - 1 }
+
+abbrev pub is_drawn : Affinity → Bool
+is_drawn affinity = nat_le 32 affinity.pull

@@ -1,0 +1,51 @@
+//! Whether a connection would better be served by another loop.
+
+ghost use Rattle.std.specs.Prelude.{◌≡◌};
+ghost use Rattle.wl_loops.specs.Affinity.{asked, is_drawn, new_affinity, told};
+
+/// What news from another loop adds.
+const NEWS: u32 = 4;
+
+/// From here on a connection is drawn.
+const FULL: u32 = 32;
+
+/// How much another loop draws a connection: news that comes from there again and again, against what its own peer sends.
+/// So one that mostly waits for what others release is drawn, and one that mostly does other things isn't.
+///
+/// This is a guess at what costs least. A wrong one costs time and nothing else.
+#[derive(Clone, Copy, Debug, PartialEq, Eq)]
+pub struct Affinity {
+    pull: u32,
+}
+
+impl Affinity {
+    pub fn new() -> Affinity
+        ensures { result ≡ new_affinity }
+    {
+        Affinity { pull: 0 }
+    }
+
+    /// Another loop had news for it.
+    pub fn tell(&mut self)
+        ensures { self.new ≡ told self.old }
+    {
+        self.pull = if self.pull < FULL - NEWS {
+            self.pull + NEWS
+        } else {
+            FULL
+        };
+    }
+
+    /// Its peer sent something.
+    pub fn ask(&mut self)
+        ensures { self.new ≡ asked self.old }
+    {
+        self.pull = self.pull.saturating_sub(1);
+    }
+
+    pub fn is_drawn(&self) -> bool
+        ensures { result ≡ is_drawn self.now }
+    {
+        self.pull >= FULL
+    }
+}

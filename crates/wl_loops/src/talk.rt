@@ -1,0 +1,76 @@
+//! What an open connection has.
+
+use crate::host::{Host, Listener, Place};
+use crate::seat::Seat;
+use mio::net::TcpStream;
+use mio::unix::SourceFd;
+use mio::{Interest, Registry, Token};
+use std::os::fd::AsRawFd;
+use std::sync::Wait;
+use wl_wire::{Ending, Pace, Turn, Wire, take_turn};
+
+/// The speaker of an open connection, and its wire. The wire is large, so it stays where it is during a turn.
+#[derive(Drop)]
+pub struct Talk<'a, R: Wait, P: Listener> {
+    // Let go of in this order, so that whoever sees the stream closed finds the speaker ended.
+    pub seat: Seat<'a, R, P>,
+    pub wire: Wire<TcpStream>,
+}
+
+impl<'a, R: Wait, P: Listener> Talk<'a, R, P> {
+    /// Takes a turn, or answers why the connection is to end.
+    pub fn go_on(&mut self, rt: &R, may_push: &mut bool) -> Result<Pace, Ending> {
+        let Some(speaker) = self.seat.take() else {
+            return Err(Ending::Memory);
+        };
+        match take_turn(rt, &mut self.wire, speaker, may_push) {
+            Turn::Went(speaker, pace) => {
+                self.seat.put(speaker);
+                Ok(pace)
+            }
+            Turn::Ended(ending) => Err(ending),
+        }
+    }
+
+    /// Has this poll report no more of its stream, and answers whether it won't.
+    pub fn detach(&self, registry: &Registry) -> bool {
+        let stream = self.wire.stream().as_raw_fd();
+        registry.deregister(&mut SourceFd(&stream)).is_ok()
+    }
+
+    /// Has its stream and its speaker report to this place, and answers whether they will. Else neither does.
+    pub fn settle<H: Host<Peer = P>>(
+        &mut self,
+        rt: &R,
+        host: &H,
+        registry: &Registry,
+        place: Place,
+    ) -> bool {
+        let stream = self.wire.stream().as_raw_fd();
+        let both = Interest::READABLE | Interest::WRITABLE;
+        let mut source = SourceFd(&stream);
+        if registry
+            .register(&mut source, Token(place.key), both)
+            .is_err()
+        {
+            return false;
+        }
+        if !self.settle_speaker(rt, host, place) {
+            let _ = registry.deregister(&mut source);
+            return false;
+        }
+        self.wire.wake();
+        true
+    }
+
+    fn settle_speaker<H: Host<Peer = P>>(&mut self, rt: &R, host: &H, place: Place) -> bool {
+        let Some(speaker) = self.seat.take() else {
+            // Its next turn ends it.
+            return true;
+        };
+        let mut speaker = speaker;
+        let is_settled = host.settle(rt, &mut speaker, place).is_ok();
+        self.seat.put(speaker);
+        is_settled
+    }
+}
