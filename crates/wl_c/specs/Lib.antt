@@ -1,1 +1,2 @@
--- Words of the contracts.
+pub mod Codes
+pub mod Worlds

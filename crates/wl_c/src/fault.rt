@@ -1,5 +1,8 @@
 //! What a call answers.
 
+ghost use Rattle.std.specs.Prelude.{◌≡◌};
+ghost use Rattle.wl_c.specs.Codes.{code_of as number_of};
+
 /// Why a call did nothing, or the last thing that a world did.
 #[derive(Clone, Copy, Debug, PartialEq, Eq, Drop)]
 pub enum Fault {
@@ -18,7 +21,9 @@ pub enum Fault {
 }
 
 /// The number by which C knows what became of a call: 0 where it did what it is for.
-pub fn code_of(outcome: Result<(), Fault>) -> i32 {
+pub fn code_of(outcome: Result<(), Fault>) -> i32
+    ensures { result ≡ number_of outcome }
+{
     match outcome {
         Ok(()) => 0,
         Err(Fault::Memory) => 1,

@@ -4,9 +4,7 @@
 //! memory.
 #![tactic(auto)]
 
-mod exports;
 mod fault;
 mod seed;
 mod world;
 
-pub use exports::{weblocks_answer, weblocks_audit, weblocks_free, weblocks_new};
