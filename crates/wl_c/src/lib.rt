@@ -4,7 +4,11 @@
 //! memory.
 #![tactic(auto)]
 
+mod exports;
 mod fault;
+mod pointers;
+mod reply;
 mod seed;
 mod world;
 
+pub use exports::{weblocks_answer, weblocks_audit, weblocks_free, weblocks_new};

@@ -16,7 +16,7 @@ use wl_types::Memory;
 use wl_world::Engine;
 
 /// The most bytes of a line, as in a script.
-const LONGEST: usize = 65_536;
+pub const LONGEST: usize = 65_536;
 
 const LF: u8 = 10;
 
