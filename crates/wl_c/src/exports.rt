@@ -8,7 +8,7 @@ ghost use Rattle.wl_c.specs.Handles.{Asking, Auditing, after_answer, after_audit
 ghost use Rattle.wl_c.specs.declared.world.World as code;
 
 use crate::fault::{Fault, code_of};
-use crate::pointers::{can_answer, can_audit, code_of_line, code_of_null, leads};
+use crate::pointers::{can_answer, can_audit, can_end, code_of_line, code_of_null};
 use crate::reply::{answer_line, audit_lines};
 use crate::seed::Seed;
 use crate::world::World;
@@ -134,7 +134,7 @@ pub unsafe extern "C" fn weblocks_free(alloc: Global, world: *mut u8)
     requires testable { Testable world }
     requires* memory { sem 𝓛 (if_non_null world (handle alloc world w)) }
 {
-    if leads(world) {
-        end(alloc, world as *mut World);
+    if can_end(world) {
+        return end(alloc, world as *mut World);
     }
 }

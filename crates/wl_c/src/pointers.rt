@@ -11,11 +11,19 @@ use crate::world::LONGEST;
 use std::ptr::NonNull;
 
 /// Whether a pointer leads anywhere.
-pub fn leads<T>(pointer: *mut T) -> bool
+fn leads<T>(pointer: *mut T) -> bool
     requires { Testable pointer }
     ensures { result ≡ true → InBlock pointer }
 {
     NonNull::new(pointer).is_some()
+}
+
+/// Whether there is a world to end.
+pub fn can_end(world: *mut u8) -> bool
+    requires { Testable world }
+    ensures { result ≡ true → InBlock world }
+{
+    leads(world)
 }
 
 /// Whether a call with a line can be made.

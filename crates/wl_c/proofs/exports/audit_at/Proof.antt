@@ -151,4 +151,4 @@ audit_at_spec 𝓤 𝓛 𝓜 𝓡 wired =
     sets ! (of_opd ! (get_in ! (fld ! refl (stop !)) (sub ! 1 refl (whole !)))) refl ((sint_Lawful 𝓛 w32).typed t.code _ fields.1.0).0 $
     returns ! (look_at ! 0 refl) $ free_all ! refl $
     move ! (2 ∷ 1 ∷ []) $ fjoin ! $
-    rewrite ! 0 (λ (b : Bool). ‵ (Outs b (vec_ptr ws.0.reply) (length ws.0.reply.items))) (sym (is_false t.is_done not') ∙ said.2.done) refl $ out))))))))))))))
+    rewrite ! 0 (λ (b : Bool). ‵ (Outs b (vec_ptr ws.0.reply) (length ws.0.reply.items))) (sym (is_false t.is_done not') ∙ said.2.done) refl $ out)))))))))))))
