@@ -1,12 +1,13 @@
 /* weblocks: the engine of Web Locks scripts inside a program.
 
-   A world has all its origins and agents. A call gives it one line, a message as `weblocks run` reads it (docs/FORMATS.md
-   of the repository), without its LF, and has the reply without its own. The reply is that of the definitions in
-   crates/wl_world/specs, and so is the world after it: each function's contract says so, and is proved.
+   A world has all its origins and agents. A call gives it one line, a message as `weblocks run` reads it
+   (docs/FORMATS.md of the repository), without its LF, and has the reply without its own. The reply is that of the
+   definitions in crates/wl_world/specs, and so is the world after it: the contract of weblocks_answer says so, and is
+   proved.
 
-   One world is for one call at a time. The library has no lock: threads that share a world bring their own, and order by
-   it each call before the next. Worlds don't know of each other. No function is for a signal handler, or for the child of
-   a fork in a process that has threads.
+   One world is for one call at a time. The library has no lock: threads that share a world bring their own, and order
+   by it each call before the next. Worlds don't know of each other. No function is for a signal handler, or for the
+   child of a fork in a process that has threads.
 
    Memory comes from the program's malloc, realloc and free, which are to be of one allocator, and align a block to each
    power of two up to 16 that divides its size. */
@@ -44,17 +45,17 @@ enum weblocks_code {
     WEBLOCKS_LINE_FEED = 6
 };
 
-/* Makes a world in which nobody has opened, and puts it at *out: WEBLOCKS_OK, or WEBLOCKS_MEMORY, which leaves *out as it
-   was. Where keep_books isn't 0, the world keeps its lines, for weblocks_audit. Neither pointer may be null.
+/* Makes a world in which nobody has opened, and puts it at *out: WEBLOCKS_OK, or WEBLOCKS_MEMORY, which leaves *out as
+   it was. Where keep_books isn't 0, the world keeps its lines, for weblocks_audit. Neither pointer may be null.
 
-   By the seed a world's tables spread names; no reply shows it. Where names come from who isn't trusted, take it from the
-   system (getrandom), so that nobody can choose names that fall together; a test may fix it. */
+   By the seed a world's tables spread names; no reply shows it. Where names come from who isn't trusted, take it from
+   the system (getrandom), so that nobody can choose names that fall together; a test may fix it. */
 int weblocks_new(const uint8_t seed[16], int keep_books, weblocks **out);
 
 /* Answers the line of `length` bytes at `line`. With WEBLOCKS_OK the reply is the *reply_length bytes at *reply, which
-   are the library's, are not to be written, and stay until the next call with this world. With any other code *reply and
-   *reply_length are as they were. Bytes that another call is changing meanwhile, a handle that weblocks_free has taken,
-   and one that weblocks_new has not given are the caller's to avoid: the library can't see them. */
+   are the library's, are not to be written, and stay until the next call with this world. With any other code *reply
+   and *reply_length are as they were. Bytes that another call is changing meanwhile, a handle that weblocks_free has
+   taken, and one that weblocks_new has not given are the caller's to avoid: the library can't see them. */
 int weblocks_answer(weblocks *world, const uint8_t *line, size_t length, const uint8_t **reply, size_t *reply_length);
 
 /* Audits the lines that were answered: for each bucket of an origin whose journal has an entry a line with its LF, byte

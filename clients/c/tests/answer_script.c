@@ -2,10 +2,10 @@
 
    usage: answer_script run|audit < SCRIPT
 
-   A last line without LF is a line, and the reply to each line ends in LF. The seed is fixed. Where want of memory spends
-   the world, all later calls must say so, and the status is 3; it is 1 for any other code. It takes no memory of its own,
-   so that each growth is the library's; with EXACT, each line stands in a block of just its size, so that tools see a read
-   past its end. */
+   A last line without LF is a line, and the reply to each line ends in LF. The seed is fixed. Where want of memory
+   spends the world, all later calls must say so, and the status is 3; it is 1 for any other code. It takes no memory of
+   its own, so that each growth is the library's; with EXACT, each line stands in a block of just its size, so that
+   tools see a read past its end. */
 #include <stdlib.h>
 #include <string.h>
 #include <unistd.h>

@@ -1,5 +1,5 @@
-/* Each code of each call, and that a refused call leaves the world and the results as they were. The status is the number
-   of the first check that fails, or 0. */
+/* Each code of each call, and that a refused call leaves the world and the results as they were. The status is the
+   number of the first check that fails, or 0. */
 #include <stdlib.h>
 #include <string.h>
 #include <weblocks.h>
@@ -26,7 +26,9 @@ static int refuses(int found, int code) { return found == code && !reply && leng
 int main(void) {
     weblocks *world = 0, *other = 0;
     uint8_t *longest = malloc(WEBLOCKS_LONGEST_LINE + 1);
-    if (!longest || weblocks_new(SEED, 0, &world) || weblocks_new(SEED, 1, &other) || !world || !other || world == other)
+    if (!longest || weblocks_new(SEED, 0, &world) || weblocks_new(SEED, 1, &other))
+        return 1;
+    if (!world || !other || world == other)
         return 1;
     memset(longest, ' ', WEBLOCKS_LONGEST_LINE + 1);
     reply = 0, length = 7;

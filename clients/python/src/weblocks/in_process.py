@@ -26,8 +26,8 @@ _CLOSE = b'"id":0,"op":"close"}'
 class Local:
     """A world whose agents are lock managers of this process. `local` makes one.
 
-    What an agent does is done, and all others that it concerns have heard of it, before the call is over: the replies of a
-    program that does the same things are the same in each run.
+    What an agent does is done, and all others that it concerns have heard of it, before the call is over: the replies
+    of a program that does the same things are the same in each run.
     """
 
     def __init__(self, world: World) -> None:
@@ -41,8 +41,8 @@ class Local:
     ) -> AsyncIterator[LockManager]:
         """A lock manager of the world: `async with world.connect(origin="https://a.test") as locks:`.
 
-        It is as the one that `weblocks.connect` gives, and `origin`, `kind` and `bucket` are as there. Raises Refused for
-        a bad origin or bucket.
+        It is as the one that `weblocks.connect` gives, and `origin`, `kind` and `bucket` are as there. Raises Refused
+        for a bad origin or bucket.
         """
         options = Options(URL, origin, kind, bucket, reconnect=False, opener=self._open)
         locks = await LockManager.open(options)

@@ -42,8 +42,8 @@ def load(path: str | os.PathLike[str] | None = None) -> ctypes.CDLL:
         return _typed(library)
     except (OSError, AttributeError) as error:
         raise MissingLibrary(
-            f"the library of weblocks can't be loaded ({error}): build it by clients/c/build of the repository, and put "
-            f"{NAME} beside the package, or its path into {VARIABLE}"
+            f"the library of weblocks can't be loaded ({error}): build it by clients/c/build of the repository, and "
+            f"put {NAME} beside the package, or its path into {VARIABLE}"
         ) from error
 
 
@@ -61,8 +61,8 @@ def _typed(library: ctypes.CDLL) -> ctypes.CDLL:
 class World:
     """One world: all its origins and agents. It takes messages as lines of `weblocks run`, and is for one thread.
 
-    `seed` is sixteen bytes by which its tables spread names; no reply shows it. They come from the system where none are
-    given. With `keep_books` it keeps its lines, for `audit`. It is ended by `close`, or as a context.
+    `seed` is sixteen bytes by which its tables spread names; no reply shows it. They come from the system where none
+    are given. With `keep_books` it keeps its lines, for `audit`. It is ended by `close`, or as a context.
     """
 
     def __init__(
