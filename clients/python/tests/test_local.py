@@ -2,12 +2,14 @@
 
 import asyncio
 import os
+import re
+import subprocess
+import sys
 import unittest
-from pathlib import Path
 from unittest import mock
 
 import weblocks
-from support import TOP
+from support import PACKAGE, TOP
 
 SCRIPTS = sorted((TOP / "tests" / "scripts").glob("*.in"))
 SEED = b"a seed of a test"
@@ -45,6 +47,12 @@ class Worlds(unittest.TestCase):
         world.close()
         world.close()
         self.assertRaises(ValueError, world.answer, b"{}")
+
+    def test_the_program_of_the_README_runs(self):
+        blocks = re.findall(r"^```python\n(.*?)^```$", (PACKAGE / "README.md").read_text(), re.M | re.S)
+        [program] = [it for it in blocks if "weblocks.local" in it]
+        ended = subprocess.run([sys.executable, "-c", program], check=True, text=True, stdout=subprocess.PIPE)
+        self.assertEqual("taken\n", ended.stdout)
 
     def test_a_seed_has_sixteen_bytes(self):
         self.assertRaises(ValueError, weblocks.World, seed=b"short")

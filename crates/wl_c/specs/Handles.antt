@@ -1,15 +1,15 @@
 -- The memory behind the pointers of a call: what C hands over with it, and has back.
-use Rattle.std.specs.Prelude.{ℕ, ℤ, List, ◌≡◌, ◌≤◌, ◌<◌, length, Bool, true, false, Result, is_ok, pos}
+use Rattle.std.specs.Prelude.{ℕ, ℤ, List, ◌≡◌, ◌<◌, length, Bool, true, false, Result, is_ok}
 use Rattle.std.specs.Ptr.{if_non_null}
 use Rattle.std.specs.Vec.{vec_ptr}
 use Rattle.std.specs.Box.Ownership.{box_owns}
 use Rattle.std.specs.declared.alloc.Global.{Global}
 use Rattle.std.specs.contracts.impls.GlobalAllocator.TheImpl.{ghosts}
-use base.Fml.{Share, Fml, ftrue, fsep, fex}
+use base.Fml.{Share, Fml, fsep, fex}
 use base.Fraction.{full_share}
 use denote.Array.{Array}
 use denote.Builtin.{u8, usize}
-use denote.RawPtr.{Ptr, null_ptr, RawPtr, lies_at, room_at}
+use denote.RawPtr.{Ptr, RawPtr, lies_at, room_at}
 use Rattle.wl_c.specs.declared.fault.Fault.{Fault}
 use Rattle.wl_c.specs.declared.fault.Fault.TheVariants.{Null, TooLong}
 use Rattle.wl_c.specs.declared.reply.Reply.{Reply}

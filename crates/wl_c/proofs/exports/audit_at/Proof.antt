@@ -1,41 +1,36 @@
 -- `audit_at` meets its contract: a walk of its MIR, by hand.
-use Rattle.std.proofs.Common.{◌≡◌, ℕ, ◌≤◌, ◌<◌, ◌^◌, ◌*◌, List, [], ◌∷◌, ◌++◌, length, refl, sym, ap, ◌∙◌, subst, arith, lit<, w8, w32, w64, Bor, MutBor}
+use Rattle.std.proofs.Common.{◌≡◌, ℕ, List, [], ◌∷◌, length, refl, sym, ap, ◌∙◌, subst, w32, w64}
 use Rattle.std.proofs.raw_atomic.Walks.{proved}
 use base.Fraction.{full_share}
 use base.Logic.{SProp, ent, id⊢}
-use base.Fml.{fat, Lft, Share, Fml, ftrue, feq, fsep, flft, flent, fres, fex, Incl-refl}
+use base.Fml.{fat, Lft, Share, Fml, ftrue, fsep, flft, flent, fex}
 use mir.Syntax.{named, ty_ptr}
 use mir.Raw.{raw as bare}
-use mir.Val.{Val, vunit, vint, vptr, vbool, of_z}
+use mir.Val.{Val, vint, vptr, of_z}
 use contract.Monad.{fact}
 use contract.Running.{tables}
 use prog.Wp.{WpFn}
 use types.Logic.{Logic, sem}
 use seplogic.Ra.Ura.{Ura}
-use types.Kit.{‵, raw, ◌⊛◌, some, later, prop, at_ret, Sq, ◌$◌, ◌∵◌, !, qed, done, move, keep, drop, use1, use2, use3, split, split3, join, fsplit, fsplit3, fjoin, fpick, fpack, feq_i, feq_l, pick, await, rewrite, regoal, suffices, frame, group, by}
-use types.Tokens.{lft_new, lft_end, lent_back}
-use types.Run.{enter, of_opd, lit, unit_lit, addr, load, look, store, stop, fld, hop, no_more, and_then, assigns, assigns_last, init, first, blocks, branches, skips, exec, returns, returns_within}
-use types.ByLocal.{alloc_all, pass_all, free_all, look_at, get, get_in, through, sets, sets_last, lands_as, env}
-use types.Part.{agg, sub, whole}
-use denote.Builtin.{u8, usize, i32, bool, unit}
+use types.Kit.{‵, raw, ◌⊛◌, some, later, prop, at_ret, Sq, ◌$◌, ◌∵◌, !, qed, done, move, drop, use1, use2, use3, split, join, fsplit, fjoin, fpack, feq_i, pick, await, rewrite, regoal, suffices, group}
+use types.Tokens.{lft_new, lft_end}
+use types.Run.{enter, of_opd, addr, stop, fld, no_more, and_then, assigns, assigns_last, init, first, branches, skips, exec, returns}
+use types.ByLocal.{alloc_all, pass_all, free_all, look_at, get, get_in, through, sets, lands_as, env}
+use types.Part.{sub, whole}
+use denote.Builtin.{usize, i32}
 use denote.Exit.{yes}
 use denote.Laws.{shows, Is, Typed}
-use denote.Lend.{lends_ref, ref_back, lends_shr_slice}
+use denote.Lend.{lends_ref, ref_back}
 use denote.Memory.{mem, part_at, lone, cell_at, part_of}
 use denote.Signed.{sint_Makes, sint_Lawful}
 use denote.Floats.{is_true}
 use lib.Dec.{T as T'}
 use mathlib.Core.Bool.{not}
-use Rattle.std.specs.Prelude.{Bool, true, false, pos}
-use Rattle.std.specs.Ordering.{int_eq}
+use Rattle.std.specs.Prelude.{Bool, true, false}
 use Rattle.std.specs.Vec.{vec_ptr}
-use denote.Copied.{uint_Copied}
-use denote.Plain.{uint_in, uint_vals, uint_Tells}
-use denote.Array.{Array}
+use denote.Plain.{uint_in}
 use denote.RawPtr.{Ptr, RawPtr, block_ptr, ptr_val, lies_at, room_at, in_a_block, rawptr_vals, rawptr_Tells, rawptr_Lawful}
-use denote.RawPtr.Bytes.{bytes, bytes_apart, bytes_whole}
-use denote.Ref.{MutRef, mut_vals}
-use denote.Slice.{ShrSlice, slice_val}
+use denote.Ref.{MutRef}
 use denote.Signature.{plain}
 use denote.Steps.{nothing, owned, peeks, heard, only}
 use denote.Triple.Call.{calls_at}
@@ -43,10 +38,10 @@ use denote.Triple.Clauses.{lasts}
 use denote.Triple.Entry.{on_entry}
 use denote.Triple.Spec.{triple_of}
 use denote.Triple.Table.{framed}
-use denote.Triple.Walked.{Stays, walk_of, says, stay_dropped, Goes-dropped, ends_at}
+use denote.Triple.Walked.{Stays, walk_of, stay_dropped, Goes-dropped, ends_at}
 use types.SemTy.{Body}
 use Rattle.std.specs.contracts.impls.GlobalAllocator.TheImpl.{ghosts}
-use Rattle.wl_c.specs.Handles.{has_audit, SaysAudit, Audited, IsReply, rooms, told, handle}
+use Rattle.wl_c.specs.Handles.{has_audit, SaysAudit, Audited, rooms, told, handle}
 use Rattle.wl_c.specs.Codes.{code_of}
 use Rattle.wl_c.specs.declared.fault.Fault.{Fault}
 use Rattle.std.specs.Prelude.{Result, is_ok}

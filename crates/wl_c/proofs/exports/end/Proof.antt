@@ -1,49 +1,41 @@
 -- `end` meets its contract: a walk of its MIR, by hand.
-use Rattle.std.proofs.Common.{◌≡◌, ℕ, List, [], ◌∷◌, ◌++◌, refl, sym, ap, ◌∙◌, subst}
-use Rattle.std.proofs.raw_atomic.Walks.{proved, proved_at}
-use seplogic.Ra.Ura.{Ura}
+use Rattle.std.proofs.Common.{◌≡◌, List, [], ◌∷◌, refl, ap}
+use Rattle.std.proofs.raw_atomic.Walks.{proved}
 use base.Fraction.{full_share}
-use base.Logic.{SProp, ent, emp, id⊢}
-use base.Fml.{Lft, Fml, ftrue, fsep, fex, flft}
+use base.Logic.{emp, id⊢}
+use base.Fml.{Lft, ftrue, fsep, flft}
 use mir.Syntax.{impl, tcons, tnil, dnil}
 use mir.Val.{Val, vunit}
 use contract.Monad.{fact, fact_i}
 use contract.BorrowLft.{◌⊑◌}
 use contract.Running.{tables, within}
 use contract.Lifetimes.{Lfts}
-use prog.Wp.{WpFn}
-use types.Logic.{Logic, sem}
-use types.Kit.{‵, raw, ◌⊛◌, some, later, prop, at_ret, Sq, ◌$◌, ◌∵◌, !, qed, done, move, keep, drop, use0, use1, use2, use3, split, split3, join, fsplit, fjoin, fpick, fpack, feq_l, feq_i, pick, await, suffices, group}
-use types.Run.{enter, of_opd, unit_lit, no_more, and_then, first, branches, skips, exec, returns}
-use types.ByLocal.{alloc_all, pass_all, free_all, look_at, get, sets, lands_as, env}
-use types.Tokens.{lft_new, lft_end}
+use types.Kit.{‵, raw, ◌⊛◌, some, later, ◌$◌, ◌∵◌, !, qed, done, move, drop, use0, use1, use2, split, join, fsplit, feq_l, feq_i, pick, await, suffices, group}
+use types.Run.{enter, of_opd, unit_lit, no_more, and_then, returns}
+use types.ByLocal.{alloc_all, pass_all, free_all, look_at, get, sets, lands_as}
+use types.Tokens.{lft_new}
 use denote.Builtin.{unit}
 use denote.Exit.{yes}
-use denote.Laws.{shows, Is}
-use denote.RattleType.{RattleType}
-use denote.RawPtr.{Ptr, RawPtr, block_ptr, in_a_block, rawptr_vals, rawptr_Tells, rawptr_Lawful, rawptr_Makes}
+use denote.RawPtr.{RawPtr, rawptr_vals, rawptr_Tells, rawptr_Lawful}
 use denote.Param.NoDrop as NoDrop
 use denote.Param.{layout}
 use types.Kit.{fjoin3}
 use denote.Signature.{plain}
-use denote.Steps.{nothing, owned, peeks, heard, only}
+use denote.Steps.{nothing, only}
 use denote.Triple.Call.{calls_at}
 use denote.Triple.Clauses.{lasts, Lasts}
-use denote.Triple.Entry.{on_entry}
 use denote.Triple.Spec.{triple_of}
 use denote.Triple.Table.{framed}
-use denote.Triple.Walked.{Stays, walk_of, says, stay_dropped, Goes-dropped, ends_at}
+use denote.Triple.Walked.{Stays, walk_of, stay_dropped, Goes-dropped, ends_at}
 use Rattle.wl_c.specs.Handles.{handle}
 use denote.Struct.Laws.{vals, tells, lawful}
 use Rattle.std.proofs.BoxSteps.Form.{Bx, B, word, box_typed}
 use Rattle.std.proofs.BoxSteps.Steps.{box_out, box_in}
-use Rattle.wl_c.specs.contracts.world.World as world
 use Rattle.wl_c.proofs.world.World.TheLaws as world_laws
 use Rattle.std.specs.contracts.alloc.Global as heap
 use Rattle.std.proofs.alloc.Global.TheLaws as heap_laws
 use Rattle.std.specs.contracts.impls.GlobalAllocator.TheImpl as allocator
 use Rattle.std.proofs.impls.GlobalAllocator.TheImpl.Met as allocator_met
-use Rattle.std.specs.contracts.boxed.Box as box
 use Rattle.std.specs.contracts.boxed.Box.from_raw as from
 use Rattle.std.proofs.boxed.Box.from_raw.Met as from_met
 use Rattle.wl_c.specs.contracts.exports.end as f

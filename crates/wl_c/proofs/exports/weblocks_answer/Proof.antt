@@ -1,21 +1,17 @@
 -- `weblocks_answer` meets its contract: a walk of its MIR, by hand.
-use Rattle.std.proofs.Common.{◌≡◌, ℕ, ◌≤◌, ◌<◌, ◌^◌, List, [], ◌∷◌, ◌++◌, length, refl, sym, ap, ◌∙◌, subst, arith, w32, w64}
+use Rattle.std.proofs.Common.{◌≡◌, ◌≤◌, [], ◌∷◌, refl, ap, w32, w64}
 use Rattle.std.proofs.raw_atomic.Walks.{proved}
-use Rattle.std.specs.Prelude.{Bool, true, false, pos, ℤ}
+use Rattle.std.specs.Prelude.{Bool, true, false, ℤ}
 use Rattle.std.specs.Ptr.{if_non_null}
 use seplogic.Ra.Ura.{Ura}
-use base.Fraction.{full_share}
-use base.Logic.{SProp, ent, emp, id⊢}
-use base.Fml.{Fml, ftrue, fsep, fex}
-use lib.Dec.{T}
+use base.Logic.{ent, emp, id⊢}
+use base.Fml.{Fml, ftrue}
 use lib.Ieee.Bits.{is_true}
-use mathlib.Core.Bool.{not}
-use mir.Val.{Val, vint}
+use mir.Val.{Val}
 use contract.Monad.{fact, fact_i}
 use contract.Running.{tables}
-use prog.Wp.{WpFn}
 use types.Logic.{Logic, sem}
-use types.Kit.{‵, raw, ◌⊛◌, some, later, prop, at_ret, Sq, ◌$◌, ◌∵◌, !, qed, done, move, keep, drop, use0, use1, use2, split, join, fsplit, fjoin, fpick, fpack, feq_l, pick, await, suffices, group}
+use types.Kit.{‵, raw, ◌⊛◌, some, later, prop, at_ret, Sq, ◌$◌, ◌∵◌, !, qed, done, move, drop, use0, use1, use2, split, join, fsplit, fjoin, fpack, feq_l, pick, await, suffices, group}
 use types.Run.{enter, of_opd, no_more, and_then, first, branches, skips, exec, returns, returns_within}
 use types.ByLocal.{alloc_all, pass_all, free_all, look_at, get, sets, lands_as, env}
 use denote.Builtin.{u8, usize, i32, bool}
@@ -32,8 +28,8 @@ use denote.Triple.Clauses.{lasts}
 use denote.Triple.Entry.{on_entry}
 use denote.Triple.Spec.{triple_of}
 use denote.Triple.Table.{framed}
-use denote.Triple.Walked.{Stays, walk_of, says, stay_dropped, Goes-dropped, ends_at}
-use Rattle.wl_c.specs.Handles.{may_ask, has_asked, was_answered, had_answer, after_answer, handle, IsBarred}
+use denote.Triple.Walked.{Stays, walk_of, stay_dropped, Goes-dropped, ends_at}
+use Rattle.wl_c.specs.Handles.{may_ask, was_answered, had_answer, after_answer, handle, IsBarred}
 use Rattle.wl_c.specs.contracts.exports.weblocks_answer as f
 use Rattle.wl_c.proofs.exports.weblocks_answer.Statement.{statement}
 use Rattle.wl_c.proofs.exports.weblocks_answer.Code as code

@@ -1,30 +1,24 @@
 -- `weblocks_audit` meets its contract: a walk of its MIR, by hand.
-use Rattle.std.proofs.Common.{◌≡◌, ℕ, ◌≤◌, ◌<◌, ◌^◌, List, [], ◌∷◌, ◌++◌, length, refl, sym, ap, ◌∙◌, subst, arith, w32, w64}
+use Rattle.std.proofs.Common.{◌≡◌, [], ◌∷◌, refl, ap, w32}
 use Rattle.std.proofs.raw_atomic.Walks.{proved}
-use Rattle.std.specs.Prelude.{Bool, true, false, pos, ℤ}
+use Rattle.std.specs.Prelude.{Bool, true, false, ℤ}
 use Rattle.std.specs.Ptr.{if_non_null}
 use seplogic.Ra.Ura.{Ura}
-use base.Fraction.{full_share}
-use base.Logic.{SProp, ent, emp, id⊢}
-use base.Fml.{Fml, ftrue, fsep, fex}
-use lib.Dec.{T}
+use base.Logic.{ent, emp, id⊢}
+use base.Fml.{Fml, ftrue}
 use lib.Ieee.Bits.{is_true}
-use mathlib.Core.Bool.{not}
-use mir.Val.{Val, vint}
+use mir.Val.{Val}
 use contract.Monad.{fact, fact_i}
 use contract.Running.{tables}
-use prog.Wp.{WpFn}
 use types.Logic.{Logic, sem}
-use types.Kit.{‵, raw, ◌⊛◌, some, later, prop, at_ret, Sq, ◌$◌, ◌∵◌, !, qed, done, move, keep, drop, use0, use1, use2, split, join, fsplit, fjoin, fpick, fpack, feq_l, pick, await, suffices, group}
+use types.Kit.{‵, raw, ◌⊛◌, some, later, prop, at_ret, Sq, ◌$◌, ◌∵◌, !, qed, done, move, drop, use0, use1, use2, split, join, fsplit, fjoin, fpack, feq_l, pick, await, suffices, group}
 use types.Run.{enter, of_opd, no_more, and_then, first, branches, skips, exec, returns, returns_within}
 use types.ByLocal.{alloc_all, pass_all, free_all, look_at, get, sets, lands_as, env}
-use denote.Builtin.{u8, usize, i32, bool}
+use denote.Builtin.{usize, i32, bool}
 use denote.Exit.{yes}
 use denote.Laws.{shows, Is}
-use denote.Plain.{uint_Makes, uint_vals, uint_Tells}
 use denote.Signed.{sint_Lawful}
-use denote.Array.{Array}
-use denote.RawPtr.{Ptr, RawPtr, block_ptr, null_ptr, InBlock, Testable, lies_at, room_at, rawptr_vals, rawptr_Tells, rawptr_Lawful, rawptr_Makes}
+use denote.RawPtr.{Ptr, RawPtr, block_ptr, null_ptr, InBlock, Testable, room_at, rawptr_vals, rawptr_Tells, rawptr_Lawful, rawptr_Makes}
 use denote.Signature.{plain}
 use denote.Steps.{nothing, owned, peeks, heard, only}
 use denote.Triple.Call.{calls_at}
@@ -32,7 +26,7 @@ use denote.Triple.Clauses.{lasts}
 use denote.Triple.Entry.{on_entry}
 use denote.Triple.Spec.{triple_of}
 use denote.Triple.Table.{framed}
-use denote.Triple.Walked.{Stays, walk_of, says, stay_dropped, Goes-dropped, ends_at}
+use denote.Triple.Walked.{Stays, walk_of, stay_dropped, Goes-dropped, ends_at}
 use Rattle.wl_c.specs.Handles.{may_audit, was_audited, had_audit, after_audit, handle}
 use Rattle.wl_c.specs.Codes.{fault_code}
 use Rattle.wl_c.specs.declared.fault.Fault.TheVariants.{Null}

@@ -1,18 +1,17 @@
 -- `weblocks_free` meets its contract: a walk of its MIR, by hand.
-use Rattle.std.proofs.Common.{◌≡◌, ℕ, List, [], ◌∷◌, ◌++◌, refl, sym, ap, ◌∙◌, subst}
+use Rattle.std.proofs.Common.{◌≡◌, [], ◌∷◌, refl, ap}
 use Rattle.std.proofs.raw_atomic.Walks.{proved}
 use Rattle.std.specs.Prelude.{Bool, true}
 use Rattle.std.specs.Ptr.{if_non_null}
 use seplogic.Ra.Ura.{Ura}
-use base.Logic.{SProp, ent, emp, id⊢}
-use base.Fml.{Fml, ftrue, fsep}
-use lib.Dec.{T}
+use base.Logic.{ent, emp, id⊢}
+use base.Fml.{Fml, ftrue}
 use lib.Ieee.Bits.{is_true}
-use mir.Val.{Val, vunit}
+use mir.Val.{vunit}
 use contract.Monad.{fact, fact_i}
 use contract.Running.{tables}
 use types.Logic.{Logic, sem}
-use types.Kit.{‵, raw, ◌⊛◌, some, later, prop, at_ret, Sq, ◌$◌, ◌∵◌, !, qed, done, move, drop, use0, use1, use2, split, join, feq_l, feq_i, pick, await, suffices, group}
+use types.Kit.{‵, raw, ◌⊛◌, some, later, prop, at_ret, Sq, ◌$◌, ◌∵◌, !, qed, done, drop, use0, use1, use2, split, join, feq_l, feq_i, pick, await, suffices, group}
 use types.Run.{enter, of_opd, unit_lit, no_more, and_then, first, branches, skips, exec, returns, returns_within}
 use types.ByLocal.{alloc_all, pass_all, free_all, look_at, get, sets, lands_as, env}
 use denote.Builtin.{bool, unit}
