@@ -178,7 +178,7 @@ def comparison_checks(made: Checkouts, kit: Kit) -> Checks:
 # The steps of ./test that have a stand-in here, beside rt.
 STEPS = (
     *("try_edits", "read_proofs", "read_me", "building"),
-    *("refuse_growths", "run_scripts", "run_daemon", "launching", "clients"),
+    *("refuse_growths", "run_scripts", "run_daemon", "embedding", "launching", "clients"),
 )
 
 
@@ -232,7 +232,7 @@ def gate_checks(made: Checkouts, kit: Kit) -> Checks:
 
     yield "./test passes once its program is shipped", passes_once_shipped
     of_built = (("launching", 4), ("run_scripts", 1), ("run_daemon", 5), ("clients --allow-missing", 1))
-    stopped = [("building", 3), *((f"{step} {BUILT}", status) for step, status in of_built)]
+    stopped = [("building", 3), ("embedding", 6), *((f"{step} {BUILT}", status) for step, status in of_built)]
     for step, status in stopped:
         yield f"./test stops at {step}", lambda it=step, number=status: stops(it, number)
     yield "./test stops at rt ci", stops_at_proofs

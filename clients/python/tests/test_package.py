@@ -74,7 +74,8 @@ class Wheel(unittest.TestCase):
         self.assertEqual("exclusive lock on db\n", self.run_python("first.py"))
 
     def test_the_other_programs_of_the_README_run(self):
-        blocks = blocks_of(README, "python")[1:]
+        # (test_local runs those that have no server)
+        blocks = [it for it in blocks_of(README, "python")[1:] if "weblocks.local" not in it]
         self.assertGreaterEqual(len(blocks), 2)
         for number, block in enumerate(blocks):
             with self.subTest(block):
