@@ -1,9 +1,10 @@
-# What the program is built from, and what is shipped of it. Sourced by weblocks, build, test and tools/ship, whose
-# current folder is the top of a checkout when they call these functions.
+# What the program is built from, and what is shipped of it. Sourced by weblocks, build, test, tools/ship and
+# clients/wasm/build, whose current folder is the top of a checkout when they call these functions.
 
 shipped=dist/weblocks-x86_64-linux-gnu
 
-# Sets crates to the program's crate and those below it, as crates.txt has them: a line is NAME OPTION ..: DEP ..
+# Sets crates to the program's crate, or the one that is named, and those below it, as crates.txt has them: a line is
+# NAME OPTION ..: DEP ..
 find_crates() {
     local line name at IFS=$' \t,'
     local -A below=() found=()
@@ -13,7 +14,7 @@ find_crates() {
             below[${line%%[$IFS:]*}]=${line#*:}
         fi
     done <crates.txt || return 1
-    crates=(weblocks)
+    crates=("${1:-weblocks}")
     for ((at = 0; at < ${#crates[@]}; at++)); do
         for name in ${below[${crates[at]}]-}; do
             # (the others are libraries of the kit)
@@ -37,6 +38,34 @@ find_places() {
             fi
         done
     done
+}
+
+# Copies those crates to a folder, where rt ci takes them for a repository: without the edits that it would try.
+copy_crates() {
+    local room=$1 crate file
+    # (rt ci wants to be at the top of a repository, wherever that lies)
+    mkdir -- "$room/.git"
+    cp -- HANDLES crates.txt "$room"
+    for crate in "${crates[@]}"; do
+        mkdir -p -- "$room/crates/$crate"
+        for file in "crates/$crate"/*; do
+            case ${file##*/} in
+            must-fail | out) ;;
+            *) cp -R -- "$file" "$room/crates/$crate" ;;
+            esac
+        done
+    done
+}
+
+# Leaves in that copy's crates.txt the lines of its crates alone.
+cut_list() {
+    local room=$1 line name
+    while IFS= read -r line || [[ -n $line ]]; do
+        read -r name _ <<<"${line%%[:#]*}"
+        if [[ -n $name && " ${crates[*]} " == *" $name "* ]]; then
+            echo "$line"
+        fi
+    done <crates.txt >"$room/crates.txt"
 }
 
 # Prints the SHA-256 of each file whose name, ended by NUL, it is given, and the names, in the order of their bytes.
