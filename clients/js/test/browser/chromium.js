@@ -202,6 +202,14 @@ export class Chromium {
     return page;
   }
 
+  /** Evaluates an expression in a target that is no page, as a worker. */
+  async evaluateIn(targetId, expression) {
+    const { sessionId } = await this.#devTools.call("Target.attachToTarget", { targetId, flatten: true });
+    await this.#devTools.call("Runtime.evaluate", { expression }, sessionId);
+    // (a worker that comes in the place of one with a session waits for a debugger)
+    await this.#devTools.call("Target.detachFromTarget", { sessionId });
+  }
+
   /** Calls a method of the DevTools protocol on the browser. */
   call(method, params = {}) {
     return this.#devTools.call(method, params);
