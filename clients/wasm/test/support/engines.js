@@ -22,16 +22,24 @@ export function moduleBytes() {
 }
 
 /** The module, compiled once for all tests of a file. */
-let compiled = null;
+let compiling = null;
+
+async function compile() {
+  // (64-bit memories are behind a flag in Node before version 24)
+  if (Number(process.versions.node.split(".")[0]) < 24) setFlagsFromString("--experimental-wasm-memory64");
+  return loadModule(await moduleBytes());
+}
 
 /** Makes a world of the module. */
 export async function makeModuleEngine(options) {
-  if (compiled === null) {
-    // (64-bit memories are behind a flag in Node before version 24)
-    if (Number(process.versions.node.split(".")[0]) < 24) setFlagsFromString("--experimental-wasm-memory64");
-    compiled = await loadModule(await moduleBytes());
-  }
-  return new Engine(compiled, options);
+  compiling ??= compile();
+  return new Engine(await compiling, options);
+}
+
+/** What the module exports, with a memory of its own. */
+export async function makeModuleExports() {
+  compiling ??= compile();
+  return new WebAssembly.Instance(await compiling).exports;
 }
 
 /** What makes an engine for a test, by its name; the test ends it. */
