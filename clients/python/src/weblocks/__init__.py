@@ -4,11 +4,14 @@
         async with locks.request("db", mode="shared", timeout=5) as lock:
             ...
 
-`weblocks.sync` has the same for threads, and `python3 -m weblocks` for the shell.
+`weblocks.sync` has the same for threads, and `python3 -m weblocks` for the shell. `weblocks.local` has it in one process,
+without a server, for tests.
 """
 
 from . import sync
 from .errors import Closed, Disconnected, Error, Forbidden, LockLost, LockStolen, Refused
+from .library import MissingLibrary, World
+from .in_process import Local, local
 from .manager import LockManager, connect
 from .queries import LockInfo, Snapshot
 from .requests import Lock, LockRequest
@@ -18,14 +21,18 @@ __all__ = [
     "Disconnected",
     "Error",
     "Forbidden",
+    "Local",
     "Lock",
     "LockInfo",
     "LockLost",
     "LockManager",
     "LockRequest",
     "LockStolen",
+    "MissingLibrary",
     "Refused",
     "Snapshot",
+    "World",
     "connect",
+    "local",
     "sync",
 ]

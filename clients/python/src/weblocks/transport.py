@@ -7,6 +7,7 @@ import importlib
 import os
 import re
 import ssl as tls
+from collections.abc import Awaitable, Callable
 from dataclasses import dataclass
 from typing import Any, Protocol
 
@@ -21,6 +22,12 @@ PUSHES = "weblocks.push"
 CLOSE_SECONDS = 1.0
 
 
+class Aborts(Protocol):
+    """What is used of the transport below a connection."""
+
+    def abort(self) -> None: ...
+
+
 class Socket(Protocol):
     """What is used of a connection of the library."""
 
@@ -28,7 +35,7 @@ class Socket(Protocol):
     def subprotocol(self) -> str | None: ...
 
     @property
-    def transport(self) -> asyncio.Transport: ...
+    def transport(self) -> Aborts: ...
 
     async def send(self, message: str, /) -> None: ...
 
@@ -51,6 +58,8 @@ class Options:
     reconnect: bool = True
     open_timeout: float = 10.0
     ssl: tls.SSLContext | None = None
+    opener: Callable[[Options], Awaitable[Socket]] | None = None
+    """What connects in place of the library, where there is no server."""
 
     def __post_init__(self) -> None:
         for name in ("url", "origin", "bucket"):
@@ -72,6 +81,8 @@ async def open_socket(options: Options) -> Socket:
     A server that refuses a handshake with subprotocols is tried without. Raises ValueError for a bad URL, Forbidden
     where the token is refused, and Disconnected where no server answers.
     """
+    if options.opener is not None:
+        return await options.opener(options)
     try:
         return await _connect(options, [PUSHES])
     except InvalidHandshake as error:

@@ -1,0 +1,141 @@
+"""A world in this process: its lines, its managers, and that its library is found."""
+
+import asyncio
+import os
+import unittest
+from pathlib import Path
+from unittest import mock
+
+import weblocks
+from support import TOP
+
+SCRIPTS = sorted((TOP / "tests" / "scripts").glob("*.in"))
+SEED = b"a seed of a test"
+ORIGIN = "https://a.test"
+
+
+def lines_of(script):
+    """The lines of a script; what stands behind the last LF is one if it has a byte."""
+    lines = script.split(b"\n")
+    return lines if lines[-1] else lines[:-1]
+
+
+@unittest.skipUnless(os.environ.get("WEBLOCKS_LIBRARY"), "the library isn't built here")
+class Worlds(unittest.TestCase):
+    """Lines, and their audit."""
+
+    def test_a_worked_script_has_its_replies_and_its_audit(self):
+        self.assertTrue(SCRIPTS)
+        for path in SCRIPTS:
+            with self.subTest(path.stem), weblocks.World(seed=SEED, keep_books=True) as world:
+                replies = b"".join(world.answer(line) + b"\n" for line in lines_of(path.read_bytes()))
+                self.assertEqual(path.with_suffix(".out").read_bytes(), replies)
+                self.assertEqual(path.with_suffix(".audit").read_bytes(), world.audit())
+
+    def test_a_line_that_is_none_leaves_the_world_as_it_was(self):
+        with weblocks.World() as world:
+            for line in (b"{\n}", b" " * 65537):
+                self.assertRaises(ValueError, world.answer, line)
+            self.assertRaises(ValueError, world.audit)
+            opened = world.answer(b'{"agent":"a","id":1,"op":"open","url":"https://a.test/"}')
+            self.assertEqual(b'{"id":1,"notices":[],"ok":{"client":"client-1"}}', opened)
+
+    def test_a_closed_world_answers_nothing(self):
+        world = weblocks.World()
+        world.close()
+        world.close()
+        self.assertRaises(ValueError, world.answer, b"{}")
+
+    def test_a_seed_has_sixteen_bytes(self):
+        self.assertRaises(ValueError, weblocks.World, seed=b"short")
+
+
+class Libraries(unittest.TestCase):
+    """Where the library is looked for."""
+
+    def test_a_missing_library_is_told_with_how_to_build_it(self):
+        with mock.patch.dict(os.environ, {"WEBLOCKS_LIBRARY": "/there/is/no/libweblocks.so"}):
+            with self.assertRaisesRegex(weblocks.MissingLibrary, "clients/c/build"):
+                weblocks.local()
+
+    def test_another_library_is_told(self):
+        with self.assertRaises(weblocks.MissingLibrary):
+            weblocks.World(library="libc.so.6")
+
+
+@unittest.skipUnless(os.environ.get("WEBLOCKS_LIBRARY"), "the library isn't built here")
+class Managers(unittest.IsolatedAsyncioTestCase):
+    """Lock managers of one world."""
+
+    async def test_a_lock_is_waited_for_and_granted_in_turn(self):
+        order = []
+
+        async def work(locks, name):
+            async with locks.request("db"):
+                order.append(name)
+                await asyncio.sleep(0)
+
+        with weblocks.local() as world:
+            async with world.connect(origin=ORIGIN) as one, world.connect(origin=ORIGIN) as two:
+                async with one.request("db"):
+                    tasks = [asyncio.create_task(work(two, "two")), asyncio.create_task(work(one, "one"))]
+                    await asyncio.sleep(0.01)
+                    self.assertEqual([], order)
+                    self.assertEqual(2, len((await two.query()).pending))
+                await asyncio.gather(*tasks)
+        self.assertEqual(["two", "one"], order)
+
+    async def test_a_steal_is_told_to_who_held_the_lock(self):
+        with weblocks.local() as world:
+            async with world.connect(origin=ORIGIN) as one, world.connect(origin=ORIGIN) as two:
+                with self.assertRaises(weblocks.LockStolen):
+                    async with one.request("db"):
+                        async with two.request("db", steal=True):
+                            await asyncio.sleep(60)
+
+    async def test_options_and_refusals_are_as_with_a_server(self):
+        with weblocks.local() as world:
+            async with world.connect(origin=ORIGIN) as one, world.connect(origin=ORIGIN) as two:
+                async with one.request("db"):
+                    async with two.request("db", if_available=True) as lock:
+                        self.assertIsNone(lock)
+                    with self.assertRaises(TimeoutError):
+                        async with two.request("db", timeout=0.01):
+                            pass
+                async with one.request("db", mode="shared"), two.request("db", mode="shared"):
+                    self.assertEqual(2, len((await one.query()).held))
+            with self.assertRaises(weblocks.Refused):
+                async with world.connect(origin="no url"):
+                    pass
+
+    async def test_the_end_of_a_manager_frees_its_locks(self):
+        with weblocks.local() as world:
+            async with world.connect(origin=ORIGIN) as two:
+                async with world.connect(origin=ORIGIN) as one:
+                    request = one.request("db")
+                    await request.__aenter__()
+                async with two.request("db", if_available=True) as lock:
+                    self.assertIsNotNone(lock)
+
+    async def test_worlds_and_origins_are_apart(self):
+        with weblocks.local() as world, weblocks.local() as other:
+            async with (
+                world.connect(origin=ORIGIN) as one,
+                world.connect(origin="https://b.test") as two,
+                other.connect(origin=ORIGIN) as three,
+            ):
+                async with one.request("db"), two.request("db"), three.request("db"):
+                    pass
+
+    async def test_the_audit_counts_what_the_managers_asked(self):
+        with weblocks.local(keep_books=True) as world:
+            async with world.connect(origin=ORIGIN) as locks, locks.request("db"):
+                pass
+            self.assertRegex(world.audit(), rb'^\{"entries":\d+,"legal":true,"origin":"https://a.test"\}\n$')
+
+    async def test_a_world_that_ends_is_lost_to_its_managers(self):
+        world = weblocks.local()
+        with self.assertRaises(weblocks.LockLost):
+            async with world.connect(origin=ORIGIN) as locks, locks.request("db"):
+                world.close()
+                await asyncio.sleep(60)

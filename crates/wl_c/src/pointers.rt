@@ -1,0 +1,70 @@
+//! What a call finds of its pointers before it follows them.
+
+ghost use Rattle.std.specs.Prelude.{◌≡◌, ◌≤◌, ◌<◌, true, pos};
+ghost use denote.RawPtr.{InBlock, Testable};
+ghost use Rattle.wl_c.specs.Codes.{fault_code};
+ghost use Rattle.wl_c.specs.Handles.{IsBarred};
+ghost use Rattle.wl_c.specs.declared.fault.Fault.TheVariants.{Null};
+
+use crate::fault::{Fault, code_of};
+use crate::world::LONGEST;
+use std::ptr::NonNull;
+
+/// Whether a pointer leads anywhere.
+fn leads<T>(pointer: *mut T) -> bool
+    requires { Testable pointer }
+    ensures { result ≡ true → InBlock pointer }
+{
+    NonNull::new(pointer).is_some()
+}
+
+/// Whether there is a world to end.
+pub fn can_end(world: *mut u8) -> bool
+    requires { Testable world }
+    ensures { result ≡ true → InBlock world }
+{
+    leads(world)
+}
+
+/// Whether a call with a line can be made.
+pub fn can_answer(
+    world: *mut u8,
+    line: *const u8,
+    length: usize,
+    reply: *mut *const u8,
+    reply_length: *mut usize,
+) -> bool
+    requires { Testable world × Testable line × Testable reply × Testable reply_length }
+    ensures { result ≡ true → InBlock world × InBlock line × InBlock reply × InBlock reply_length × (length ≤ 65536) }
+{
+    leads(world)
+        && leads(line.cast_mut())
+        && leads(reply)
+        && leads(reply_length)
+        && length <= LONGEST
+}
+
+/// Why a call with a line can't be made.
+pub fn code_of_line(length: usize) -> i32
+    ensures { IsBarred length result }
+{
+    if length > LONGEST {
+        return code_of(Err(Fault::TooLong));
+    }
+    code_of(Err(Fault::Null))
+}
+
+/// Whether a call for an audit can be made.
+pub fn can_audit(world: *mut u8, reply: *mut *const u8, reply_length: *mut usize) -> bool
+    requires { Testable world × Testable reply × Testable reply_length }
+    ensures { result ≡ true → InBlock world × InBlock reply × InBlock reply_length }
+{
+    leads(world) && leads(reply) && leads(reply_length)
+}
+
+/// Why a call for an audit can't be made.
+pub fn code_of_null() -> i32
+    ensures { result ≡ fault_code Null }
+{
+    code_of(Err(Fault::Null))
+}
