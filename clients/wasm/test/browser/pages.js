@@ -4,7 +4,7 @@ import { after, before } from "node:test";
 import { fileURLToPath } from "node:url";
 import { Chromium } from "../../../js/test/browser/chromium.js";
 import { serveFiles } from "../../../js/test/browser/files.js";
-import { ENGINES, PROGRAM, hasModule, moduleBytes } from "../support/engines.js";
+import { PROGRAM, hasModule, moduleBytes } from "../support/engines.js";
 import { PipedEngine } from "../support/piped.js";
 
 const CLIENTS = fileURLToPath(new URL("../../../", import.meta.url));
@@ -59,8 +59,8 @@ export class Pages {
     return pages;
   }
 
-  /** The names of the engines that there are. */
-  static engines = Object.keys(ENGINES);
+  /** The names of the engines that there are in a page. */
+  static engines = Object.keys(WORKERS).filter((name) => name !== "module" || hasModule);
 
   async #start() {
     const module = hasModule && { "/wasm/weblocks.wasm": await moduleBytes() };
@@ -72,6 +72,11 @@ export class Pages {
     await this.#chromium?.end();
     await this.#files?.end();
     this.#programs.end();
+  }
+
+  /** Opens a page in which nothing was done. */
+  openBlank() {
+    return this.#chromium.open(`${this.#files.url}/js/test/browser/agent.html`);
   }
 
   /** Opens a page that has connected to the worker of its origin. */

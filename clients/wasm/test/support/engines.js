@@ -21,26 +21,21 @@ export function moduleBytes() {
   return readFile(MODULE);
 }
 
-/** The module, compiled once for all tests of a file. */
-let compiling = null;
-
+/**
+ * The module, where this Node takes it: 64-bit memories and tables are behind a flag before version 24, and tables
+ * aren't there before version 22.
+ */
 async function compile() {
-  // (64-bit memories are behind a flag in Node before version 24)
   if (Number(process.versions.node.split(".")[0]) < 24) setFlagsFromString("--experimental-wasm-memory64");
-  return loadModule(await moduleBytes());
+  try {
+    return await loadModule(await moduleBytes());
+  } catch (fault) {
+    if (fault instanceof WebAssembly.CompileError) return null;
+    throw fault;
+  }
 }
 
-/** Makes a world of the module. */
-export async function makeModuleEngine(options) {
-  compiling ??= compile();
-  return new Engine(await compiling, options);
-}
-
-/** What the module exports, with a memory of its own. */
-export async function makeModuleExports() {
-  compiling ??= compile();
-  return new WebAssembly.Instance(await compiling).exports;
-}
+const module = hasModule ? await compile() : null;
 
 /** What makes an engine for a test, by its name; the test ends it. */
 export const ENGINES = {
@@ -49,5 +44,5 @@ export const ENGINES = {
     t.after(() => engine.end());
     return engine;
   },
-  ...(hasModule && { module: () => makeModuleEngine() }),
+  ...(module !== null && { module: () => new Engine(module) }),
 };
