@@ -27,6 +27,7 @@ export class PortSocket {
     port1.onmessage = ({ data }) => this.#read(data);
     // (where the platform tells of a port's end)
     port1.addEventListener("close", () => this.#end(NOTHING_SAID, ""));
+    globalThis.addEventListener?.("pagehide", this.#leave);
     const port = typeof door === "function" ? door() : door;
     port.postMessage({ type: "connect" }, [port2]);
   }
@@ -39,9 +40,8 @@ export class PortSocket {
   /** Ends the connection. The worker is told, behind what was sent before. */
   close() {
     if (this.readyState === CLOSED) return;
-    this.readyState = CLOSED;
     this.#port.postMessage({ type: "close" });
-    this.#port.close();
+    this.#cut();
   }
 
   #read(data) {
@@ -69,10 +69,21 @@ export class PortSocket {
     if (lock !== null && this.readyState === OPEN) this.#port.postMessage({ type: "hold", lock });
   }
 
+  /** The browser may keep a page that is left, with all that it holds, so that it may come back: its locks pass on. */
+  #leave = () => {
+    this.#port.postMessage({ type: "close" });
+    this.#end(NOTHING_SAID, "");
+  };
+
   #end(code, reason) {
     if (this.readyState === CLOSED) return;
+    this.#cut();
+    this.onclose?.({ code, reason });
+  }
+
+  #cut() {
     this.readyState = CLOSED;
     this.#port.close();
-    this.onclose?.({ code, reason });
+    globalThis.removeEventListener?.("pagehide", this.#leave);
   }
 }

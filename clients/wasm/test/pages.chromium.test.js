@@ -1,10 +1,12 @@
 /** Pages of one origin in Chromium share locks by their worker, and whoever ends gives his up. */
 
 import assert from "node:assert/strict";
+import { readFileSync } from "node:fs";
 import { test } from "node:test";
-import { sleep } from "../../js/test/support/holding.js";
+import { sleep, until } from "../../js/test/support/holding.js";
 import { inTime } from "../../js/test/browser/chromium.js";
 import { Pages } from "./browser/pages.js";
+import { hasModule } from "./support/engines.js";
 
 /** Within these milliseconds the locks of a page that is gone pass on. */
 const GONE = 10_000;
@@ -12,7 +14,10 @@ const GONE = 10_000;
 /** A push is there within these, unless something waits for a poll or a heartbeat. */
 const PUSHED = 1500;
 
-const pages = Pages.use();
+/** The program that README.md shows first. */
+const SHOWN = readFileSync(new URL("../README.md", import.meta.url), "utf8").match(/^```js\n(.*?)^```$/ms)[1];
+
+const pages = Pages.use({ "/shown.html": `<!doctype html><title>A page</title><script type="module">${SHOWN}</script>` });
 
 /** Has a page wait for a lock, and gives a promise of its being granted, as `granted`. */
 async function wait(page, name, options = {}) {
@@ -81,6 +86,19 @@ for (const engine of Pages.engines) {
       await b.close();
     });
 
+    testHere(`a page that goes elsewhere gives up its lock, and may come back${where}`, async (t) => {
+      const [a, b] = [await open({ isSecure }), await open({ isSecure })];
+      await a.evaluate('hold("db")');
+      const { granted } = await wait(b, "db");
+      t.diagnostic(`${await assertPassesOn(b, granted, () => a.go(pages.blankUrl))} ms`);
+      // (the browser may have kept it, and may load it anew)
+      await a.evaluate("history.back()");
+      await until(() => a.evaluate("'ready' in window && ready").catch(() => false));
+      assert.equal(await a.evaluate('locks.request("db", () => "again")'), "again");
+      t.diagnostic(`its events: ${await a.evaluate("events.join()")}`);
+      await Promise.all([a.close(), b.close()]);
+    });
+
     testHere(`a page whose renderer is killed gives up its lock${where}`, async (t) => {
       // (the first page may share its process with the worker)
       const [first, a, b] = [await open({ isSecure }), await open({ isSecure }), await open({ isSecure })];
@@ -117,3 +135,12 @@ for (const engine of Pages.engines) {
     await Promise.all([a.close(), b.close()]);
   });
 }
+
+const skip = hasModule ? false : "the module isn't built: clients/wasm/build builds it";
+
+test("the page that README.md shows holds a lock as it stands", { skip }, async () => {
+  const page = await pages.openAt("/shown.html");
+  await until(async () => (await page.evaluate("document.title")) === "report is mine");
+  assert.deepEqual(page.faults, []);
+  await page.close();
+});

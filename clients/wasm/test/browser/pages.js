@@ -50,10 +50,15 @@ export class Pages {
   #chromium;
   #files;
   #programs = new Programs();
+  #more;
 
-  /** To be called once, before the tests of a file. */
-  static use() {
-    const pages = new Pages();
+  constructor(more) {
+    this.#more = more;
+  }
+
+  /** To be called once, before the tests of a file, with further pages by their paths. */
+  static use(more = {}) {
+    const pages = new Pages(more);
     before(() => pages.#start());
     after(() => pages.#end());
     return pages;
@@ -64,7 +69,7 @@ export class Pages {
 
   async #start() {
     const module = hasModule && { "/wasm/weblocks.wasm": await moduleBytes() };
-    this.#files = await serveFiles(CLIENTS, { ...this.#programs.pages, ...module });
+    this.#files = await serveFiles(CLIENTS, { ...this.#programs.pages, ...module, ...this.#more });
     this.#chromium = await Chromium.start({ flags: [`--host-resolver-rules=MAP ${INSECURE} 127.0.0.1`] });
   }
 
@@ -74,9 +79,19 @@ export class Pages {
     this.#programs.end();
   }
 
-  /** Opens a page in which nothing was done. */
+  /** The URL of a page in which nothing is done, of the origin of secure pages. */
+  get blankUrl() {
+    return `${this.#files.url}/js/test/browser/agent.html`;
+  }
+
+  /** Opens that page. */
   openBlank() {
-    return this.#chromium.open(`${this.#files.url}/js/test/browser/agent.html`);
+    return this.#chromium.open(this.blankUrl);
+  }
+
+  /** Opens a page of that origin. */
+  openAt(path) {
+    return this.#chromium.open(this.#files.url + path);
   }
 
   /** Opens a page that has connected to the worker of its origin. */
