@@ -109,11 +109,20 @@ class Managers(unittest.IsolatedAsyncioTestCase):
                     pass
 
     async def test_the_end_of_a_manager_frees_its_locks(self):
+        held = asyncio.Event()
+
+        async def hold(locks):
+            async with locks.request("db"):
+                held.set()
+                await asyncio.sleep(60)
+
         with weblocks.local() as world:
             async with world.connect(origin=ORIGIN) as two:
                 async with world.connect(origin=ORIGIN) as one:
-                    request = one.request("db")
-                    await request.__aenter__()
+                    holder = asyncio.create_task(hold(one))
+                    await held.wait()
+                with self.assertRaises(weblocks.LockLost):
+                    await holder
                 async with two.request("db", if_available=True) as lock:
                     self.assertIsNotNone(lock)
 

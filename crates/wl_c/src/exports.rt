@@ -1,10 +1,13 @@
 //! What C calls.
 
-ghost use Rattle.std.specs.Prelude.{◌≡◌, ◌≤◌};
+ghost use Rattle.std.specs.Prelude.{◌≡◌, ◌≤◌, ◌⊎◌, IfOk, pos};
 ghost use Rattle.std.specs.Ptr.{if_non_null};
 ghost use denote.RawPtr.{Testable};
 ghost use types.Logic.{sem};
 ghost use Rattle.wl_c.specs.Handles.{Asking, Auditing, after_answer, after_audit, handle, has_asked, has_audit, may_ask, may_audit, was_answered, was_audited};
+ghost use Rattle.wl_c.specs.Codes.{fault_code};
+ghost use Rattle.wl_c.specs.Worlds.{IsOpening};
+ghost use Rattle.wl_c.specs.declared.fault.Fault.TheVariants.{Memory as FaultMemory};
 ghost use Rattle.wl_c.specs.declared.world.World as code;
 
 use crate::fault::{Fault, code_of};
@@ -18,7 +21,9 @@ use std::ptr::NonNull;
 use wl_types::Memory;
 
 /// A world in a box.
-fn boxed(alloc: Global, seed: Seed, keeps_books: bool) -> Result<Box<World>, Memory> {
+fn boxed(alloc: Global, seed: Seed, keeps_books: bool) -> Result<Box<World>, Memory>
+    ensures { IfOk result (λ b. IsOpening keeps_books b.value.live) }
+{
     let world = World::new(alloc, seed, keeps_books)?;
     match Box::new(alloc, world) {
         Ok(world) => Ok(world),
@@ -26,14 +31,19 @@ fn boxed(alloc: Global, seed: Seed, keeps_books: bool) -> Result<Box<World>, Mem
     }
 }
 
-/// Makes a world in which nobody has opened. 0, or `Memory`'s number.
+/// Makes a world in which nobody has opened, and hands its address out. 0, or `Memory`'s number.
+///
+/// The contract says nothing of the memory behind the address: `boxed` says which world lies there.
 #[unsafe(no_mangle)]
 pub extern "C" fn weblocks_new(
     alloc: Global,
     seed: &Seed,
     keep_books: i32,
     out: &mut *mut u8,
-) -> i32 {
+) -> i32
+    ensures code { (result ≡ pos 0) ⊎ (result ≡ fault_code FaultMemory) }
+    ensures refused { result ≡ fault_code FaultMemory → out.new ≡ out.old }
+{
     match boxed(alloc, *seed, keep_books != 0) {
         Ok(world) => {
             *out = NonNull::from_mut(Box::leak(world)).cast::<u8>().as_ptr();

@@ -1,10 +1,9 @@
 //! One world: all its origins and agents, and what it said last.
 
-ghost use Rattle.std.specs.Prelude.{◌≡◌, ◌≤◌, ◌<◌, option_map, IfOk, IfErr, IfSome, OnOk, OnErr, length, Some, None, Bool, if◌then◌else◌, [], string_bytes};
-ghost use Rattle.wl_world.specs.World.{next, opening, reply};
-ghost use Rattle.wl_world.specs.Worlds.{world_of};
-ghost use Rattle.wl_script.specs.Lines.{HasNoLf};
-ghost use Rattle.wl_c.specs.Worlds.{Answers, AnswersLive, Audits, IsAudit, IsOpening, longer, MayBeAnswered, script_of, world_of_live};
+ghost use Rattle.std.specs.Prelude.{◌≡◌, option_map, Err, IfOk, OnOk, Some, None, if◌then◌else◌, []};
+ghost use Rattle.wl_world.specs.World.{next, reply};
+ghost use Rattle.wl_c.specs.declared.fault.Fault.TheVariants.{Memory as FaultMemory};
+ghost use Rattle.wl_c.specs.Worlds.{Answers, Audits, IsAudit, IsOpening, longer, MayBeAnswered, script_of, world_of_live};
 
 use crate::fault::Fault;
 use crate::seed::Seed;
@@ -104,6 +103,15 @@ impl World {
         })
     }
 
+    /// Lets go of what the world has, since a growth was refused.
+    fn spend(&mut self) -> Result<(), Fault>
+        ensures spent { self.new.live ≡ None }
+        ensures fault { result ≡ Err FaultMemory }
+    {
+        self.live = None;
+        Err(Fault::Memory)
+    }
+
     /// Answers a line, which is given without its LF.
     pub fn answer(&mut self, line: &[u8]) -> Result<(), Fault>
         ensures { Answers self.old.live line.now result self.new.live self.new.reply.items }
@@ -117,10 +125,7 @@ impl World {
                 self.reply = reply;
                 Ok(())
             }
-            Err(Memory) => {
-                self.live = None;
-                Err(Fault::Memory)
-            }
+            Err(Memory) => self.spend(),
         }
     }
 
@@ -139,10 +144,7 @@ impl World {
                 self.reply = text;
                 Ok(())
             }
-            Err(Memory) => {
-                self.live = None;
-                Err(Fault::Memory)
-            }
+            Err(Memory) => self.spend(),
         }
     }
 }

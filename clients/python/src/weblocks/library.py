@@ -4,8 +4,10 @@ from __future__ import annotations
 
 import ctypes
 import os
+import sys
 from pathlib import Path
 from types import TracebackType
+from typing import Any
 
 from .errors import Error
 
@@ -16,6 +18,9 @@ NAME = "libweblocks.so"
 SONAME = "libweblocks.so.1"
 LONGEST_LINE = 65_536
 """The most bytes of a line."""
+
+# The memory of the process from its first byte on: a slice copies bytes out, in a third of the time of `string_at`.
+_process: Any = (ctypes.c_char * sys.maxsize).from_address(0)
 
 _MEMORY, _SPENT, _NO_BOOKS, _TOO_LONG, _LINE_FEED = 1, 2, 3, 5, 6
 
@@ -70,13 +75,17 @@ class World:
         if seed is not None and len(seed) != 16:
             raise ValueError(f"a seed has 16 bytes, not {len(seed)}")
         self._library = load(library)
-        self._handle = ctypes.c_void_p()
-        self._reply = ctypes.c_void_p()
-        self._length = ctypes.c_size_t()
-        self._rooms = (ctypes.byref(self._reply), ctypes.byref(self._length))
-        self._call = self._library.weblocks_answer
-        if self._library.weblocks_new(seed or os.urandom(16), keep_books, ctypes.byref(self._handle)):
+        self._reply, self._length = ctypes.c_void_p(), ctypes.c_size_t()
+        handle = ctypes.c_void_p()
+        if self._library.weblocks_new(seed or os.urandom(16), keep_books, ctypes.byref(handle)):
             raise MemoryError("there is no memory for a world")
+        self._set_handle(handle.value)
+
+    def _set_handle(self, handle: int | None) -> None:
+        self._handle = handle
+        self._rooms = (ctypes.byref(self._reply), ctypes.byref(self._length))
+        # What a call with a line needs, to be had in one look-up.
+        self._parts = (self._library.weblocks_answer, handle, *self._rooms, self._reply, self._length, _process)
 
     def answer(self, line: bytes) -> bytes:
         """The reply to a line, both without LF.
@@ -84,10 +93,12 @@ class World:
         Raises ValueError for a line with an LF or with more than 65,536 bytes, and MemoryError where memory is wanting,
         now or before. A ValueError leaves the world as it was.
         """
-        code = self._call(self._handle, line, len(line), *self._rooms)
-        if code:
+        call, handle, to_reply, to_length, reply, length, process = self._parts
+        if code := call(handle, line, len(line), to_reply, to_length):
             raise self._error(code)
-        return ctypes.string_at(self._reply.value or 0, self._length.value)
+        start = reply.value or 0
+        said: bytes = process[start : start + length.value]
+        return said
 
     def audit(self) -> bytes:
         """The lines that `weblocks audit` writes for a file of the lines so far.
@@ -97,11 +108,12 @@ class World:
         code = self._library.weblocks_audit(self._handle, *self._rooms)
         if code:
             raise self._error(code)
-        return ctypes.string_at(self._reply.value or 0, self._length.value)
+        return ctypes.string_at(self._reply, self._length.value)
 
     def close(self) -> None:
         """Ends the world. May be called again."""
-        handle, self._handle = self._handle, ctypes.c_void_p()
+        handle = self._handle
+        self._set_handle(None)
         self._library.weblocks_free(handle)
 
     def __enter__(self) -> World:
