@@ -10,7 +10,7 @@ const locks = globalThis.navigator?.locks;
 
 let held = null;
 
-/** Holds the lock, and gives its name, which no other page has; or null where the browser has no locks for this page. */
+/** Holds the lock, and gives its name, which no other page has; or null where the browser has no locks for the page. */
 export function holdPageLock() {
   held ??= take();
   return held;

@@ -15,8 +15,9 @@ const POLL = 50;
  * Reads the options.
  *
  * @param {object} options as `ConnectOptions` in weblocks.d.ts says
- * @returns {{url: string | undefined, port: object | Function | undefined, origin: string, kind: string, bucket: string,
- *   token: string | undefined, heartbeat: number, poll: number, reconnect: boolean, WebSocket: Function | undefined}}
+ * @returns {{url: string | undefined, port: object | Function | undefined, origin: string, kind: string,
+ *   bucket: string, token: string | undefined, heartbeat: number, poll: number, reconnect: boolean,
+ *   WebSocket: Function | undefined}}
  * @throws {TypeError} where an option is missing or wrong
  */
 export function readSettings(options) {

@@ -7,7 +7,9 @@ export const MESSAGE_BYTES = 65_500;
 
 /** Whether a message is longer than is taken. */
 export function isTooLong(text) {
-  return text.length > MESSAGE_BYTES || (text.length * 3 > MESSAGE_BYTES && ENCODER.encode(text).length > MESSAGE_BYTES);
+  if (text.length > MESSAGE_BYTES) return true;
+  // (a unit of UTF-16 has three bytes of UTF-8 at most)
+  return text.length * 3 > MESSAGE_BYTES && ENCODER.encode(text).length > MESSAGE_BYTES;
 }
 
 /**

@@ -54,8 +54,9 @@ test("a line that is too long, or has an LF, is refused, and so is an audit with
 
 test("the seed shows in no reply", { skip }, async () => {
   const lines = linesOf(readFileSync(`${SCRIPTS}${NAMES[0]}.in`));
-  const [first, second] = [await call("module_steps", "runScript", lines, 0), await call("module_steps", "runScript", lines, 255)];
-  assert.deepEqual(first, second);
+  const said = [];
+  for (const byte of [0, 255]) said.push(await call("module_steps", "runScript", lines, byte));
+  assert.deepEqual(said[0], said[1]);
 });
 
 test("a hundred thousand cycles leave the memory as it was", { skip }, async () => {

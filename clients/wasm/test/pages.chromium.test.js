@@ -17,7 +17,10 @@ const PUSHED = 1500;
 /** The program that README.md shows first. */
 const SHOWN = readFileSync(new URL("../README.md", import.meta.url), "utf8").match(/^```js\n(.*?)^```$/ms)[1];
 
-const pages = Pages.use({ "/shown.html": `<!doctype html><title>A page</title><script type="module">${SHOWN}</script>` });
+const pages = Pages.use({ "/shown.html": `<!doctype html><script type="module">${SHOWN}</script>` });
+
+/** How many requests are held and pending, as a page sees it. */
+const COUNTS = "locks.query().then(({ held, pending }) => [held.length, pending.length])";
 
 /** Has a page wait for a lock, and gives a promise of its being granted, as `granted`. */
 async function wait(page, name, options = {}) {
@@ -115,10 +118,10 @@ for (const engine of Pages.engines) {
     const { granted } = await wait(b, "db");
     await a.call("Page.setWebLifecycleState", { state: "frozen" });
     await sleep(GONE + 3000);
-    assert.deepEqual(await b.evaluate("locks.query().then(({ held, pending }) => [held.length, pending.length])"), [1, 1]);
+    assert.deepEqual(await b.evaluate(COUNTS), [1, 1]);
     await a.call("Page.setWebLifecycleState", { state: "active" });
     await a.evaluate(`for (const end = Date.now() + ${GONE}; Date.now() < end; );`);
-    assert.deepEqual(await b.evaluate("locks.query().then(({ held, pending }) => [held.length, pending.length])"), [1, 1]);
+    assert.deepEqual(await b.evaluate(COUNTS), [1, 1]);
     await assertPassesOn(b, granted, () => a.evaluate("release()"), PUSHED);
     assert.deepEqual(await a.evaluate("events"), []);
     await Promise.all([a.close(), b.close()]);

@@ -33,7 +33,8 @@ for (const [name, make] of Object.entries(ENGINES)) {
     assert.equal(await a.ask(REQUEST), `{"id":2,${GRANTED},"ok":{"request":1}}`);
     assert.equal(await b.ask(REQUEST), '{"id":2,"notices":[],"ok":{"request":2}}');
     const push = b.next();
-    assert.equal(await a.ask('{"id":3,"op":"release","request":1}'), '{"id":3,"notices":[],"ok":{"release":"released"}}');
+    const released = await a.ask('{"id":3,"op":"release","request":1}');
+    assert.equal(released, '{"id":3,"notices":[],"ok":{"release":"released"}}');
     assert.equal(await push, '{"id":null,"notices":[{"phase":"granted","request":2}],"ok":{}}');
     assert.equal(await b.ask('{"id":3,"op":"poll"}'), '{"id":3,"notices":[],"ok":{}}');
   });
@@ -62,7 +63,7 @@ for (const [name, make] of Object.entries(ENGINES)) {
       await assertFree(b);
     });
 
-  testHere("an agent's locks pass on when it closes, when its port says so and when its port ends", async (t, engine) => {
+  testHere("an agent's locks pass on when it closes, when its port says so, and with its port", async (t, engine) => {
     const service = serve(engine);
     const door = doorTo(t, service);
     const waiting = await connectTo(t, door);
