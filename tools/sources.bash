@@ -40,34 +40,6 @@ find_places() {
     done
 }
 
-# Copies those crates to a folder, where rt ci takes them for a repository: without the edits that it would try.
-copy_crates() {
-    local room=$1 crate file
-    # (rt ci wants to be at the top of a repository, wherever that lies)
-    mkdir -- "$room/.git"
-    cp -- HANDLES crates.txt "$room"
-    for crate in "${crates[@]}"; do
-        mkdir -p -- "$room/crates/$crate"
-        for file in "crates/$crate"/*; do
-            case ${file##*/} in
-            must-fail | out) ;;
-            *) cp -R -- "$file" "$room/crates/$crate" ;;
-            esac
-        done
-    done
-}
-
-# Leaves in that copy's crates.txt the lines of its crates alone.
-cut_list() {
-    local room=$1 line name
-    while IFS= read -r line || [[ -n $line ]]; do
-        read -r name _ <<<"${line%%[:#]*}"
-        if [[ -n $name && " ${crates[*]} " == *" $name "* ]]; then
-            echo "$line"
-        fi
-    done <crates.txt >"$room/crates.txt"
-}
-
 # Prints the SHA-256 of each file whose name, ended by NUL, it is given, and the names, in the order of their bytes.
 sum_files() {
     LC_ALL=C sort -z -u | xargs -0 -r sha256sum -z --
