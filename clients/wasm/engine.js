@@ -5,7 +5,7 @@ const SEED_BYTES = 16;
 /** What the engine takes, without its LF. */
 export const LINE_BYTES = 65_536;
 
-/** Where a call writes the pointers that it answers by: two words before the line. */
+/** A call answers by two words of memory, its pointers, which stand before the line that it is given. */
 const WORD_BYTES = 8;
 const WORDS_BYTES = 2 * WORD_BYTES;
 
@@ -63,31 +63,27 @@ export class Engine {
    */
   constructor(module, { seed = randomSeed(), keepsBooks = false } = {}) {
     this.#module = new WebAssembly.Instance(module).exports;
-    const { weblocks_allocate, weblocks_new } = this.#module;
-    const area = this.#call(() => weblocks_allocate(BigInt(WORDS_BYTES + LINE_BYTES)));
-    if (area === 0n) throw fault(1);
-    this.#area = Number(area);
-    this.#bytes(this.#area, SEED_BYTES).set(seed);
-    this.#check(this.#call(() => weblocks_new(area, keepsBooks ? 1 : 0, area)));
+    this.#area = this.#call(({ weblocks_allocate }) => weblocks_allocate(BigInt(WORDS_BYTES + LINE_BYTES)));
+    if (this.#area === 0n) throw fault(1);
+    this.#place(SEED_BYTES).set(seed);
+    const made = ({ weblocks_new }) => weblocks_new(this.#line, keepsBooks ? 1 : 0, this.#area);
+    this.#check(this.#call(made));
     this.#world = this.#word(0);
   }
 
   /**
    * Answers a line of a script.
    *
-   * @param {string} line one JSON text, with its member `agent`, without an LF
+   * @param {string | Uint8Array} line one JSON text, with its member `agent`, without an LF; or its bytes
    * @returns {string} the reply, without an LF
    * @throws {EngineError} where the line is too long or has an LF, which changes nothing; or where memory has run out,
    *   after which the world is gone
    */
   answer(line) {
-    const place = this.#bytes(this.#area + WORDS_BYTES, LINE_BYTES);
-    const { read, written } = this.#encoder.encodeInto(line, place);
-    if (read < line.length) throw fault(5);
-    const at = BigInt(this.#area);
-    const answer = this.#module.weblocks_answer;
-    const from = at + BigInt(WORDS_BYTES);
-    return this.#reply(() => answer(this.#world, from, BigInt(written), at, at + BigInt(WORD_BYTES)));
+    const size = BigInt(typeof line === "string" ? this.#putText(line) : this.#putBytes(line));
+    return this.#reply(({ weblocks_answer }, reply, length) =>
+      weblocks_answer(this.#world, this.#line, size, reply, length),
+    );
   }
 
   /**
@@ -97,18 +93,31 @@ export class Engine {
    * @throws {EngineError} where the world keeps no books, or is gone
    */
   audit() {
-    const at = BigInt(this.#area);
-    return this.#reply(() => this.#module.weblocks_audit(this.#world, at, at + BigInt(WORD_BYTES)));
+    return this.#reply(({ weblocks_audit }, reply, length) => weblocks_audit(this.#world, reply, length));
   }
 
   /** How many bytes of memory the engine has taken. */
   get memoryBytes() {
-    return this.#module.memory.buffer.byteLength;
+    return this.#memory.byteLength;
   }
 
+  /** Puts a line at its place, and gives how many bytes it has. */
+  #putText(line) {
+    const { read, written } = this.#encoder.encodeInto(line, this.#place(LINE_BYTES));
+    if (read < line.length) throw fault(5);
+    return written;
+  }
+
+  #putBytes(line) {
+    if (line.length > LINE_BYTES) throw fault(5);
+    this.#place(LINE_BYTES).set(line);
+    return line.length;
+  }
+
+  /** The text that a call answers with. */
   #reply(run) {
-    this.#check(this.#call(run));
-    const reply = this.#bytes(Number(this.#word(0)), Number(this.#word(WORD_BYTES)));
+    this.#check(this.#call((exports) => run(exports, this.#area, this.#area + BigInt(WORD_BYTES))));
+    const reply = new Uint8Array(this.#memory, Number(this.#word(0)), Number(this.#word(WORD_BYTES)));
     return this.#decoder.decode(reply);
   }
 
@@ -116,7 +125,7 @@ export class Engine {
   #call(run) {
     if (this.#module === null) throw fault(2);
     try {
-      return run();
+      return run(this.#module);
     } catch (trap) {
       this.#module = null;
       throw new EngineError(`the engine trapped: ${trap.message}`, true);
@@ -127,13 +136,24 @@ export class Engine {
     if (code !== 0) throw fault(code);
   }
 
-  /** The memory is another buffer once it has grown. */
-  #bytes(at, length) {
-    return new Uint8Array(this.#module.memory.buffer, at, length);
+  /** The memory, which is another buffer once it has grown. */
+  get #memory() {
+    if (this.#module === null) throw fault(2);
+    return this.#module.memory.buffer;
+  }
+
+  /** Where a line stands, as the module knows it. */
+  get #line() {
+    return this.#area + BigInt(WORDS_BYTES);
+  }
+
+  /** The place of a line, of which so many bytes are wanted. */
+  #place(length) {
+    return new Uint8Array(this.#memory, Number(this.#line), length);
   }
 
   #word(offset) {
-    return new DataView(this.#module.memory.buffer).getBigUint64(this.#area + offset, true);
+    return new DataView(this.#memory).getBigUint64(Number(this.#area) + offset, true);
   }
 }
 

@@ -17,18 +17,20 @@ export async function makeExports() {
   return new WebAssembly.Instance(await compiling).exports;
 }
 
-/** The replies to the lines of a script, and its audit, each line ended by LF. */
+/** The replies to the lines of a script, texts or lists of bytes, and its audit, each line ended by LF. */
 export async function runScript(lines, seed) {
   const options = { keepsBooks: true, ...(seed !== undefined && { seed: new Uint8Array(16).fill(seed) }) };
   const engine = await makeEngine(options);
-  return { out: lines.map((line) => `${engine.answer(line)}\n`).join(""), audit: engine.audit() };
+  const answer = (line) => engine.answer(typeof line === "string" ? line : Uint8Array.from(line));
+  return { out: lines.map((line) => `${answer(line)}\n`).join(""), audit: engine.audit() };
 }
 
 /** How these lines are refused, and what the longest line that is taken is answered afterwards. */
 export async function refuseLines() {
   const engine = await makeEngine();
   engine.answer(OPEN);
-  const lines = ["x".repeat(LINE_BYTES + 1), "€".repeat(LINE_BYTES / 2), "1\n2"];
+  const tooLong = ["x".repeat(LINE_BYTES + 1), "€".repeat(LINE_BYTES / 2), new Uint8Array(LINE_BYTES + 1)];
+  const lines = [...tooLong, "1\n2"];
   const refused = [...lines.map((line) => () => engine.answer(line)), () => engine.audit()].map(faultOf);
   const longest = `{"agent":"a","id":2,"op":"poll","x":"${"x".repeat(LINE_BYTES)}`.slice(0, LINE_BYTES - 2);
   return [...refused, engine.answer(`${longest}"}`)];
