@@ -22,8 +22,8 @@ export function moduleBytes() {
 }
 
 /**
- * The module, where this Node takes it: 64-bit memories and tables are behind a flag before version 24, and tables
- * aren't there before version 22.
+ * The module, where this Node takes it, else null: 64-bit memories are behind a flag before version 24, and version 20
+ * has no tables with 64-bit indices.
  */
 async function compile() {
   if (Number(process.versions.node.split(".")[0]) < 24) setFlagsFromString("--experimental-wasm-memory64");
