@@ -1,9 +1,10 @@
-# What the program is built from, and what is shipped of it. Sourced by weblocks, build, test and tools/ship, whose
-# current folder is the top of a checkout when they call these functions.
+# What the program is built from, and what is shipped of it. Sourced by weblocks, build, test, tools/ship and
+# clients/wasm/build, whose current folder is the top of a checkout when they call these functions.
 
 shipped=dist/weblocks-x86_64-linux-gnu
 
-# Sets crates to the program's crate and those below it, as crates.txt has them: a line is NAME OPTION ..: DEP ..
+# Sets crates to the program's crate, or the one that is named, and those below it, as crates.txt has them: a line is
+# NAME OPTION ..: DEP ..
 find_crates() {
     local line name at IFS=$' \t,'
     local -A below=() found=()
@@ -13,7 +14,7 @@ find_crates() {
             below[${line%%[$IFS:]*}]=${line#*:}
         fi
     done <crates.txt || return 1
-    crates=(weblocks)
+    crates=("${1:-weblocks}")
     for ((at = 0; at < ${#crates[@]}; at++)); do
         for name in ${below[${crates[at]}]-}; do
             # (the others are libraries of the kit)

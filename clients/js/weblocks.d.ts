@@ -1,9 +1,9 @@
 /** Locks with the behaviour of the Web Locks API, shared by all who connect to one weblocks server. */
 
-/** Connects to a server as an agent, and gives its LockManager. */
-export function connect(options: ConnectOptions): Promise<LockManager>;
+/** Connects as an agent to a server, or to a worker of the page's origin, and gives its LockManager. */
+export function connect(options: ConnectOptions | PortOptions): Promise<LockManager>;
 
-/** How to connect. */
+/** How to connect to a server. */
 export interface ConnectOptions {
   /** The server: `ws:` or `wss:`. */
   url: string | URL;
@@ -23,6 +23,12 @@ export interface ConnectOptions {
   reconnect?: boolean | undefined;
   /** The class of sockets, in place of `globalThis.WebSocket` or that of the package `ws`. */
   WebSocket?: WebSocketClass | undefined;
+}
+
+/** How to connect to a worker that serves the locks of its origin's pages, in the place of a server. */
+export interface PortOptions extends Omit<ConnectOptions, "url" | "token" | "poll" | "WebSocket"> {
+  /** A port of the worker, over which each connection is handed to it; or what gives one for each connection. */
+  port: MessagePort | (() => MessagePort);
 }
 
 /** A class of sockets such as the platform's or that of the package `ws`. */

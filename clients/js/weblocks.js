@@ -1,4 +1,4 @@
-/** Locks with the behaviour of the Web Locks API, shared by all who connect to one weblocks server. */
+/** Locks with the behaviour of the Web Locks API, shared by all who connect to one weblocks server or worker. */
 
 import { makeManager } from "./src/manager.js";
 import { readSettings } from "./src/settings.js";
@@ -7,9 +7,9 @@ export { Lock } from "./src/lock.js";
 export { LockManager, LostEvent } from "./src/manager.js";
 
 /**
- * Connects to a server as an agent, and gives its LockManager.
+ * Connects as an agent to a server, or to a worker of the page's origin, and gives its LockManager.
  *
- * @param {import("./weblocks.d.ts").ConnectOptions} options
+ * @param {import("./weblocks.d.ts").ConnectOptions | import("./weblocks.d.ts").PortOptions} options
  * @returns {Promise<LockManager>} rejected with a TypeError where an option is wrong, a NetworkError where no server
  *   answers, a QuotaExceededError where it has no room, or a SecurityError where it doesn't let this page in
  */

@@ -3,8 +3,9 @@
 import { faultOfClose, networkError } from "./faults.js";
 import { Queue } from "./queue.js";
 import { isPush, readReply } from "./replies.js";
+import { OPEN } from "./states.js";
 import { runAsTask } from "./tasks.js";
-import { OPEN, cutSocket } from "./transport.js";
+import { cutSocket } from "./transport.js";
 
 export class Connection {
   #socket;
@@ -23,7 +24,7 @@ export class Connection {
   #isWaiting = false;
 
   /**
-   * @param {{socket: WebSocket, pushes: boolean}} opened
+   * @param {{socket: WebSocket | PortSocket, pushes: boolean}} opened
    * @param {{heartbeat: number, poll: number}} settings in milliseconds
    * @param {{onNotice: (notice: object) => void, onLost: (fault: Error) => void}} listeners `onLost` is called once at
    *   most, and not for an end that was asked for

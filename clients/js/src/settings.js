@@ -15,8 +15,9 @@ const POLL = 50;
  * Reads the options.
  *
  * @param {object} options as `ConnectOptions` in weblocks.d.ts says
- * @returns {{url: string, origin: string, kind: string, bucket: string, token: string | undefined, heartbeat: number,
- *   poll: number, reconnect: boolean, WebSocket: Function | undefined}}
+ * @returns {{url: string | undefined, port: object | Function | undefined, origin: string, kind: string,
+ *   bucket: string, token: string | undefined, heartbeat: number, poll: number, reconnect: boolean,
+ *   WebSocket: Function | undefined}}
  * @throws {TypeError} where an option is missing or wrong
  */
 export function readSettings(options) {
@@ -25,7 +26,7 @@ export function readSettings(options) {
   if (typeof reconnect !== "boolean") throw new TypeError("reconnect is neither true nor false");
   if (WebSocket !== undefined && typeof WebSocket !== "function") throw new TypeError("WebSocket isn't a class");
   return {
-    url: readUrl(options.url),
+    ...readServer(options),
     origin: readOrigin(options.origin),
     kind: readKind(options.kind),
     bucket: readBucket(options.bucket),
@@ -49,6 +50,17 @@ export function isOpaque({ origin }) {
   } catch {
     return false;
   }
+}
+
+/** The server is named by its URL, or else it is a worker behind a port. */
+function readServer({ url, port, token }) {
+  if (port === undefined) return { url: readUrl(url), port };
+  if (url !== undefined) throw new TypeError("The options have both a url and a port");
+  if (token !== undefined) throw new TypeError("A token is for a server with a url, and not for a port");
+  if (typeof port !== "function" && typeof port?.postMessage !== "function") {
+    throw new TypeError("port is neither a MessagePort nor a function that gives one");
+  }
+  return { url, port };
 }
 
 function readUrl(given) {

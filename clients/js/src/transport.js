@@ -1,6 +1,7 @@
-/** A WebSocket to the server, of whichever class there is, and whether the server pushes over it. */
+/** A socket to the server, of whichever class there is or over a port, and whether the server pushes over it. */
 
 import { networkError } from "./faults.js";
+import { PortSocket } from "./port_socket.js";
 
 /** The subprotocol of servers that tell news without being asked. */
 const PUSH = "weblocks.push";
@@ -11,9 +12,6 @@ const BEARER = "weblocks.bearer.";
 /** How the package `ws` tells of a server that has no place for a further connection. */
 const FULL = /\b503$/;
 
-/** The state of a socket on which messages go both ways (HTML, `WebSocket.OPEN`). */
-export const OPEN = 1;
-
 /** A handshake that fails whatever it offers: nobody answers, or the server has no place. */
 class Unserved extends DOMException {
   constructor(message) {
@@ -22,14 +20,24 @@ class Unserved extends DOMException {
 }
 
 /**
- * Opens a socket. Pushes are asked for first; where that handshake is refused, a second one offers no subprotocol, and
- * a server that takes that one is polled.
+ * Opens a socket, over the port of a worker where there is one, which pushes.
  *
  * @param {object} settings as `readSettings` gives them
  * @param {AbortSignal} signal gives up
- * @returns {Promise<{socket: WebSocket, pushes: boolean}>}
+ * @returns {Promise<{socket: WebSocket | PortSocket, pushes: boolean}>}
  */
 export async function openSocket(settings, signal) {
+  const { port, heartbeat } = settings;
+  if (port === undefined) return openWebSocket(settings, signal);
+  const socket = await shakeHands(() => new PortSocket(port), heartbeat, signal);
+  return { socket, pushes: true };
+}
+
+/**
+ * Pushes are asked for first; where that handshake is refused, a second one offers no subprotocol, and a server that
+ * takes that one is polled.
+ */
+async function openWebSocket(settings, signal) {
   const Socket = await chooseSocket(settings.WebSocket);
   const { url, token, heartbeat } = settings;
   const offered = token === undefined ? [PUSH] : [PUSH, BEARER + token];

@@ -146,6 +146,19 @@ test("an option that is wrong is a TypeError", async () => {
   for (const options of [undefined, null, 5]) await assert.rejects(connect(options), TypeError);
 });
 
+test("a port stands in the place of a url, and takes no token", async () => {
+  const { port1: port } = new MessageChannel();
+  const good = { port, origin: "https://a.test" };
+  const wrong = [
+    { port: undefined }, { port: null }, { port: 8080 }, { port: {} }, { port: "/worker.js" },
+    { url: "ws://127.0.0.1:9" }, { token: "se.cr_et-1" }, { origin: undefined }, { heartbeat: 0 },
+  ];
+  for (const options of wrong) {
+    await assert.rejects(connect({ ...good, ...options }), TypeError, JSON.stringify(options));
+  }
+  port.close();
+});
+
 test("an origin that the service can't read is a TypeError", async (t) => {
   const server = await startPolled(t);
   await assert.rejects(connectTo(t, server, { origin: "a.test" }), TypeError);

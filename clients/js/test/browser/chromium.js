@@ -98,10 +98,12 @@ class DevTools {
 class Page {
   #devTools;
   #session;
+  #target;
 
-  constructor(devTools, session) {
+  constructor(devTools, session, target) {
     this.#devTools = devTools;
     this.#session = session;
+    this.#target = target;
     this.faults = [];
     devTools.listen(({ method, params, sessionId }) => {
       if (sessionId === session && method === "Runtime.exceptionThrown") {
@@ -120,6 +122,16 @@ class Page {
       throw new Error(exceptionDetails.exception?.description ?? exceptionDetails.text);
     }
     return result.value;
+  }
+
+  /** Calls a method of the DevTools protocol on it. */
+  call(method, params = {}) {
+    return this.#devTools.call(method, params, this.#session);
+  }
+
+  /** Closes it, as a user closes a tab. */
+  async close() {
+    await this.#devTools.call("Target.closeTarget", { targetId: this.#target });
   }
 
   /** Goes to this URL, and returns once the page has been loaded. */
@@ -146,16 +158,16 @@ export class Chromium {
   #devTools;
   #words = "";
 
-  /** Starts it, with a profile of its own. */
-  static async start(command = process.env.CHROMIUM ?? "chromium") {
+  /** Starts it, with a profile of its own, and with further flags. */
+  static async start({ command = process.env.CHROMIUM ?? "chromium", flags = [] } = {}) {
     const made = new Chromium();
-    await made.#begin(command);
+    await made.#begin(command, flags);
     return made;
   }
 
-  async #begin(command) {
+  async #begin(command, flags) {
     this.#folder = await mkdtemp(join(tmpdir(), "weblocks-chromium-"));
-    const words = [...FLAGS, "--remote-debugging-pipe", `--user-data-dir=${this.#folder}`, "about:blank"];
+    const words = [...FLAGS, ...flags, "--remote-debugging-pipe", `--user-data-dir=${this.#folder}`, "about:blank"];
     const env = { ...process.env, HOME: this.#folder, XDG_CONFIG_HOME: this.#folder, XDG_CACHE_HOME: this.#folder };
     // (the browser ends by itself when the pipes do, and so with this process)
     this.#child = spawn(command, words, { env, stdio: ["ignore", "ignore", "pipe", "pipe", "pipe"] });
@@ -185,9 +197,22 @@ export class Chromium {
     const { targetId } = await this.#devTools.call("Target.createTarget", { url: "about:blank", ...context });
     const { sessionId } = await this.#devTools.call("Target.attachToTarget", { targetId, flatten: true });
     await Promise.all(["Runtime.enable", "Page.enable"].map((it) => this.#devTools.call(it, {}, sessionId)));
-    const page = new Page(this.#devTools, sessionId);
+    const page = new Page(this.#devTools, sessionId, targetId);
     await page.go(url);
     return page;
+  }
+
+  /** Evaluates an expression in a target that is no page, as a worker. */
+  async evaluateIn(targetId, expression) {
+    const { sessionId } = await this.#devTools.call("Target.attachToTarget", { targetId, flatten: true });
+    await this.#devTools.call("Runtime.evaluate", { expression }, sessionId);
+    // (a worker that comes in the place of one with a session waits for a debugger)
+    await this.#devTools.call("Target.detachFromTarget", { sessionId });
+  }
+
+  /** Calls a method of the DevTools protocol on the browser. */
+  call(method, params = {}) {
+    return this.#devTools.call(method, params);
   }
 
   /** Ends it, and removes its profile. */

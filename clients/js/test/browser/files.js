@@ -14,7 +14,8 @@ export const PACKAGE = fileURLToPath(new URL("../../", import.meta.url));
 async function answer(top, pages, request, response) {
   const path = normalize(decodeURIComponent(new URL(request.url, "http://localhost").pathname));
   try {
-    const data = pages[path] ?? (await readFile(join(top, path)));
+    const page = pages[path] ?? (await readFile(join(top, path)));
+    const data = typeof page === "function" ? await page(request) : page;
     const type = TYPES[extname(path)] ?? "application/octet-stream";
     // (a module that a sandboxed page imports comes from another origin)
     const headers = { "Access-Control-Allow-Origin": "*", "Cache-Control": "max-age=600" };
@@ -26,7 +27,8 @@ async function answer(top, pages, request, response) {
 }
 
 /**
- * Serves the files below a folder as they stand, and further pages by their paths.
+ * Serves the files below a folder as they stand, and further pages by their paths: each as it is, or as a function
+ * of the request gives it.
  *
  * @returns {Promise<{url: string, end: () => Promise<void>}>} the URL has no slash at its end
  */

@@ -17,6 +17,10 @@ const locks: LockManager = await connect({
   WebSocket,
 });
 
+const worker = new SharedWorker("/wasm/worker.js", { type: "module" });
+const paged: LockManager = await connect({ port: worker.port, heartbeat: 5000 });
+const again: LockManager = await connect({ port: () => worker.port, origin: "https://a.test", bucket: "inbox" });
+
 const name: string = await locks.request("db", (lock) => lock.name);
 const mode: LockMode = await locks.request("db", { mode: "shared" }, async (lock: Lock) => lock.mode);
 const got: boolean = await locks.request("db", { ifAvailable: true }, (lock) => lock !== null);
@@ -37,6 +41,7 @@ await locks.setActive(false);
 await locks.close();
 
 const installed: LockManager = install({ url: "wss://locks.example/" });
+const installedByPort: LockManager = install({ port: worker.port });
 const platform: Pick<globalThis.LockManager, "query"> = installed;
 
 const server = useServer({ program: "./weblocks", words: ["--idle", "5"] });
@@ -46,10 +51,12 @@ const port: number = started.port;
 await started.kill();
 await started.stop();
 
-export { agent, got, infos, mode, name, nothing, platform, port, stolen, why };
+export { again, agent, got, infos, installedByPort, mode, name, nothing, paged, platform, port, stolen, why };
 
 // @ts-expect-error
 await connect({ origin: "https://a.test" });
+// @ts-expect-error
+await connect({ port: 8080 });
 // @ts-expect-error
 await connect({ url: "ws://127.0.0.1:8080", kind: "page" });
 // @ts-expect-error
