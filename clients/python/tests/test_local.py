@@ -42,6 +42,11 @@ class Worlds(unittest.TestCase):
             opened = world.answer(b'{"agent":"a","id":1,"op":"open","url":"https://a.test/"}')
             self.assertEqual(b'{"id":1,"notices":[],"ok":{"client":"client-1"}}', opened)
 
+    def test_a_line_is_bytes_and_nothing_else(self):
+        with weblocks.World() as world:
+            for line in ("{}", bytearray(b"{}"), 2, None):
+                self.assertRaises(TypeError, world.answer, line)
+
     def test_a_closed_world_answers_nothing(self):
         world = weblocks.World()
         world.close()

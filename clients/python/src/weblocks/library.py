@@ -4,7 +4,6 @@ from __future__ import annotations
 
 import ctypes
 import os
-import sys
 from pathlib import Path
 from types import TracebackType
 from typing import Any
@@ -18,9 +17,6 @@ NAME = "libweblocks.so"
 SONAME = "libweblocks.so.1"
 LONGEST_LINE = 65_536
 """The most bytes of a line."""
-
-# The memory of the process from its first byte on: a slice copies bytes out, in a third of the time of `string_at`.
-_process: Any = (ctypes.c_char * sys.maxsize).from_address(0)
 
 _MEMORY, _SPENT, _NO_BOOKS, _TOO_LONG, _LINE_FEED = 1, 2, 3, 5, 6
 
@@ -49,10 +45,8 @@ def load(path: str | os.PathLike[str] | None = None) -> ctypes.CDLL:
 
 def _typed(library: ctypes.CDLL) -> ctypes.CDLL:
     """The library with the types of its functions."""
-    pointer, size = ctypes.POINTER(ctypes.c_void_p), ctypes.POINTER(ctypes.c_size_t)
-    library.weblocks_new.argtypes = [ctypes.c_char_p, ctypes.c_int, pointer]
-    library.weblocks_answer.argtypes = [ctypes.c_void_p, ctypes.c_char_p, ctypes.c_size_t, pointer, size]
-    library.weblocks_audit.argtypes = [ctypes.c_void_p, pointer, size]
+    # Those of weblocks_answer are made in their types once for each world, which saves converting them at each call.
+    library.weblocks_new.argtypes = [ctypes.c_char_p, ctypes.c_int, ctypes.c_void_p]
     library.weblocks_free.argtypes = [ctypes.c_void_p]
     library.weblocks_free.restype = None
     return library
@@ -75,17 +69,16 @@ class World:
         if seed is not None and len(seed) != 16:
             raise ValueError(f"a seed has 16 bytes, not {len(seed)}")
         self._library = load(library)
-        self._reply, self._length = ctypes.c_void_p(), ctypes.c_size_t()
-        handle = ctypes.c_void_p()
-        if self._library.weblocks_new(seed or os.urandom(16), keep_books, ctypes.byref(handle)):
+        # Where the library says where a reply is, and how long: a slice of the pointer copies the bytes out.
+        self._reply: Any = ctypes.POINTER(ctypes.c_char)()
+        self._length = ctypes.c_size_t()
+        self._handle = ctypes.c_void_p()
+        if self._library.weblocks_new(seed or os.urandom(16), keep_books, ctypes.byref(self._handle)):
             raise MemoryError("there is no memory for a world")
-        self._set_handle(handle.value)
-
-    def _set_handle(self, handle: int | None) -> None:
-        self._handle = handle
         self._rooms = (ctypes.byref(self._reply), ctypes.byref(self._length))
-        # What a call with a line needs, to be had in one look-up.
-        self._parts = (self._library.weblocks_answer, handle, *self._rooms, self._reply, self._length, _process)
+        # What a call with a line needs, to be had in one look-up; the last is for the line's length.
+        call, size = self._library.weblocks_answer, ctypes.c_size_t()
+        self._parts = (call, self._handle, *self._rooms, self._reply, self._length, size)
 
     def answer(self, line: bytes) -> bytes:
         """The reply to a line, both without LF.
@@ -93,11 +86,13 @@ class World:
         Raises ValueError for a line with an LF or with more than 65,536 bytes, and MemoryError where memory is wanting,
         now or before. A ValueError leaves the world as it was.
         """
-        call, handle, to_reply, to_length, reply, length, process = self._parts
-        if code := call(handle, line, len(line), to_reply, to_length):
+        call, handle, to_reply, to_length, reply, length, size = self._parts
+        if not isinstance(line, bytes):
+            raise TypeError(f"a line is bytes, not {type(line).__name__}")
+        size.value = len(line)
+        if code := call(handle, line, size, to_reply, to_length):
             raise self._error(code)
-        start = reply.value or 0
-        said: bytes = process[start : start + length.value]
+        said: bytes = reply[: length.value]
         return said
 
     def audit(self) -> bytes:
@@ -105,15 +100,15 @@ class World:
 
         Raises ValueError where the world keeps no books, and MemoryError.
         """
-        code = self._library.weblocks_audit(self._handle, *self._rooms)
-        if code:
+        if code := self._library.weblocks_audit(self._handle, *self._rooms):
             raise self._error(code)
-        return ctypes.string_at(self._reply, self._length.value)
+        said: bytes = self._reply[: self._length.value]
+        return said
 
     def close(self) -> None:
         """Ends the world. May be called again."""
-        handle = self._handle
-        self._set_handle(None)
+        handle = ctypes.c_void_p(self._handle.value)
+        self._handle.value = None
         self._library.weblocks_free(handle)
 
     def __enter__(self) -> World:
@@ -125,7 +120,7 @@ class World:
         self.close()
 
     def __del__(self) -> None:
-        if getattr(self, "_handle", None):
+        if hasattr(self, "_handle"):
             self.close()
 
     def _error(self, code: int) -> Exception:

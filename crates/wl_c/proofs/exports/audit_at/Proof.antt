@@ -1,18 +1,17 @@
 -- `audit_at` meets its contract: a walk of its MIR, by hand.
-use Rattle.std.proofs.Common.{◌≡◌, ℕ, List, [], ◌∷◌, length, refl, sym, ap, ◌∙◌, subst, w32, w64}
+use Rattle.std.proofs.Common.{◌≡◌, ℕ, [], ◌∷◌, length, refl, sym, ap, ◌∙◌, subst, w32, w64}
 use Rattle.std.proofs.raw_atomic.Walks.{proved}
 use base.Fraction.{full_share}
-use base.Logic.{SProp, ent, id⊢}
-use base.Fml.{fat, Lft, Share, Fml, ftrue, fsep, flft, flent, fex}
-use mir.Syntax.{named, ty_ptr}
+use base.Logic.{SProp, id⊢}
+use base.Fml.{Lft, Fml, ftrue, fsep, flft, flent, fex}
+use lib.Ieee.Bits.{is_false}
+use mir.Syntax.{named}
 use mir.Raw.{raw as bare}
 use mir.Val.{Val, vint, vptr, of_z}
 use contract.Monad.{fact}
 use contract.Running.{tables}
 use prog.Wp.{WpFn}
-use types.Logic.{Logic, sem}
-use seplogic.Ra.Ura.{Ura}
-use types.Kit.{‵, raw, ◌⊛◌, some, later, prop, at_ret, Sq, ◌$◌, ◌∵◌, !, qed, done, move, drop, use1, use2, use3, split, join, fsplit, fjoin, fpack, feq_i, pick, await, rewrite, regoal, suffices, group}
+use types.Kit.{‵, raw, ◌⊛◌, some, later, prop, at_ret, Sq, ◌$◌, ◌∵◌, !, qed, done, move, drop, use1, use2, use3, split, join, fsplit, fjoin, fpack, pick, await, rewrite, regoal, suffices, group}
 use types.Tokens.{lft_new, lft_end}
 use types.Run.{enter, of_opd, addr, stop, fld, no_more, and_then, assigns, assigns_last, init, first, branches, skips, exec, returns}
 use types.ByLocal.{alloc_all, pass_all, free_all, look_at, get, get_in, through, sets, lands_as, env}
@@ -21,12 +20,10 @@ use denote.Builtin.{usize, i32}
 use denote.Exit.{yes}
 use denote.Laws.{shows, Is, Typed}
 use denote.Lend.{lends_ref, ref_back}
-use denote.Memory.{mem, part_at, lone, cell_at, part_of}
+use denote.Memory.{mem, lone}
 use denote.Signed.{sint_Makes, sint_Lawful}
 use denote.Floats.{is_true}
-use lib.Dec.{T as T'}
-use mathlib.Core.Bool.{not}
-use Rattle.std.specs.Prelude.{Bool, true, false}
+use Rattle.std.specs.Prelude.{Bool, true}
 use Rattle.std.specs.Vec.{vec_ptr}
 use denote.Plain.{uint_in}
 use denote.RawPtr.{Ptr, RawPtr, block_ptr, ptr_val, lies_at, room_at, in_a_block, rawptr_vals, rawptr_Tells, rawptr_Lawful}
@@ -52,22 +49,12 @@ use Rattle.wl_c.specs.contracts.reply.Reply.{the_row as T}
 use Rattle.wl_c.specs.contracts.reply.Reply as reply_type
 use denote.Struct.Laws.{lawful, owed}
 use Rattle.wl_c.proofs.reply.Reply.TheLaws as reply_laws
+use Rattle.wl_c.proofs.PointerSteps.{ptr_in}
 use Rattle.wl_c.specs.contracts.exports.audit_at as f
 use Rattle.wl_c.proofs.exports.audit_at.Statement.{statement}
 use Rattle.wl_c.proofs.exports.audit_at.Code as code
 use Rattle.wl_c.specs.contracts.reply.audit_lines as g
 use Rattle.wl_c.proofs.reply.audit_lines.Met.{met}
-
-is_false : (b : Bool) → T' (not b) → b ≡ false
-is_false true t = absurd t
-is_false false t = refl
-
-module _ {M : Type 1} {𝓤 : Ura M} (𝓛 : Logic 𝓤) where
-  ptr_in : (q : Share) (p : Ptr) (b o : ℕ) → ent 𝓤 (sem 𝓛 (fat q ty_ptr b o (ptr_val p))) (sem 𝓛 (part_at RawPtr q p b o))
-  unfolding part_of
-  ptr_in q p b o =
-      qed 𝓛 (‵ (fat q ty_ptr b o (ptr_val p)) ∷ []) ∵ feq_i ! (List Val) (ptr_val p ∷ []) (ptr_val p ∷ []) refl $ move ! (1 ∷ 0 ∷ []) $ fjoin ! $
-      fpack ! (List Val) (λ vs. fsep (cell_at q RawPtr.mir vs b o) (RawPtr.own_val p vs)) (ptr_val p ∷ []) $ done !
 
 abbrev stayed : Stays f.ended.signature.params f.ended.kept
 stayed = (stay_dropped _ yes, (stay_dropped _ yes, (stay_dropped _ yes, tt)))

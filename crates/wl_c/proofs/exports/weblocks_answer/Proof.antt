@@ -2,15 +2,12 @@
 use Rattle.std.proofs.Common.{◌≡◌, ◌≤◌, [], ◌∷◌, refl, ap, w32, w64}
 use Rattle.std.proofs.raw_atomic.Walks.{proved}
 use Rattle.std.specs.Prelude.{Bool, true, false, ℤ}
-use Rattle.std.specs.Ptr.{if_non_null}
-use seplogic.Ra.Ura.{Ura}
-use base.Logic.{ent, emp, id⊢}
-use base.Fml.{Fml, ftrue}
+use base.Logic.{emp, id⊢}
+use base.Fml.{ftrue}
 use lib.Ieee.Bits.{is_true}
 use mir.Val.{Val}
 use contract.Monad.{fact, fact_i}
 use contract.Running.{tables}
-use types.Logic.{Logic, sem}
 use types.Kit.{‵, raw, ◌⊛◌, some, later, prop, at_ret, Sq, ◌$◌, ◌∵◌, !, qed, done, move, drop, use0, use1, use2, split, join, fsplit, fjoin, fpack, feq_l, pick, await, suffices, group}
 use types.Run.{enter, of_opd, no_more, and_then, first, branches, skips, exec, returns, returns_within}
 use types.ByLocal.{alloc_all, pass_all, free_all, look_at, get, sets, lands_as, env}
@@ -20,7 +17,7 @@ use denote.Laws.{shows, Is}
 use denote.Plain.{uint_Makes, uint_vals, uint_Tells}
 use denote.Signed.{sint_Lawful}
 use denote.Array.{Array}
-use denote.RawPtr.{Ptr, RawPtr, block_ptr, null_ptr, InBlock, Testable, lies_at, room_at, rawptr_vals, rawptr_Tells, rawptr_Lawful, rawptr_Makes}
+use denote.RawPtr.{Ptr, RawPtr, InBlock, Testable, lies_at, room_at, rawptr_vals, rawptr_Tells, rawptr_Lawful, rawptr_Makes}
 use denote.Signature.{plain}
 use denote.Steps.{nothing, owned, peeks, heard, only}
 use denote.Triple.Call.{calls_at}
@@ -30,6 +27,7 @@ use denote.Triple.Spec.{triple_of}
 use denote.Triple.Table.{framed}
 use denote.Triple.Walked.{Stays, walk_of, stay_dropped, Goes-dropped, ends_at}
 use Rattle.wl_c.specs.Handles.{may_ask, was_answered, had_answer, after_answer, handle, IsBarred}
+use Rattle.wl_c.proofs.PointerSteps.{opens_non_null}
 use Rattle.wl_c.specs.contracts.exports.weblocks_answer as f
 use Rattle.wl_c.proofs.exports.weblocks_answer.Statement.{statement}
 use Rattle.wl_c.proofs.exports.weblocks_answer.Code as code
@@ -42,12 +40,6 @@ use Rattle.wl_c.proofs.pointers.code_of_line.Met.{met as why_met}
 
 abbrev stayed : Stays f.ended.signature.params f.ended.kept
 stayed = (stay_dropped _ yes, (stay_dropped _ yes, (stay_dropped _ yes, (stay_dropped _ yes, (stay_dropped _ yes, tt)))))
-
-module _ {M : Type 1} {𝓤 : Ura M} (𝓛 : Logic 𝓤) where
-  -- at a pointer that isn't null, what lies there
-  opened : (p : Ptr) (F : Fml) → InBlock p → ent 𝓤 (sem 𝓛 (if_non_null p F)) (sem 𝓛 F)
-  opened (block_ptr b o) F t = id⊢ 𝓤 _
-  opened null_ptr F t = absurd t
 
 pub weblocks_answer_spec : {M : Type 1} → statement M
 weblocks_answer_spec 𝓤 𝓛 𝓜 𝓡 wired =
@@ -82,10 +74,10 @@ weblocks_answer_spec 𝓤 𝓛 𝓜 𝓡 wired =
     nothing ! $ nothing ! $ join ! $ nothing ! $ join ! $ nothing ! $ join ! $ nothing ! $ join ! $ nothing ! $ join ! $ nothing ! $ group ! 3 $ done ! in
     first ! $ branches ! (get ! refl)
     (λ t. let inside = ok (is_true b t) in
-    fsplit ! $ use1 𝓛 (‵ (handle x.alloc w' x.world)) (opened 𝓛 w' _ inside.0) $
-    move ! (1 ∷ []) $ fsplit ! $ use1 𝓛 (‵ (lies_at (Array u8 n) x.share l' x.line)) (opened 𝓛 l' _ inside.1) $
-    move ! (1 ∷ []) $ fsplit ! $ use1 𝓛 (‵ (room_at RawPtr r')) (opened 𝓛 r' _ inside.2) $
-    move ! (1 ∷ []) $ use1 𝓛 (‵ (room_at usize m')) (opened 𝓛 m' _ inside.3) $
+    fsplit ! $ use1 𝓛 (‵ (handle x.alloc w' x.world)) (opens_non_null 𝓛 w' _ inside.0) $
+    move ! (1 ∷ []) $ fsplit ! $ use1 𝓛 (‵ (lies_at (Array u8 n) x.share l' x.line)) (opens_non_null 𝓛 l' _ inside.1) $
+    move ! (1 ∷ []) $ fsplit ! $ use1 𝓛 (‵ (room_at RawPtr r')) (opens_non_null 𝓛 r' _ inside.2) $
+    move ! (1 ∷ []) $ use1 𝓛 (‵ (room_at usize m')) (opens_non_null 𝓛 m' _ inside.3) $
     move ! (1 ∷ 0 ∷ []) $ fjoin ! $ move ! (1 ∷ 0 ∷ []) $ fjoin ! $ move ! (1 ∷ 0 ∷ []) $ fjoin ! $
     sets ! (of_opd ! (get ! refl)) refl (typed w') $
     let G2 = triple_of 𝓛 at.signature (at.spec 𝓛 𝓜.mem 𝓡.returns) in

@@ -3,20 +3,18 @@ use Rattle.std.proofs.Common.{◌≡◌, [], ◌∷◌, refl, ap}
 use Rattle.std.proofs.raw_atomic.Walks.{proved}
 use Rattle.std.specs.Prelude.{Bool, true}
 use Rattle.std.specs.Ptr.{if_non_null}
-use seplogic.Ra.Ura.{Ura}
-use base.Logic.{ent, emp, id⊢}
-use base.Fml.{Fml, ftrue}
+use base.Logic.{emp, id⊢}
+use base.Fml.{ftrue}
 use lib.Ieee.Bits.{is_true}
 use mir.Val.{vunit}
 use contract.Monad.{fact, fact_i}
 use contract.Running.{tables}
-use types.Logic.{Logic, sem}
 use types.Kit.{‵, raw, ◌⊛◌, some, later, prop, at_ret, Sq, ◌$◌, ◌∵◌, !, qed, done, drop, use0, use1, use2, split, join, feq_l, feq_i, pick, await, suffices, group}
 use types.Run.{enter, of_opd, unit_lit, no_more, and_then, first, branches, skips, exec, returns, returns_within}
 use types.ByLocal.{alloc_all, pass_all, free_all, look_at, get, sets, lands_as, env}
 use denote.Builtin.{bool, unit}
 use denote.Exit.{yes}
-use denote.RawPtr.{Ptr, RawPtr, block_ptr, null_ptr, InBlock, Testable, rawptr_vals, rawptr_Tells, rawptr_Lawful, rawptr_Makes}
+use denote.RawPtr.{RawPtr, InBlock, Testable, rawptr_vals, rawptr_Tells, rawptr_Lawful, rawptr_Makes}
 use denote.Signature.{plain}
 use denote.Struct.Laws.{vals, tells, lawful, makes}
 use denote.Steps.{nothing, owned, heard, only}
@@ -29,6 +27,7 @@ use denote.Triple.Walked.{Stays, walk_of, stay_dropped, Goes-dropped, ends_at}
 use Rattle.wl_c.specs.Handles.{handle}
 use Rattle.std.specs.contracts.alloc.Global as heap
 use Rattle.std.proofs.alloc.Global.TheLaws as heap_laws
+use Rattle.wl_c.proofs.PointerSteps.{opens_non_null}
 use Rattle.wl_c.specs.contracts.exports.weblocks_free as f
 use Rattle.wl_c.proofs.exports.weblocks_free.Statement.{statement}
 use Rattle.wl_c.proofs.exports.weblocks_free.Code as code
@@ -39,12 +38,6 @@ use Rattle.wl_c.proofs.exports.end.Met.{met as end_met}
 
 abbrev stayed : Stays f.ended.signature.params f.ended.kept
 stayed = (stay_dropped _ yes, (stay_dropped _ yes, tt))
-
-module _ {M : Type 1} {𝓤 : Ura M} (𝓛 : Logic 𝓤) where
-  -- at a pointer that isn't null, what lies there
-  opened : (p : Ptr) (F : Fml) → InBlock p → ent 𝓤 (sem 𝓛 (if_non_null p F)) (sem 𝓛 F)
-  opened (block_ptr b o) F t = id⊢ 𝓤 _
-  opened null_ptr F t = absurd t
 
 pub weblocks_free_spec : {M : Type 1} → statement M
 weblocks_free_spec 𝓤 𝓛 𝓜 𝓡 wired =
@@ -70,7 +63,7 @@ weblocks_free_spec 𝓤 𝓛 𝓜 𝓡 wired =
     await ! tt $ pick ! (λ b. split ! $ split ! $ drop ! $ feq_l ! (λ e. pick ! (λ ws. split ! $ drop ! $ heard ! _ (λ ok.
     lands_as ! (ap only e) refl (tt, tt) $
     first ! $ branches ! (get ! refl)
-    (λ t. use1 𝓛 (‵ (handle a.0 p x)) (opened 𝓛 p _ (ok (is_true b t))) $ sets ! (of_opd ! (get ! refl)) refl ((rawptr_Lawful 𝓛).typed p _ refl).0 $
+    (λ t. use1 𝓛 (‵ (handle a.0 p x)) (opens_non_null 𝓛 p _ (ok (is_true b t))) $ sets ! (of_opd ! (get ! refl)) refl ((rawptr_Lawful 𝓛).typed p _ refl).0 $
     let G2 = triple_of 𝓛 end.signature (end.spec 𝓛 𝓜.mem 𝓡.returns) in
     let z2 : G2.Ghost = ((κs, qs, bounds, a, Y.0.4), x) in
     nothing ! $ owned ! RawPtr _ (rawptr_Makes 𝓛) p _ refl $ join ! $ owned ! heap.the_row _ (makes heap.the_type heap_laws.the_plain 𝓛) a.0 _ are.0 $ join ! $ nothing ! $ join ! $
