@@ -101,21 +101,21 @@ class Running:
             file.close()
 
 
-def run_whole(words, script):
+def run_whole(words, script, seconds=SECONDS):
     """The script from a file."""
     with tempfile.TemporaryFile() as file:
         file.write(script)
         file.seek(0)
-        return run_on(words, file)
+        return run_on(words, file, seconds=seconds)
 
 
-def run_on(words, stdin=subprocess.DEVNULL, stdout=subprocess.PIPE):
+def run_on(words, stdin=subprocess.DEVNULL, stdout=subprocess.PIPE, seconds=SECONDS):
     try:
         ended = subprocess.run(
-            words, stdin=stdin, stdout=stdout, stderr=subprocess.PIPE, timeout=SECONDS
+            words, stdin=stdin, stdout=stdout, stderr=subprocess.PIPE, timeout=seconds
         )
     except subprocess.TimeoutExpired:
-        raise Wrong(f"it did not end in {SECONDS} seconds")
+        raise Wrong(f"it did not end in {seconds} seconds")
     return Ended(ended.returncode, ended.stdout or b"", ended.stderr)
 
 
