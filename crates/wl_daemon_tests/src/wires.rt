@@ -6,7 +6,6 @@
 //!   `bytes`, `unmasked`, frames that are so; `half` and `rest`, a text in two reads; `20`, so many texts; `wait`, nothing
 //!   yet; any other word, as a text. Behind them nothing comes.
 //! - What a write takes: a number of bytes, 0 where it would wait. Behind them all is taken.
-//! - `reported` before all of it: at each turn the stream is said to be ready, without its end.
 //!
 //! The speaker answers a text by itself, has `news` to push after `mark`, and ends the connection at `leave`.
 
@@ -56,10 +55,6 @@ impl Scene for Turns {
     }
 
     fn call<R: Wait>(&mut self, rt: &R, call: &str, came: &mut String) -> Result<(), Fail> {
-        let (is_reported, call) = match call.strip_prefix("reported ") {
-            Some(rest) => (true, rest),
-            None => (false, call),
-        };
         let (reads, writes) = call.split_once("; ").unwrap_or((call, ""));
         let told = greeted_text(self.alloc, script_of(self.alloc, reads, writes)?)?;
         if told != OPEN && told != PUSHED {
@@ -68,13 +63,7 @@ impl Scene for Turns {
         // The same handshake once more, whose wire takes turns.
         let script = script_of(self.alloc, reads, writes)?;
         match greeted(self.alloc, script) {
-            Ok(Greeted::Open(wire, _)) => {
-                let how = How {
-                    is_pushed: told == PUSHED,
-                    is_reported,
-                };
-                take_turns(rt, self.alloc, wire, how, came)
-            }
+            Ok(Greeted::Open(wire, _)) => take_turns(rt, self.alloc, wire, told == PUSHED, came),
             Ok(_) => Ok(came.push_str("not open")?),
             Err(error) => Err(Fail::from(error)),
         }
@@ -101,18 +90,11 @@ fn told_of(greeted: &Greeted<Script>) -> &'static str {
     }
 }
 
-/// How turns are taken.
-#[derive(Clone, Copy)]
-struct How {
-    is_pushed: bool,
-    is_reported: bool,
-}
-
 fn take_turns<R: Wait>(
     rt: &R,
     alloc: Global,
     wire: Wire<Script>,
-    how: How,
+    is_pushed: bool,
     came: &mut String,
 ) -> Result<(), Fail> {
     let ended = Arc::new(alloc, AtomicU64::new(0))?;
@@ -123,12 +105,8 @@ fn take_turns<R: Wait>(
             break;
         };
         // Each turn looks for changes once.
-        let mut may_push = how.is_pushed;
-        if how.is_reported {
-            wire.wake_for(false);
-        } else {
-            wire.wake();
-        }
+        let mut may_push = is_pushed;
+        wire.wake();
         match take_turn(rt, &mut wire, echo, &mut may_push) {
             Turn::Went(next, pace) => {
                 came.push_str(if pace == Pace::Again {
@@ -153,7 +131,7 @@ fn take_turns<R: Wait>(
     Ok(())
 }
 
-const LISTS: [&str; 5] = [
+const LISTS: [&str; 4] = [
     // Handshakes.
     "wait -> waits
 hello wait -> waits waits waits waits 1:
@@ -179,12 +157,6 @@ pushed mark a -> waits waits waits waits 1: mark a news
 pushed mark wait a -> waits waits waits waits 1: mark news a
 pushed mark wait a; 4 0 0 -> waits waits waits waits 1: mark news a
 hello mark wait a -> waits waits waits waits 1: mark a
-",
-    // A read that is short is the last one of its turn, and two messages of one read are answered in it.
-    "hello a b c d e f -> waits waits waits waits 1: a b c d e f
-reported hello a b c d e f -> waits waits waits waits 1: a b c d
-reported hello half rest a -> waits waits waits waits 1: half a
-reported hello 20 a b c d e -> again waits waits waits 1: x x x x x x x x x x x x x x x x x x x x a b c
 ",
     // Ends.
     "hello a leave b -> Forbidden(\"left\") 1: a closed 1008

@@ -16,9 +16,10 @@ fn open_heard<R: Wait>(
     rt: &R,
     alloc: Global,
     service: &Service,
-    bell: Bell,
+    ring: &Arc<Ring>,
 ) -> Result<Client, Fail> {
     let bucket = Text::of(alloc, "default")?;
+    let bell = Bell::new(alloc, ring, PLACE)?;
     Ok(service.open_heard(rt, HERE, bucket, Kind::Window, Some(bell))?)
 }
 
@@ -35,8 +36,7 @@ fn heard(alloc: Global, client: &Client, ring: &Arc<Ring>) -> (bool, Option<Vec<
 fn a_bell_rings_when_a_request_changes(rt: HostRuntime) -> Result<(), Fail> {
     let service = Service::new(&rt, rt.alloc())?;
     let ring = Arc::new(rt.alloc(), Ring::new(rt.alloc()))?;
-    let bell = Bell::new(rt.alloc(), &ring, PLACE)?;
-    let mut client = open_heard(&rt, rt.alloc(), &service, bell)?;
+    let mut client = open_heard(&rt, rt.alloc(), &service, &ring)?;
     let mut other = service.open(&rt, HERE, Kind::Window)?;
     let asked = ask(rt.alloc(), "db", Mode::Exclusive)?;
     let mut held = other.request(&rt, &asked)?;
@@ -54,27 +54,5 @@ fn a_bell_rings_when_a_request_changes(rt: HostRuntime) -> Result<(), Fail> {
     assert!(rt; client.changed(&mut changed));
     assert_eq!(rt; changed.as_slice(), [waiting.number()].as_slice());
     assert!(rt; !client.is_rung());
-    Ok(())
-}
-
-/// Its own lock is granted to the client.
-#[test]
-fn a_bell_that_was_moved_rings_elsewhere(rt: HostRuntime) -> Result<(), Fail> {
-    let service = Service::new(&rt, rt.alloc())?;
-    let left = Arc::new(rt.alloc(), Ring::new(rt.alloc()))?;
-    let ring = Arc::new(rt.alloc(), Ring::new(rt.alloc()))?;
-    let bell = Bell::new(rt.alloc(), &left, PLACE)?;
-    let mover = bell.share()?;
-    let mut client = open_heard(&rt, rt.alloc(), &service, bell)?;
-    mover.move_to(&rt, &ring, PLACE + 1)?;
-    client.request(&rt, &ask(rt.alloc(), "db", Mode::Exclusive)?)?;
-    assert_eq!(rt;
-        heard(rt.alloc(), &client, &left),
-        (true, Some(Vec::new(rt.alloc())))
-    );
-    assert_eq!(rt;
-        heard(rt.alloc(), &client, &ring),
-        (true, Some(vec![in rt.alloc(); PLACE + 1]?))
-    );
     Ok(())
 }
