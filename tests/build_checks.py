@@ -9,7 +9,7 @@ import time
 from collections.abc import Callable, Iterator
 from pathlib import Path
 
-from checkouts import TOP, Checkouts, digest_of_sources, path_is, program_crates, run_in
+from checkouts import TOP, Checkouts, crates_of, digest_of_sources, path_is, run_in
 from running import SECONDS, Ended, Wrong, expect, expect_end
 from standins import RT, program_that_says, put
 
@@ -80,7 +80,7 @@ def result_checks(made: Checkouts, kit: Kit) -> Checks:
     def gives_what_the_program_needs() -> None:
         top = made.fresh()
         kit.run(top, "./build")
-        crates = program_crates(top)
+        crates = crates_of(top)
         given = (kit.notes / "files").read_text().split()
         wanted = {"./HANDLES", "./crates.txt"}
         for crate in crates:

@@ -1,4 +1,4 @@
-"""Fresh copies of the checkout, with a program shipped in them, and a PATH without the kit."""
+"""Fresh copies of the checkout, with a program and a library shipped in them, and a PATH without the kit."""
 
 import hashlib
 import os
@@ -6,7 +6,7 @@ import re
 import shutil
 import subprocess
 import tempfile
-from collections.abc import Iterator
+from collections.abc import Callable, Iterator
 from contextlib import contextmanager
 from pathlib import Path
 
@@ -14,6 +14,10 @@ from running import SECONDS, Ended, Wrong
 
 TOP = Path(__file__).resolve().parent.parent
 SHIPPED = "dist/weblocks-x86_64-linux-gnu"
+LIBRARY = "dist/libweblocks-x86_64-linux-gnu.so"
+MODULE = "dist/weblocks.wasm"
+# What else than crates the library and the module are built from.
+LIBRARY_PARTS = ("clients/c/build", "clients/wasm/build", "clients/wasm/heap.c")
 NEEDS_THE_KIT = re.compile(r"rt|python.*|pypy.*")
 # No kit has this name.
 KIT = "rattle-kit-0 logic 0123456789abcdef"
@@ -39,51 +43,79 @@ def digest(data: bytes) -> str:
     return hashlib.sha256(data).hexdigest()
 
 
-def program_crates(top: Path) -> list[str]:
-    """The program's crate and those below it, by crates.txt."""
+def crates_of(top: Path, first: str = "weblocks") -> list[str]:
+    """This crate and those below it, by crates.txt."""
     below: dict[str, list[str]] = {}
     for line in (top / "crates.txt").read_text().splitlines():
         before, colon, after = line.partition("#")[0].partition(":")
         if colon:
             below[before.split()[0]] = after.split()
-    found = ["weblocks"]
+    found = [first]
     for crate in found:
         found += [it for it in below[crate] if it in below and it not in found]
     return found
 
 
-def sources(top: Path) -> list[str]:
-    """The files that the program is built from, in the order of their names' bytes."""
-    folders = [top / "crates" / crate for crate in program_crates(top)]
+def sources(top: Path, crate: str, *others: str) -> list[str]:
+    """The files that the crate is built from, and these others, in the order of their names' bytes."""
+    folders = [top / "crates" / it for it in crates_of(top, crate)]
     places = [folder / part for folder in folders for part in ("src", "specs", "proofs")]
     found = [str(file.relative_to(top)) for place in places for file in place.rglob("*") if file.is_file()]
-    return sorted([*found, "HANDLES", "crates.txt"], key=os.fsencode)
+    return sorted([*found, "HANDLES", "crates.txt", *others], key=os.fsencode)
 
 
-def digest_of_sources(top: Path) -> str:
-    """The digest of the names and contents of what the program is built from: said here a second time."""
-    lines = (f"{digest((top / name).read_bytes())}  {name}\0" for name in sources(top))
+def digest_of_files(top: Path, names: list[str]) -> str:
+    """The digest of the names and contents of what something is built from: said here a second time."""
+    lines = (f"{digest((top / name).read_bytes())}  {name}\0" for name in names)
     return digest("".join(lines).encode())
 
 
-def write_built(top: Path, program: str, of_sources: str, kit: str = KIT) -> None:
-    (top / "dist/BUILT").write_text(f"program SHA256 {program}\nsources SHA256 {of_sources}\nkit {kit}\n")
+def digest_of_sources(top: Path) -> str:
+    """The digest of what the program is built from."""
+    return digest_of_files(top, sources(top, "weblocks"))
+
+
+def digest_of_library_sources(top: Path) -> str:
+    """The digest of what the library and the module are built from."""
+    return digest_of_files(top, sources(top, "wl_c", *LIBRARY_PARTS))
+
+
+# The lines of dist/BUILT before that of the kit, each with what it says of a copy where all is as it should be.
+LINES: dict[str, Callable[[Path], str]] = {
+    "program": lambda top: digest((top / SHIPPED).read_bytes()),
+    "sources": digest_of_sources,
+    "library": lambda top: digest((top / LIBRARY).read_bytes()),
+    "module": lambda top: digest((top / MODULE).read_bytes()),
+    "library-sources": digest_of_library_sources,
+}
+
+
+def write_built(top: Path, kit: str = KIT, **others: str) -> None:
+    """Writes dist/BUILT as it should be, but for the digests that are named."""
+    said = {line: others.get(line.replace("-", "_")) or find(top) for line, find in LINES.items()}
+    lines = [f"{line} SHA256 {it}\n" for line, it in said.items()]
+    (top / "dist/BUILT").write_text("".join([*lines, f"kit {kit}\n"]))
 
 
 def ship(top: Path, program: Path, kit: str = KIT) -> None:
-    """Ships this program in the copy, as built from the copy's own sources."""
+    """Ships this program in the copy, and a library and a module, as built from the copy's own sources."""
     shutil.rmtree(top / "dist", ignore_errors=True)
     (top / "dist").mkdir()
     shutil.copy(program, top / SHIPPED)
     (top / SHIPPED).chmod(0o755)
-    write_built(top, digest(program.read_bytes()), digest_of_sources(top), kit)
+    (top / LIBRARY).write_text("a library\n")
+    (top / MODULE).write_text("a module\n")
+    write_built(top, kit)
 
 
 def keep_few(top: Path) -> None:
-    """Leaves two crates of the program and one of the tests, without their edits."""
-    (top / "crates.txt").write_text("wl_types:\nwl_samples: wl_types\nweblocks: wl_types clap\n")
-    gone = [it for it in (top / "crates").iterdir() if it.name not in ("wl_types", "wl_samples", "weblocks")]
-    gone += [top / it for it in ("crates/wl_types/must-fail", "tests/edits", "tests/scripts", "bench")]
+    """Leaves two crates of the program, the library's and one of the tests, without their edits."""
+    lines = ["wl_types:", "wl_samples: wl_types", "wl_c staticlib: wl_types memchr", "weblocks: wl_types clap"]
+    (top / "crates.txt").write_text("".join(f"{it}\n" for it in lines))
+    kept = ("wl_types", "wl_samples", "wl_c", "weblocks")
+    gone = [it for it in (top / "crates").iterdir() if it.name not in kept]
+    gone += [top / f"crates/{it}/must-fail" for it in ("wl_types", "wl_c")]
+    gone += [top / it for it in ("tests/edits", "tests/scripts", "bench")]
     for it in gone:
         shutil.rmtree(it)
 

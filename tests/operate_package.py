@@ -53,7 +53,8 @@ def copy_parts(top: Path, program: Path) -> Path:
             shutil.copy(TOP / name, top / name)
     (top / "dist").mkdir()
     shutil.copy(program, top / SHIPPED)
-    write_built(top, digest(program.read_bytes()), digest(b"the sources"))
+    others = {it: digest(it.encode()) for it in ("sources", "library", "module", "library_sources")}
+    write_built(top, program=digest(program.read_bytes()), **others)
     return top
 
 

@@ -1,4 +1,4 @@
-"""tools/ship, the last step of ./test, and ./test itself, by commands that stand for rt and for tests."""
+"""tools/ship and the last step of ./test, by a command that stands for rt."""
 
 import os
 import shutil
@@ -8,23 +8,46 @@ from collections.abc import Callable, Iterator
 from pathlib import Path
 
 from build_checks import Kit
-from checkouts import KIT, SHIPPED, Checkouts, digest, digest_of_sources, run_in, ship, write_built
+from checkouts import (
+    KIT,
+    LIBRARY,
+    LIBRARY_PARTS,
+    LINES,
+    MODULE,
+    SHIPPED,
+    Checkouts,
+    digest,
+    run_in,
+    ship,
+    write_built,
+)
 from running import Ended, Wrong, expect, expect_end
 from standins import put, stand_in
 
 Checks = Iterator[tuple[str, Callable[[], None]]]
 
 BUILT = "crates/weblocks/out/weblocks"
-SHIPS = f"tools/ship: {SHIPPED} and dist/BUILT are those that ./test built\n"
+# Where ./test builds the library and the module, and their names there with those that they are shipped by.
+OUT = ".build/library"
+BESIDE = {"libweblocks.so": LIBRARY, "weblocks.wasm": MODULE}
+SHIPS = "tools/ship: what is in dist/ is what ./test built\n"
 NO_RECORD = "tools/ship: ./test has left no record that its steps passed: run ./test, and then this again\n"
 CHANGED = "tools/ship: these files have changed since ./test passed on them: {}\n"
 
 
+def build_beside(top: Path) -> Path:
+    """Leaves a library and a module there, as ./test does."""
+    for name in BESIDE:
+        put(top / OUT / name, f"what is built as {name}\n")
+    return top / OUT
+
+
 def record(top: Path) -> None:
-    """Leaves a program there, and what ./test records of it."""
+    """Leaves a program there, with the library and the module, and what ./test records of them."""
     stand_in(top / BUILT)
+    build_beside(top)
     sourced = "source tools/sources.bash; source tools/passed.bash"
-    words = f'{sourced}; record_passed {BUILT} "$(sum_checkout)" "{KIT}"'
+    words = f'{sourced}; record_passed {BUILT} {OUT} "$(sum_checkout)" "{KIT}"'
     subprocess.run(["bash", "-c", words], cwd=top, check=True)
 
 
@@ -43,21 +66,27 @@ def shipping_checks(made: Checkouts, kit: Kit) -> Checks:
         program = (top / BUILT).read_bytes()
         expect("the shipped program", (top / SHIPPED).read_bytes(), program)
         expect("its mode", stat.S_IMODE((top / SHIPPED).stat().st_mode), 0o755)
-        digests = f"program SHA256 {digest(program)}\nsources SHA256 {digest_of_sources(top)}\n"
+        for name, shipped in BESIDE.items():
+            expect(f"the shipped {name}", (top / shipped).read_bytes(), (top / OUT / name).read_bytes())
+            expect(f"the mode of {name}", stat.S_IMODE((top / shipped).stat().st_mode), 0o644)
+        digests = "".join(f"{line} SHA256 {find(top)}\n" for line, find in LINES.items())
         expect("dist/BUILT", (top / "dist/BUILT").read_text(), f"{digests}kit {KIT}\n")
         names = sorted(it.name for it in (top / "dist").iterdir())
-        expect("what is in dist/", names, ["BUILT", Path(SHIPPED).name])
+        expect("what is in dist/", names, sorted(Path(it).name for it in ("BUILT", SHIPPED, LIBRARY, MODULE)))
 
     def replaces() -> None:
         top = recorded(made)
         ship(top, put(top / ".build/other", "#!/bin/sh\n"), "another kit")
         expect_end(kit.run(top, "tools/ship"), SHIPS.encode())
         expect("the shipped program", (top / SHIPPED).read_bytes(), (top / BUILT).read_bytes())
+        for name, shipped in BESIDE.items():
+            expect(f"the shipped {name}", (top / shipped).read_bytes(), (top / OUT / name).read_bytes())
 
     def without_out() -> None:
-        """What rt makes may be gone."""
+        """What rt and the two builds make may be gone."""
         top = recorded(made)
         shutil.rmtree(top / "crates/weblocks/out")
+        shutil.rmtree(top / OUT)
         expect_end(kit.run(top, "tools/ship"), SHIPS.encode())
 
     def by_git() -> None:
@@ -99,31 +128,48 @@ def refusal_checks(made: Checkouts, kit: Kit) -> Checks:
         (top / "docs/MORE.md").touch()
         refuses(top, CHANGED.format("crates/wl_types/src/lib.rt, docs/MORE.md"))
 
-    def other_program(name: str) -> None:
+    def other_file(name: str, what: str) -> None:
         top = recorded(made)
         (top / name).write_text("#!/bin/sh\n")
-        refuses(top, f"tools/ship: {name} isn't the program that ./test built\n")
+        refuses(top, f"tools/ship: {name} isn't the {what} that ./test built\n")
+
+    def broken_record(first: int, behind: int) -> None:
+        """Without these lines."""
+        top = recorded(made)
+        file = top / ".build/passed/BUILT"
+        lines = file.read_text().splitlines(keepends=True)
+        file.write_text("".join(lines[:first] + lines[behind:]))
+        refuses(top, "tools/ship: .build/passed/BUILT can't be read, which says what ./test built\n")
 
     yield "no record", no_record
-    sources = ("crates/wl_types/src/lib.rt", "crates/wl_samples/src/lib.rt")
+    sources = ("crates/wl_types/src/lib.rt", "crates/wl_samples/src/lib.rt", "crates/wl_c/src/lib.rt", *LIBRARY_PARTS)
     for name in (*sources, "README.md", "tests/running.py"):
         yield f"{name} has changed since", lambda it=name: changed(it)
     yield "files were removed and added since", several
     for name in (BUILT, ".build/passed/weblocks"):
-        yield f"{name} is another program", lambda it=name: other_program(it)
+        yield f"{name} is another program", lambda it=name: other_file(it, "program")
+    for name, what in (("libweblocks.so", "library"), ("weblocks.wasm", "module")):
+        yield f"{name} is another {what}", lambda n=name, w=what: other_file(f".build/passed/{n}", w)
+    for number, line in enumerate((*LINES, "kit")):
+        yield f"a record without its line {line}", lambda it=number: broken_record(it, it + 1)
+    yield "a record of a program alone", lambda: broken_record(2, 5)
 
 
 def comparison_checks(made: Checkouts, kit: Kit) -> Checks:
     """The last step of ./test. It is given Python, which it is written in."""
 
     def compare(top: Path, program: Path) -> Ended:
+        """With a library and a module built that are those that are shipped, unless they are built already."""
+        for name, shipped in BESIDE.items():
+            if not (top / OUT / name).exists() and (top / shipped).exists():
+                put(top / OUT / name, (top / shipped).read_text())
         path = f"{kit.path[0]}:{os.environ['PATH']}"
-        return run_in(top, ["tests/shipped", program], env=kit.around(PATH=path))
+        return run_in(top, ["tests/shipped", program, OUT], env=kit.around(PATH=path))
 
     def passes(top: Path, program: Path) -> str:
         ended = compare(top, program)
         expect("the status", ended.status, 0)
-        expect("its last line", ended.out.splitlines()[-1], b"3 passed, 0 failed")
+        expect("its last line", ended.out.splitlines()[-1], b"6 passed, 0 failed")
         return ended.out.decode()
 
     def fails(top: Path, program: Path, why: str) -> None:
@@ -143,22 +189,51 @@ def comparison_checks(made: Checkouts, kit: Kit) -> Checks:
         why = f"{SHIPPED} isn't the program that was built"
         fails(top, other, f"FAILED the shipped program is the one that was built: {why}")
 
-    def other_sources() -> None:
+    def other_bytes_beside(name: str, what: str) -> None:
         top = made.fresh()
-        (top / "crates/wl_types/src/added.rt").touch()
-        fails(top, top / SHIPPED, "FAILED the sources are those that the shipped program was built from")
+        put(top / OUT / name, "another\n")
+        why = f"{BESIDE[name]} isn't the {what} that was built: their bytes differ"
+        fails(top, top / SHIPPED, f"FAILED the shipped {what} is the one that was built: {why}")
+
+    def changed(name: str, what: str) -> None:
+        """A byte of what is shipped, which is then what was built, and still not what BUILT names."""
+        top = made.fresh()
+        data = bytearray((top / name).read_bytes())
+        data[len(data) // 2] ^= 1
+        (top / name).write_bytes(data)
+        why = f"the digest of the shipped {what} is"
+        fails(top, top / SHIPPED, f"FAILED the shipped {what} is the one that was built: {why}")
+
+    def missing(name: str, what: str) -> None:
+        top = made.fresh()
+        build_beside(top)
+        (top / name).unlink()
+        fails(top, top / SHIPPED, f"FAILED the shipped {what} is the one that was built: there is no {name}")
+
+    def stale(line: str, what: str) -> None:
+        top = made.fresh()
+        write_built(top, **{line: digest(b"other sources")})
+        fails(top, top / SHIPPED, f"FAILED the sources are those that the shipped {what} was built from: the digest of")
+
+    def other_sources(name: str, whats: tuple[str, ...]) -> None:
+        top = made.fresh()
+        (top / name).write_text((top / name).read_text() + "\n")
+        for what in whats:
+            fails(top, top / SHIPPED, f"FAILED the sources are those that the shipped {what} was built from")
 
     def other_kit() -> None:
         top = made.fresh()
         other = put(top / ".build/other", (top / SHIPPED).read_text() + "\n")
-        write_built(top, digest((top / SHIPPED).read_bytes()), digest_of_sources(top), "another kit")
+        write_built(top, "another kit")
+        build_beside(top)
         said = f"the kit is '{KIT}', and dist/BUILT names 'another kit': no bytes are compared\n"
-        if said not in passes(top, other):
-            raise Wrong("it doesn't say that the kit is another")
+        if passes(top, other).count(said) != 3:
+            raise Wrong("it doesn't say of each file that the kit is another")
 
     def nothing_shipped() -> None:
         top = made.fresh()
         program = stand_in(top / ".build/program")
+        build_beside(top)
         shutil.rmtree(top / "dist")
         fails(top, program, "dist/BUILT can't be read: No such file or directory")
 
@@ -169,71 +244,17 @@ def comparison_checks(made: Checkouts, kit: Kit) -> Checks:
 
     yield "the last step passes where all is equal", equal
     yield "it fails where the bytes differ", other_bytes
-    yield "it fails where the sources differ", other_sources
+    of_library = [(it, ("library",)) for it in ("crates/wl_c/src/lib.rt", *LIBRARY_PARTS)]
+    for name, whats in [("crates/wl_types/src/lib.rt", ("program", "library")), *of_library]:
+        yield f"it fails where {name} differs", lambda n=name, w=whats: other_sources(n, w)
+    for line, what in (("sources", "program"), ("library_sources", "library")):
+        yield f"it fails where BUILT is stale of the {what}", lambda n=line, w=what: stale(n, w)
+    for name, what in (("libweblocks.so", "library"), ("weblocks.wasm", "module")):
+        yield f"it fails where the bytes of the {what} differ", lambda n=name, w=what: other_bytes_beside(n, w)
+    for name, what in ((SHIPPED, "program"), (LIBRARY, "library"), (MODULE, "module")):
+        yield f"it fails where a byte of the shipped {what} is changed", lambda n=name, w=what: changed(n, w)
+    for name, what in ((LIBRARY, "library"), (MODULE, "module")):
+        yield f"it fails where no {what} is shipped", lambda n=name, w=what: missing(n, w)
     yield "it goes by the sources under another kit", other_kit
     yield "it fails where nothing is shipped", nothing_shipped
     yield "it fails where a clean clone doesn't answer", wrong_replies
-
-
-# The steps of ./test that have a stand-in here, beside rt.
-STEPS = (
-    *("try_edits", "read_proofs", "read_me", "building"),
-    *("refuse_growths", "run_scripts", "run_daemon", "embedding", "launching", "clients"),
-)
-
-
-def gate_checks(made: Checkouts, kit: Kit) -> Checks:
-    """./test itself, over tests that pass."""
-
-    def stubbed() -> Path:
-        top = made.fresh()
-        shutil.rmtree(top / "dist")
-        for step in STEPS:
-            put(top / "tests" / step, "#!/bin/sh\n")
-        return top
-
-    def test(top: Path, **more: str) -> Ended:
-        """./test, where what rt builds answers as it must, and nothing but rt stands before the PATH."""
-        program = stand_in(kit.notes / "program")
-        path = f"{kit.path[0]}:{os.environ['PATH']}"
-        return run_in(top, ["./test"], env=kit.around(RT_PROGRAM=str(program), PATH=path, **more))
-
-    def passes_once_shipped() -> None:
-        top = stubbed()
-        expect("the status", test(top).status, 1)
-        expect_end(kit.run(top, "tools/ship"), SHIPS.encode())
-        ended = test(top)
-        expect("standard error", ended.err, b"")
-        expect("the status", ended.status, 0)
-
-    def stops(step: str, status: int) -> None:
-        """Nothing can be shipped then, though an earlier run had passed."""
-        top = stubbed()
-        test(top)
-        put(top / "tests" / step.partition(" ")[0], f"#!/bin/sh\nexit {status}\n")
-        ended = test(top)
-        told = f"test: stopped at 'tests/{step}', which ended with status {status}\n"
-        expect("standard error", ended.err, told.encode())
-        expect("the status", ended.status, status)
-        expect_end(kit.run(top, "tools/ship"), b"", 1, NO_RECORD.encode())
-
-    def stops_at_proofs() -> None:
-        ended = test(stubbed(), RT_DOES="fail")
-        expect("standard error", ended.err, b"test: stopped at 'rt ci', which ended with status 1\n")
-        expect("the status", ended.status, 1)
-
-    def edited_meanwhile() -> None:
-        top = stubbed()
-        ended = test(top, RT_DOES="edit", RT_EDITS=str(top / "README.md"))
-        said = "test: tools/ship will refuse this run, as these files changed meanwhile: README.md\n"
-        if said not in ended.out.decode():
-            raise Wrong(f"it doesn't say '{said}' but\n{ended.out.decode()}")
-        expect_end(kit.run(top, "tools/ship"), b"", 1, NO_RECORD.encode())
-
-    yield "./test passes once its program is shipped", passes_once_shipped
-    of_built = (("launching", 4), ("run_scripts", 1), ("run_daemon", 5), ("clients --allow-missing", 1))
-    stopped = [("building", 3), ("embedding", 6), *((f"{step} {BUILT}", status) for step, status in of_built)]
-    for step, status in stopped:
-        yield f"./test stops at {step}", lambda it=step, number=status: stops(it, number)
-    yield "./test stops at rt ci", stops_at_proofs
-    yield "a file is edited while ./test runs", edited_meanwhile

@@ -46,12 +46,13 @@ have_needs() {
 report() {
     local file=$1 said=$2 number skipped
     grep -E '^ *# deviates' "$said" | sed -E 's/^ *# /    /'
-    for number in tests pass fail; do
-        printf '%s %s, ' "$(sed -n "s/^# $number //p" "$said")" "$number"
-    done
+    # (each on a line of its own, where tests/clients looks for them)
     while IFS= read -r skipped; do
         not_run "$file: ${skipped# }"
     done < <(sed -nE 's/^ *ok [0-9]+ - (.*) # SKIP/\1:/p' "$said")
+    for number in tests pass fail; do
+        printf '%s %s, ' "$(sed -n "s/^# $number //p" "$said")" "$number"
+    done
 }
 
 run_file() {

@@ -1,9 +1,10 @@
 /**
- * The server of the two example pages: their files, the package, and a database that knows nothing of locks.
+ * The server of the example pages: their files, the packages, and a database that knows nothing of locks.
  *
  * usage: node examples/pages/server.mjs [PORT]
  *
- * It listens on 127.0.0.1, on port 8000 unless another is given (0 is a free one), and prints the pages' URLs.
+ * It listens on 127.0.0.1, on port 8000 unless another is given (0 is a free one), and prints the URLs of the two pages
+ * that want a lock service. The third, tabs.html, wants the module of clients/wasm.
  */
 
 import { readFile } from "node:fs/promises";
@@ -12,8 +13,8 @@ import { extname } from "node:path";
 import { text } from "node:stream/consumers";
 
 const TOP = new URL("../../", import.meta.url);
-const SERVED = /^\/(examples\/pages|clients\/js)\/[\w/.-]+\.(html|js)$/;
-const TYPES = { ".html": "text/html; charset=utf-8", ".js": "text/javascript" };
+const SERVED = /^\/(examples\/pages|clients\/js|clients\/wasm)\/[\w/.-]+\.(html|js|wasm)$/;
+const TYPES = { ".html": "text/html; charset=utf-8", ".js": "text/javascript", ".wasm": "application/wasm" };
 
 /** All that the database has: how many tickets are left. */
 let tickets = 100;
@@ -41,7 +42,7 @@ async function answer(request, response) {
   try {
     await (pathname === "/database" ? answerDatabase(request, response) : answerFile(pathname, response));
   } catch (why) {
-    response.writeHead(500).end(why.message);
+    response.writeHead(why.code === "ENOENT" ? 404 : 500).end(why.message);
   }
 }
 

@@ -5,11 +5,14 @@ import os
 import re
 import subprocess
 import sys
+import tempfile
 import unittest
+from pathlib import Path
 from unittest import mock
 
 import weblocks
 from support import PACKAGE, TOP
+from weblocks import library
 
 SCRIPTS = sorted((TOP / "tests" / "scripts").glob("*.in"))
 SEED = b"a seed of a test"
@@ -70,6 +73,31 @@ class Libraries(unittest.TestCase):
         with mock.patch.dict(os.environ, {"WEBLOCKS_LIBRARY": "/there/is/no/libweblocks.so"}):
             with self.assertRaisesRegex(weblocks.MissingLibrary, "clients/c/build"):
                 weblocks.local()
+
+    def found(self, top, package, named=None):
+        """What is found from a package in this folder below the top, by the top's own names."""
+        environment = {"WEBLOCKS_LIBRARY": named} if named else {}
+        place = mock.patch.object(library, "__file__", str(top / package / "library.py"))
+        with place, mock.patch.dict(os.environ, environment):
+            if not named:
+                os.environ.pop("WEBLOCKS_LIBRARY", None)
+            return library.find().replace(f"{top}/", "")
+
+    def test_a_package_in_the_repository_finds_what_was_built_and_else_what_is_shipped(self):
+        package, built = "clients/python/src/weblocks", "clients/c/out/libweblocks.so"
+        shipped = "dist/libweblocks-x86_64-linux-gnu.so"
+        with tempfile.TemporaryDirectory() as folder:
+            top = Path(folder).resolve()
+            self.assertEqual("libweblocks.so.1", self.found(top, package))
+            for name in (shipped, built):
+                (top / name).parent.mkdir(parents=True)
+                (top / name).touch()
+                self.assertEqual(name, self.found(top, package))
+                self.assertEqual("elsewhere.so", self.found(top, package, "elsewhere.so"))
+                self.assertEqual("libweblocks.so.1", self.found(top, "lib/python3/site-packages/weblocks"))
+            (top / package).mkdir(parents=True)
+            (top / package / "libweblocks.so").touch()
+            self.assertEqual(f"{package}/libweblocks.so", self.found(top, package, "elsewhere.so"))
 
     def test_another_library_is_told(self):
         with self.assertRaises(weblocks.MissingLibrary):

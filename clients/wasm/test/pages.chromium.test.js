@@ -5,7 +5,7 @@ import { readFileSync } from "node:fs";
 import { test } from "node:test";
 import { sleep, until } from "../../js/test/support/holding.js";
 import { inTime } from "../../js/test/browser/chromium.js";
-import { Pages } from "./browser/pages.js";
+import { Pages, WORKERS } from "./browser/pages.js";
 import { hasModule } from "./support/engines.js";
 
 /** Within these milliseconds the locks of a page that is gone pass on. */
@@ -17,7 +17,16 @@ const PUSHED = 1500;
 /** The program that README.md shows first. */
 const SHOWN = readFileSync(new URL("../README.md", import.meta.url), "utf8").match(/^```js\n(.*?)^```$/ms)[1];
 
-const pages = Pages.use({ "/shown.html": `<!doctype html><script type="module">${SHOWN}</script>` });
+/** The example page, with the clients where these tests have them. */
+const EXAMPLE = new URL("../../../examples/pages/tabs.html", import.meta.url);
+const TABS = readFileSync(EXAMPLE, "utf8").replaceAll("../../clients/", "/");
+
+const pages = Pages.use({
+  "/shown.html": `<!doctype html><script type="module">${SHOWN}</script>`,
+  ...Object.fromEntries(
+    Object.entries(WORKERS).map(([engine, worker]) => [`/${engine}.html`, TABS.replace(WORKERS.module, worker)]),
+  ),
+});
 
 /** How many requests are held and pending, as a page sees it. */
 const COUNTS = "locks.query().then(({ held, pending }) => [held.length, pending.length])";
@@ -139,7 +148,31 @@ for (const engine of Pages.engines) {
   });
 }
 
+for (const engine of Pages.engines) {
+  test(`the example page has its lock in one tab at a time (${engine})`, async () => {
+    const [a, b] = [await pages.openAt(`/${engine}.html`), await pages.openAt(`/${engine}.html`)];
+    const said = (page) => page.evaluate('document.getElementById("said").textContent');
+    await until(async () => [await said(a), await said(b)].includes("has tickets"));
+    const [first, second] = (await said(a)) === "has tickets" ? [a, b] : [b, a];
+    assert.equal(await said(second), "waits");
+    await first.close();
+    await until(async () => (await said(second)) === "has tickets");
+    assert.deepEqual(second.faults, []);
+    await second.close();
+  });
+}
+
 const skip = hasModule ? false : "the module isn't built: clients/wasm/build builds it";
+
+// (only there can it be seen)
+if (!hasModule) {
+  test("the example page says that it has no locks", async () => {
+    const page = await pages.openAt("/module.html");
+    const said = () => page.evaluate('document.getElementById("said").textContent');
+    await until(async () => (await said()).startsWith("has no locks: "));
+    await page.close();
+  });
+}
 
 test("the page that README.md shows holds a lock as it stands", { skip }, async () => {
   const page = await pages.openAt("/shown.html");

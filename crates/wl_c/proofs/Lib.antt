@@ -1,1 +1,2 @@
 pub mod PointerSteps
+mod LooseValues

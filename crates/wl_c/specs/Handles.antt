@@ -1,27 +1,44 @@
 -- The memory behind the pointers of a call: what C hands over with it, and has back.
-use Rattle.std.specs.Prelude.{ℕ, ℤ, List, ◌≡◌, ◌<◌, length, Bool, true, false, Result, is_ok}
+use Rattle.std.specs.Prelude.{ℕ, ℤ, List, ◌≡◌, ◌<◌, ◌⊎◌, length, Bool, true, false, not, Option, Some, None, Result, is_ok, pos}
+use Rattle.std.specs.Ordering.{int_eq}
 use Rattle.std.specs.Ptr.{if_non_null}
 use Rattle.std.specs.Vec.{vec_ptr}
 use Rattle.std.specs.Box.Ownership.{box_owns}
 use Rattle.std.specs.declared.alloc.Global.{Global}
 use Rattle.std.specs.contracts.impls.GlobalAllocator.TheImpl.{ghosts}
-use base.Fml.{Share, Fml, fsep, fex}
+use base.Fml.{Share, Fml, ftrue, fsep, fex}
 use base.Fraction.{full_share}
 use denote.Array.{Array}
 use denote.Builtin.{u8, usize}
 use denote.RawPtr.{Ptr, RawPtr, lies_at, room_at}
 use Rattle.wl_c.specs.declared.fault.Fault.{Fault}
-use Rattle.wl_c.specs.declared.fault.Fault.TheVariants.{Null, TooLong}
+use Rattle.wl_c.specs.declared.fault.Fault.TheVariants.{Memory, Null, TooLong}
 use Rattle.wl_c.specs.declared.reply.Reply.{Reply}
 use Rattle.wl_c.specs.declared.world.World.{World}
 use Rattle.wl_c.specs.contracts.world.World.{the_row}
 use Rattle.wl_c.specs.Codes.{code_of, fault_code}
-use Rattle.wl_c.specs.Worlds.{Answers, Audits}
+use Rattle.wl_c.specs.Worlds.{Answers, Audits, IsOpening}
 
 -- a handle: the world in its box, and the right to free the box
 abbrev pub handle : Global → Ptr → World → Fml
 handle alloc p world = box_owns (ghosts.dealloc_token alloc) the_row p world
 
+-- what an address owns that C was given as the handle of this world, or of none: nobody else can own it too
+abbrev pub handed : Ptr → Option World → Fml
+handed p None = ftrue
+handed p (Some world) = fex Global (λ alloc. handle alloc p world)
+
+-- ---- a call for a new world
+-- nobody opened in it, and it keeps books where that was asked
+abbrev pub Opens : ℤ → Option World → Type 0
+Opens keep_books None = ⊥
+Opens keep_books (Some world) = IsOpening (not (int_eq keep_books (pos 0))) world.live
+
+-- at 0 C has the handle of such a world, and else what it had
+abbrev pub IsNew : ℤ → Option World → Option World → ℤ → Type 0
+IsNew keep_books before now code = ((code ≡ pos 0) × Opens keep_books now) ⊎ ((code ≡ fault_code Memory) × (now ≡ before))
+
+-- ---- calls with a world
 -- the rooms for the reply and its length, with these in them where the call did what it is for
 abbrev pub rooms : Bool → Ptr → Ptr → Ptr → ℕ → Fml
 rooms true reply reply_length at n = fsep (lies_at RawPtr full_share reply at) (lies_at usize full_share reply_length n)

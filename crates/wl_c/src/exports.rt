@@ -1,23 +1,21 @@
 //! What C calls.
 
-ghost use Rattle.std.specs.Prelude.{◌≡◌, ◌≤◌, ◌⊎◌, IfOk, pos};
+ghost use Rattle.std.specs.Prelude.{◌≡◌, ◌≤◌, IfOk};
 ghost use Rattle.std.specs.Ptr.{if_non_null};
 ghost use denote.RawPtr.{Testable};
 ghost use types.Logic.{sem};
-ghost use Rattle.wl_c.specs.Handles.{Asking, Auditing, after_answer, after_audit, handle, has_asked, has_audit, may_ask, may_audit, was_answered, was_audited};
-ghost use Rattle.wl_c.specs.Codes.{fault_code};
+ghost use Rattle.wl_c.specs.Handles.{Asking, Auditing, IsNew, after_answer, after_audit, handle, has_asked, has_audit, may_ask, may_audit, was_answered, was_audited};
 ghost use Rattle.wl_c.specs.Worlds.{IsOpening};
-ghost use Rattle.wl_c.specs.declared.fault.Fault.TheVariants.{Memory as FaultMemory};
 ghost use Rattle.wl_c.specs.declared.world.World as code;
 
 use crate::fault::{Fault, code_of};
+use crate::handle::Handle;
 use crate::pointers::{can_answer, can_audit, can_end, code_of_line, code_of_null};
 use crate::reply::{answer_line, audit_lines};
 use crate::seed::Seed;
 use crate::world::World;
 use std::alloc::Global;
 use std::boxed::Box;
-use std::ptr::NonNull;
 use wl_types::Memory;
 
 /// A world in a box.
@@ -31,22 +29,16 @@ fn boxed(alloc: Global, seed: Seed, keeps_books: bool) -> Result<Box<World>, Mem
     }
 }
 
-/// Makes a world in which nobody has opened, and hands its address out. 0, or `Memory`'s number.
+/// Makes a world in which nobody has opened, and puts its handle at `*out`. 0, or `Memory`'s number.
 ///
-/// The contract says nothing of the memory behind the address: `boxed` says which world lies there.
+/// By its type a handle is the caller's alone. What was at `*out` is forgotten, and not ended.
 #[unsafe(no_mangle)]
-pub extern "C" fn weblocks_new(
-    alloc: Global,
-    seed: &Seed,
-    keep_books: i32,
-    out: &mut *mut u8,
-) -> i32
-    ensures code { (result ≡ pos 0) ⊎ (result ≡ fault_code FaultMemory) }
-    ensures refused { result ≡ fault_code FaultMemory → out.new ≡ out.old }
+pub extern "C" fn weblocks_new(alloc: Global, seed: &Seed, keep_books: i32, out: &mut Handle) -> i32
+    ensures { IsNew keep_books out.old.world out.new.world result }
 {
     match boxed(alloc, *seed, keep_books != 0) {
         Ok(world) => {
-            *out = NonNull::from_mut(Box::leak(world)).cast::<u8>().as_ptr();
+            *out = Handle::of(world);
             0
         }
         Err(Memory) => code_of(Err(Fault::Memory)),

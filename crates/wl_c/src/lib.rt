@@ -6,6 +6,8 @@
 
 mod exports;
 mod fault;
+mod handle;
+mod loose;
 mod pointers;
 mod reply;
 mod seed;

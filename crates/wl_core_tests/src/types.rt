@@ -1,7 +1,6 @@
 //! The words of a lock manager: limits, orders, names of faults.
 
 use std::alloc::Global;
-use std::cmp::Ordering;
 use std::test::Fail;
 use wl_samples::{ask, refused};
 use wl_types::{
@@ -39,33 +38,27 @@ fn a_name_has_at_most_1024_bytes_and_is_not_reserved(rt: HostRuntime) -> Result<
     Ok(())
 }
 
-/// Whether a name and its copy compare so with another, by each way to compare.
-fn compare_so(alloc: Global, one: &str, other: &str, wanted: Ordering) -> Result<bool, Fail> {
+/// Whether a name and its copy are another name, by each way to compare.
+fn are_one_name(alloc: Global, one: &str, other: &str) -> Result<(bool, bool), Fail> {
     let name = Name::of(alloc, one)?;
     let copy = name.copy(alloc)?;
     let other = Name::of(alloc, other)?;
-    Ok(
-        name.cmp(&other) == wanted
-            && copy.partial_cmp(&other) == Some(wanted)
-            && (name < other) == (wanted == Ordering::Less)
-            && copy.same(&other) == (wanted == Ordering::Equal),
-    )
+    Ok((name == other, copy.same(&other)))
 }
 
-/// 122 is less than 65 * 31 + 97, and so z comes before Aa. BB has the number of Aa, 66 * 31 + 66.
-const ORDERS: [(&str, &str, Ordering); 5] = [
-    ("Aa", "BB", Ordering::Less),
-    ("BB", "Aa", Ordering::Greater),
-    ("BB", "BB", Ordering::Equal),
-    ("z", "Aa", Ordering::Less),
-    ("", "", Ordering::Equal),
+const PAIRS: [(&str, &str, bool); 4] = [
+    ("Aa", "BB", false),
+    ("a", "A", false),
+    ("BB", "BB", true),
+    ("", "", true),
 ];
 
 #[test]
-fn names_of_one_number_are_ordered_by_their_bytes(rt: HostRuntime) -> Result<(), Fail> {
-    for (one, other, wanted) in ORDERS {
-        assert!(rt;
-            compare_so(rt.alloc(), one, other, wanted)?,
+fn names_are_equal_by_their_bytes(rt: HostRuntime) -> Result<(), Fail> {
+    for (one, other, wanted) in PAIRS {
+        assert_eq!(rt;
+            are_one_name(rt.alloc(), one, other)?,
+            (wanted, wanted),
             "{one} {other}"
         );
     }

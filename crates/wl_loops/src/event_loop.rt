@@ -359,6 +359,3 @@ impl<'a, 'b, R: Wait + Clock, H: Host> EventLoop<'a, 'b, R, H> {
 fn millis(time: Duration) -> u64 {
     time.as_millis().min(u64::MAX as u128) as u64
 }
-
-#[test]
-fn nothing(_rt: HostRuntime) {}

@@ -4,4 +4,3 @@ pub mod Names
 pub mod Asks
 pub mod Client
 pub mod Phases
-pub mod NameOrder

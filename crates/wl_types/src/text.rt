@@ -6,13 +6,11 @@ ghost use Rattle.std.proofs.Common.{rules};
 ghost use Rattle.std.specs.Cmp.Rules.{comparing};
 ghost use Rattle.std.proofs.lemmas.Cmp.{nat_list_eq_equiv};
 ghost use Rattle.wl_types.specs.Names.{name_refusal, is_reserved};
-ghost use Rattle.wl_types.specs.NameOrder.{digest_of, mixed};
 ghost use Rattle.wl_types.specs.Refusals.{refused_or_memory};
 
 use crate::memory::Memory;
 use crate::refusal::Refusal;
 use std::alloc::Global;
-use std::cmp::Ordering;
 use std::marker::Model;
 
 /// A text that owns its bytes.
@@ -68,12 +66,8 @@ impl Eq for Text {
 }
 
 /// The name of a resource: it doesn't start with `-` and has at most 1,024 bytes. The empty text is a name.
-///
-/// Names are ordered for searches: by a number made of their bytes, and those of one number by their bytes. So a
-/// search among many names compares numbers, and whoever makes names of one number gets a search among texts.
 #[derive(Debug, Drop)]
 pub struct Name {
-    digest: u64,
     inner: String,
 }
 
@@ -81,13 +75,12 @@ impl Model for Name {
     ghost use Rattle.std.specs.Prelude.{List, ℕ, ◌≡◌, None};
     ghost use Rattle.std.specs.String.{string_bytes};
     ghost use Rattle.wl_types.specs.Names.{name_refusal};
-    ghost use Rattle.wl_types.specs.NameOrder.{digest_of};
 
     ghost Value = { List ℕ };
 
     ghost view = { λ name. string_bytes name.inner };
 
-    ghost invariant = { λ name. (name_refusal (string_bytes name.inner) ≡ None) × (name.digest ≡ digest_of (string_bytes name.inner)) };
+    ghost invariant = { λ name. name_refusal (string_bytes name.inner) ≡ None };
 }
 
 impl Name {
@@ -101,10 +94,7 @@ impl Name {
             return Err(refusal);
         }
         match String::from_str(alloc, text) {
-            Ok(inner) => Ok(Name {
-                digest: digest_of(text.as_bytes()),
-                inner,
-            }),
+            Ok(inner) => Ok(Name { inner }),
             Err(_) => Err(Refusal::Memory),
         }
     }
@@ -126,7 +116,6 @@ impl Name {
         ensures { IfOk result (λ made. made ≡ self.now) }
     {
         Ok(Name {
-            digest: self.digest,
             inner: String::from_str(alloc, self.inner.as_str())?,
         })
     }
@@ -138,62 +127,12 @@ impl PartialEq for Name {
     ghost laws = { Prim.search (comparing, rules) };
 
     fn eq(&self, other: &Name) -> bool {
-        self.inner.as_str() == other.inner.as_str()
+        self.same(other)
     }
 }
 
 impl Eq for Name {
     ghost laws = { nat_list_eq_equiv };
-}
-
-impl PartialOrd for Name {
-    ghost use Rattle.std.specs.Prelude.{Some};
-    ghost use Rattle.wl_types.specs.NameOrder.{name_cmp, name_partial_order};
-
-    ghost partial_cmp = { λ a b. Some (name_cmp a b) };
-
-    ghost laws = { name_partial_order };
-
-    fn partial_cmp(&self, other: &Name) -> Option<Ordering> {
-        Some(self.cmp(other))
-    }
-}
-
-impl Ord for Name {
-    ghost use Rattle.std.proofs.Common.{rules, sym};
-    ghost use Rattle.std.specs.Cmp.Rules.{comparing};
-    ghost use Rattle.wl_types.specs.NameOrder.{equal_by_bytes, name_cmp, name_cmp_total};
-
-    ghost cmp = { name_cmp };
-
-    ghost total = { name_cmp_total };
-
-    ghost matches_partial_cmp = { Prim.search (comparing, rules) };
-
-    ghost matches_eq = { λ a b. sym (equal_by_bytes a b) };
-
-    fn cmp(&self, other: &Name) -> Ordering {
-        self.digest
-            .cmp(&other.digest)
-            .then_with(|| self.inner.as_str().cmp(other.inner.as_str()))
-    }
-}
-
-fn mixed(made: u64, byte: u8) -> u64
-    ensures { result ≡ mixed made byte }
-{
-    made.wrapping_mul(31).wrapping_add(u64::from(byte))
-}
-
-/// A number made of the bytes of a text.
-fn digest_of(text: &[u8]) -> u64
-    ensures { result ≡ digest_of text.now }
-{
-    let mut digest = 0;
-    for byte in text {
-        digest = mixed(digest, *byte);
-    }
-    digest
 }
 
 fn is_reserved_text(text: &str) -> bool

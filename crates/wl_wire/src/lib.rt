@@ -21,6 +21,3 @@ pub use crate::greeting::{Greeted, Greeting};
 pub use crate::speaker::{Answer, Speaker};
 pub use crate::turn::{Pace, Turn, take_turn};
 pub use crate::wire::{Sending, Wire};
-
-#[test]
-fn nothing(_rt: HostRuntime) {}

@@ -158,7 +158,7 @@ def local(
 
     `seed`, sixteen bytes by which tables spread names, comes from the system where none is given. With `keep_books`,
     `world.audit()` says what `weblocks audit` does. `library` is the path of `libweblocks.so`, where it isn't beside
-    the package, named by WEBLOCKS_LIBRARY, or on the loader's path.
+    the package, named by WEBLOCKS_LIBRARY, in the repository, or on the loader's path.
 
     Raises MissingLibrary where it is found nowhere, and MemoryError.
     """

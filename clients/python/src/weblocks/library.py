@@ -13,6 +13,9 @@ from .errors import Error
 VARIABLE = "WEBLOCKS_LIBRARY"
 """The environment's variable that names the library's file, where it isn't beside the package."""
 
+IN_REPOSITORY = ("clients/c/out/libweblocks.so", "dist/libweblocks-x86_64-linux-gnu.so")
+"""Where the library is in the repository: as it was built last, and as it is shipped."""
+
 NAME = "libweblocks.so"
 SONAME = "libweblocks.so.1"
 LONGEST_LINE = 65_536
@@ -26,13 +29,11 @@ class MissingLibrary(Error, OSError):
 
 
 def load(path: str | os.PathLike[str] | None = None) -> ctypes.CDLL:
-    """Loads the library: of this path, or beside the package, or where WEBLOCKS_LIBRARY says, or by the loader's path.
+    """Loads the library: of this path, or from where `find` finds it.
 
     Raises MissingLibrary, which says how to build it.
     """
-    beside = Path(__file__).with_name(NAME)
-    named = os.environ.get(VARIABLE)
-    place = os.fspath(path) if path is not None else str(beside) if beside.exists() else named or SONAME
+    place = find() if path is None else os.fspath(path)
     try:
         library = ctypes.CDLL(place)
         return _typed(library)
@@ -41,6 +42,20 @@ def load(path: str | os.PathLike[str] | None = None) -> ctypes.CDLL:
             f"the library of weblocks can't be loaded ({error}): build it by clients/c/build of the repository, and "
             f"put {NAME} beside the package, or its path into {VARIABLE}"
         ) from error
+
+
+def find() -> str:
+    """Where the library is: beside the package, or where WEBLOCKS_LIBRARY says, or in the repository, where the package
+    is in there, or else by its name on the loader's path."""
+    here = Path(__file__).resolve()
+    beside, named = here.with_name(NAME), os.environ.get(VARIABLE)
+    if beside.exists() or named:
+        return str(beside) if beside.exists() else str(named)
+    if here.parts[-5:-1] == ("clients", "python", "src", "weblocks"):
+        for name in IN_REPOSITORY:
+            if (here.parents[4] / name).exists():
+                return str(here.parents[4] / name)
+    return SONAME
 
 
 def _typed(library: ctypes.CDLL) -> ctypes.CDLL:

@@ -10,7 +10,7 @@ import { PipedEngine } from "../support/piped.js";
 const CLIENTS = fileURLToPath(new URL("../../../", import.meta.url));
 
 /** The worker, by the name of the engine that it has. */
-const WORKERS = { module: "/wasm/worker.js", program: "/wasm/test/browser/piped_worker.js" };
+export const WORKERS = { module: "/wasm/worker.js", program: "/wasm/test/browser/piped_worker.js" };
 
 /** A host by which the browser takes the pages for those of an insecure context, which has no locks of its own. */
 const INSECURE = "weblocks.test";

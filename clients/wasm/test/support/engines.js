@@ -10,8 +10,12 @@ import { PipedEngine } from "./piped.js";
 /** The program: the repository's own, unless another is named. */
 export const PROGRAM = process.env.WEBLOCKS_PROGRAM || fileURLToPath(new URL("../../../../weblocks", import.meta.url));
 
-/** The module: the one that clients/wasm/build makes where none is named, unless another is. */
-export const MODULE = process.env.WEBLOCKS_MODULE || fileURLToPath(new URL("../../weblocks.wasm", import.meta.url));
+const MODULES = ["../../weblocks.wasm", "../../../../dist/weblocks.wasm"].map((it) =>
+  fileURLToPath(new URL(it, import.meta.url)),
+);
+
+/** The module: the one that is named, or that clients/wasm/build makes where none is named, or the shipped one. */
+export const MODULE = process.env.WEBLOCKS_MODULE || (MODULES.find((it) => existsSync(it)) ?? MODULES[0]);
 
 /** Whether the module is built. */
 export const hasModule = existsSync(MODULE);

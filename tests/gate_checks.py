@@ -1,0 +1,84 @@
+"""./test itself, by commands that stand for rt, for the builds and for tests."""
+
+import os
+import re
+import shutil
+from collections.abc import Callable, Iterator
+from pathlib import Path
+
+from build_checks import Kit
+from checkouts import Checkouts, run_in
+from running import Ended, Wrong, expect, expect_end
+from ship_checks import BUILT, NO_RECORD, OUT, SHIPS
+from standins import put, stand_in
+
+Checks = Iterator[tuple[str, Callable[[], None]]]
+
+# The steps of ./test that have a stand-in here, beside rt.
+STEPS = (
+    *("try_edits", "read_proofs", "read_me", "using", "building"),
+    *("refuse_growths", "run_scripts", "run_daemon", "embedding", "launching", "clients"),
+)
+
+
+def gate_checks(made: Checkouts, kit: Kit) -> Checks:
+    """./test itself, over tests that pass."""
+
+    def stubbed() -> Path:
+        top = made.fresh()
+        shutil.rmtree(top / "dist")
+        for step in STEPS:
+            put(top / "tests" / step, "#!/bin/sh\n")
+        put(top / "clients/c/build", '#!/bin/sh\nmkdir -p "$1"\necho a library >"$1/libweblocks.so"\n')
+        put(top / "clients/wasm/build", '#!/bin/sh\necho a module >"$1"\n')
+        return top
+
+    def test(top: Path, **more: str) -> Ended:
+        """./test, where what rt builds answers as it must, and nothing but rt stands before the PATH."""
+        program = stand_in(kit.notes / "program")
+        path = f"{kit.path[0]}:{os.environ['PATH']}"
+        return run_in(top, ["./test"], env=kit.around(RT_PROGRAM=str(program), PATH=path, **more))
+
+    def passes_once_shipped() -> None:
+        top = stubbed()
+        expect("the status", test(top).status, 1)
+        expect_end(kit.run(top, "tools/ship"), SHIPS.encode())
+        ended = test(top)
+        expect("standard error", ended.err, b"")
+        expect("the status", ended.status, 0)
+        took = r"^test: 'rt ci' took \d+:\d\d, and \d+:\d\d of a processor$"
+        expect("the lines of what the proofs took", len(re.findall(took, ended.out.decode(), re.MULTILINE)), 1)
+
+    def stops(step: str, status: int) -> None:
+        """Nothing can be shipped then, though an earlier run had passed."""
+        top = stubbed()
+        test(top)
+        put(top / step.partition(" ")[0], f"#!/bin/sh\nexit {status}\n")
+        ended = test(top)
+        told = f"test: stopped at '{step}', which ended with status {status}\n"
+        expect("standard error", ended.err, told.encode())
+        expect("the status", ended.status, status)
+        expect_end(kit.run(top, "tools/ship"), b"", 1, NO_RECORD.encode())
+
+    def stops_at_proofs() -> None:
+        ended = test(stubbed(), RT_DOES="fail")
+        expect("standard error", ended.err, b"test: stopped at 'rt ci', which ended with status 1\n")
+        expect("the status", ended.status, 1)
+
+    def edited_meanwhile() -> None:
+        top = stubbed()
+        ended = test(top, RT_DOES="edit", RT_EDITS=str(top / "README.md"))
+        said = "test: tools/ship will refuse this run, as these files changed meanwhile: README.md\n"
+        if said not in ended.out.decode():
+            raise Wrong(f"it doesn't say '{said}' but\n{ended.out.decode()}")
+        expect_end(kit.run(top, "tools/ship"), b"", 1, NO_RECORD.encode())
+
+    yield "./test passes once its program is shipped", passes_once_shipped
+    of_built = (("launching", 4), ("run_scripts", 1), ("run_daemon", 5), ("clients --allow-missing", 1))
+    stopped = [("tests/building", 3), *((f"tests/{step} {BUILT}", status) for step, status in of_built)]
+    stopped += [(f"clients/c/build {OUT}", 2), (f"clients/wasm/build {OUT}/weblocks.wasm", 7)]
+    stopped += [(f"tests/embedding --library {OUT}", 6)]
+    for step, status in stopped:
+        yield f"./test stops at {step}", lambda it=step, number=status: stops(it, number)
+    yield "./test stops at rt ci", stops_at_proofs
+    yield "a file is edited while ./test runs", edited_meanwhile
