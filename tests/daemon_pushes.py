@@ -310,21 +310,33 @@ def moves_and_ends_at_once(program):
         expect("whether connections moved", len(moves(err)) > 0, True)
 
 
+def told_until_closed(peer):
+    """What a peer is still told before its connection is closed, and the code that it is closed with."""
+    told = []
+    while True:
+        try:
+            told.append(peer.get())
+        except Closed as closed:
+            return told, closed.code
+
+
 def an_end_among_moves(program):
-    """The server ends as connections move, which is after some 16 hand-overs to each: every peer is told so."""
+    """The server ends as connections move, which is after some 16 hand-overs to each: every peer is told so.
+
+    One loop may hear of the end after another: the lock of a peer that was ended there goes on to the next, who is told
+    of that before the end, and once."""
     for turns in range(108, 148, 4):
         with Daemon(program, "--loops", "4") as daemon:
             peers = [daemon.opened(URL, PUSH) for _ in range(8)]
-            hand_round(peers, [json.loads(peer.ask(request(1)))["ok"]["request"] for peer in peers], turns)
+            mine = [json.loads(peer.ask(request(1)))["ok"]["request"] for peer in peers]
+            hand_round(peers, mine, turns)
             status, _ = daemon.end()
             expect("the status", status, 0)
-            for peer in peers:
-                try:
-                    peer.get()
-                except Closed as closed:
-                    expect("the code", closed.code, 1001)
-                else:
-                    raise Wrong("a peer wasn't told that the server ended")
+            for at, peer in enumerate(peers):
+                told, code = told_until_closed(peer)
+                expect("the code", code, 1001)
+                has_lock = at == turns % len(peers)
+                expect("what is told before", told in ([], [] if has_lock else [push(("granted", mine[at]))]), True)
 
 
 def no_wake_for_an_own_change(program):
