@@ -1,5 +1,5 @@
 -- The numbers by which the requests of an agent, and those with each of its signals, are found (own).
-use Rattle.std.specs.Prelude.{◌≡◌, ℕ, ◌==◌, Bool, not, List, [], Option, Some, None, IsSome}
+use Rattle.std.specs.Prelude.{◌≡◌, ℕ, ◌==◌, Bool, not, List, [], filter, Option, Some, None, IsSome, is_some}
 use Rattle.std.specs.List.{AllByRecursion, Contains, list_any}
 use Rattle.std.specs.List.Sorted.{IsStrictlySortedBy}
 use Rattle.std.specs.Map.{lookup}
@@ -35,6 +35,10 @@ signed_of signal (Some agent) = list_at signal agent.signals.entries
 pub record IsRising (group : Option Agent) : Type 0 where
   pub own : IsStrictlySortedBy nat_cmp (own_of group)
   pub signed : (signal : ℕ) → IsStrictlySortedBy nat_cmp (signed_of signal group)
+
+-- the numbers of live requests
+abbrev pub only_live : List Entry → List ℕ → List ℕ
+only_live live numbers = filter (λ n. is_some (at n live)) numbers
 
 -- numbers of live requests stay on a list
 abbrev pub KeepsLive : List Entry → List ℕ → List ℕ → Type 0

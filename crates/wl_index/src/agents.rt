@@ -10,7 +10,7 @@ ghost use Rattle.wl_machine.specs.Refusals.{is_window, reason_in, signals_of};
 ghost use Rattle.wl_machine.specs.Step.{with_active, with_reason};
 ghost use Rattle.wl_index.specs.Roll.{aborted, agent_row, signal_row};
 ghost use Rattle.std.specs.Option.{option_copied};
-ghost use Rattle.wl_index.specs.Lists.{IsOn, IsRising, Keeps, KeepsLive, SameLists, at, list_at, listed, own_of, signed_of, spared};
+ghost use Rattle.wl_index.specs.Lists.{IsOn, IsRising, Keeps, KeepsLive, SameLists, at, list_at, listed, only_live, own_of, signed_of, spared};
 
 use crate::listing::{enlist, retain_live};
 use crate::request::Owner;
@@ -256,6 +256,7 @@ impl Agents {
     /// A signal was aborted: its list is cleaned, and keeps no more room than it needs. It is used no more.
     pub fn clean(&mut self, live: &Requests, agent: u64, signal: u64)
         ensures rows { self.new.rows ≡ self.old.rows }
+        ensures cleaned { signed_of signal (at agent self.new.members) ≡ only_live live.now.entries (signed_of signal (at agent self.old.members)) }
         ensures kept { (a : ℕ) → Keeps live.now.entries (at a self.old.members) (at a self.new.members) }
     {
         let Some(found) = self.agents.get_mut(agent) else {
@@ -356,6 +357,7 @@ fn sign(
 fn clean_list(live: &Requests, signals: &mut BTreeMap<u64, Vec<u64>>, signal: u64)
     requires { (s : ℕ) → IsStrictlySortedBy nat_cmp (list_at s signals.old.entries) }
     ensures rising { (s : ℕ) → IsStrictlySortedBy nat_cmp (list_at s signals.new.entries) }
+    ensures cleaned { list_at signal signals.new.entries ≡ only_live live.now.entries (list_at signal signals.old.entries) }
     ensures kept { (s : ℕ) → KeepsLive live.now.entries (list_at s signals.old.entries) (list_at s signals.new.entries) }
     ensures keys { keys_of signals.new.entries ≡ keys_of signals.old.entries }
 {

@@ -6,14 +6,14 @@ ghost use Rattle.std.specs.Prelude.{◌≡◌, ◌<◌, ℕ, filter, is_some, na
 ghost use Rattle.std.specs.List.{AllByRecursion, Contains};
 ghost use Rattle.std.specs.List.Sorted.{IsStrictlySortedBy};
 ghost use Rattle.std.specs.Ordering.{nat_cmp};
-ghost use Rattle.wl_index.specs.Lists.{KeepsLive, at};
+ghost use Rattle.wl_index.specs.Lists.{KeepsLive, at, only_live};
 
 use crate::requests::Requests;
 use wl_types::Memory;
 
 /// Only the numbers of live requests stay.
 pub(crate) fn retain_live(live: &Requests, list: &mut Vec<u64>)
-    ensures { list.new.items ≡ filter (λ n. is_some (at n live.now.entries)) list.old.items }
+    ensures { list.new.items ≡ only_live live.now.entries list.old.items }
 {
     list.retain(|number| live.is_live(*number));
 }
