@@ -5,3 +5,4 @@ mod Trying
 mod Aborting
 pub mod Aborted
 pub mod Refused
+pub mod Listing

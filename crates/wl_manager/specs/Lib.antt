@@ -2,3 +2,4 @@ pub mod Keepers
 pub mod Locked
 pub mod Aborts
 pub mod Agents
+pub mod Listing

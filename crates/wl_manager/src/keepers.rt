@@ -7,6 +7,7 @@ ghost use Rattle.wl_machine.specs.Laws.{phases_of};
 ghost use Rattle.wl_cell.specs.Seats.{may_settle};
 ghost use Rattle.wl_manager.specs.Keepers.{seat_at, phases_at, cells_at, ends_request, MayBring, MaySettle, after};
 
+use crate::coarse_clock::CoarseClock;
 use crate::inbox::Inbox;
 use std::alloc::Global;
 use std::collections::BTreeMap;
@@ -15,11 +16,19 @@ use std::sync::Arc;
 use wl_cell::Keeper;
 use wl_types::{Change, Memory, Phase, Reason};
 
-/// A keeper, and the inbox of its request's agent. Contracts see the keeper.
+/// When a request was asked for and when it was granted, by the manager's clock; until it is granted the two are one.
+#[derive(Clone, Copy, Debug)]
+pub(crate) struct Times {
+    pub(crate) asked: u64,
+    pub(crate) granted: u64,
+}
+
+/// A keeper, the inbox of its request's agent, and its times. Contracts see the keeper.
 #[derive(Drop)]
 struct Place {
     keeper: Keeper,
     inbox: Arc<Inbox>,
+    times: Times,
 }
 
 impl Model for Place {
@@ -32,12 +41,15 @@ impl Model for Place {
 
 impl Place {
     /// Settles the cell, if it isn't at the phase, and then adds the request to the agent's inbox.
-    fn bring(&mut self, id: u64, phase: Phase)
+    fn bring(&mut self, id: u64, phase: Phase, now: u64)
         requires { (self.old.phase ≡ phase) ⊎ IsTrue (may_settle self.old.phase phase) }
         ensures { self.new ≡ record self.old { phase = phase } }
     {
         if self.keeper.phase() != phase {
             self.keeper.settle(phase);
+            if phase == Phase::Granted {
+                self.times.granted = now;
+            }
         }
         self.inbox.add(id);
     }
@@ -56,6 +68,8 @@ impl Place {
 #[derive(Drop)]
 pub(crate) struct Keepers {
     kept: BTreeMap<u64, Place>,
+    // Without it each request came, and was granted, at 0.
+    clock: Option<CoarseClock>,
 }
 
 impl Model for Keepers {
@@ -67,11 +81,30 @@ impl Model for Keepers {
 }
 
 impl Keepers {
-    pub(crate) fn new(alloc: Global) -> Keepers
+    pub(crate) fn new(alloc: Global, clock: Option<CoarseClock>) -> Keepers
         ensures { result ≡ [] }
     {
         Keepers {
             kept: BTreeMap::new(alloc),
+            clock,
+        }
+    }
+
+    fn now(&self) -> u64 {
+        match &self.clock {
+            Some(clock) => clock.now(),
+            None => 0,
+        }
+    }
+
+    /// The times of the request of this number, which has a keeper.
+    pub(crate) fn times(&self, id: u64) -> Times {
+        match self.kept.get(&id) {
+            Some(place) => place.times,
+            None => Times {
+                asked: 0,
+                granted: 0,
+            },
         }
     }
 
@@ -80,7 +113,17 @@ impl Keepers {
         ensures put { OnOk result ((other : ℕ) → seat_at other self.new ≡ (if other == id then Some keeper else seat_at other self.old)) }
         ensures err { OnErr result (self.new ≡ self.old) }
     {
-        self.kept.insert(id, Place { keeper, inbox })?;
+        let now = self.now();
+        let times = Times {
+            asked: now,
+            granted: now,
+        };
+        let place = Place {
+            keeper,
+            inbox,
+            times,
+        };
+        self.kept.insert(id, place)?;
         Ok(())
     }
 
@@ -110,7 +153,8 @@ impl Keepers {
         ensures phases { (other : ℕ) → phases_at other self.new ≡ (if other == id then phase ∷ [] else phases_at other self.old) }
         ensures cells { (other : ℕ) → cells_at other self.new ≡ cells_at other self.old }
     {
-        self.kept.get_mut(&id).unwrap().bring(id, phase);
+        let now = self.now();
+        self.kept.get_mut(&id).unwrap().bring(id, phase, now);
     }
 
     /// Settles the cells of all these changes, in their order.

@@ -8,17 +8,21 @@
 #![tactic(auto)]
 
 mod agent;
+mod coarse_clock;
 mod count;
 mod inbox;
 mod keepers;
+mod lock_list;
 mod locked;
 mod manager;
 mod ring;
 mod ticket;
 
 pub use crate::agent::Agent;
+pub use crate::coarse_clock::CoarseClock;
 pub use crate::count::{Count, Ledgered, Loose, Recent, Uncounted};
 pub use crate::inbox::Inbox;
+pub use crate::lock_list::{LockList, LockRow};
 pub use crate::locked::{Leaving, Locked, TallyFault};
 pub use crate::manager::{Manager, Visitor};
 pub use crate::ring::{Bell, Ring};

@@ -6,6 +6,7 @@ ghost use Rattle.wl_machine.specs.Refusals.{refusal};
 ghost use Rattle.wl_machine.specs.Step.{step};
 ghost use Rattle.wl_manager.specs.Locked.{Does, Stays, first};
 
+use crate::coarse_clock::CoarseClock;
 use crate::count::Count;
 use crate::keepers::Keepers;
 use std::alloc::Global;
@@ -18,6 +19,7 @@ mod abort;
 mod asking;
 mod commands;
 mod journal;
+mod listing;
 mod tally;
 
 pub(crate) use asking::Asking;
@@ -53,8 +55,15 @@ impl<C: LockCore, T: Count> Model for Locked<C, T> {
 }
 
 impl<C: LockCore, T: Count> Locked<C, T> {
-    /// No agent, and no entry. Where shares are counted, the total is 0 and the share is the whole.
-    pub fn new(alloc: Global, seed: C::Seed, total: T::Total, share: T::Share) -> Locked<C, T>
+    /// No agent, and no entry. Where shares are counted, the total is 0 and the share is the whole. The clock, if there
+    /// is one, tells when requests come and are granted.
+    pub fn new(
+        alloc: Global,
+        seed: C::Seed,
+        total: T::Total,
+        share: T::Share,
+        clock: Option<CoarseClock>,
+    ) -> Locked<C, T>
         requires total { T.COUNTS ≡ true → T.total total ≡ 0 }
         requires all { T.COUNTS ≡ true → (T.parts share ≡ T.all) × (2 ^ 53 ≤ T.all) }
         ensures state { result.book.state ≡ first }
@@ -67,7 +76,7 @@ impl<C: LockCore, T: Count> Locked<C, T> {
         };
         Locked {
             book: Book::make(alloc, seed, numbers),
-            keepers: Keepers::new(alloc),
+            keepers: Keepers::new(alloc, clock),
             next: 1,
             total,
             share,

@@ -1,24 +1,32 @@
 //! A manager that threads share.
 
-ghost use Rattle.std.specs.Prelude.{◌≡◌, ◌≤◌, ◌^◌, true, IfOk, IfErr};
+ghost use Rattle.std.specs.Prelude.{◌≡◌, ◌+◌, ◌≤◌, ◌^◌, length, true, IfOk, IfErr};
 ghost use Rattle.wl_journal.specs.History.{IsLegal};
 ghost use Rattle.wl_machine.specs.declared.command.Command.TheVariants as command;
 ghost use Rattle.wl_manager.specs.Agents.{MayRefuse};
+ghost use Rattle.wl_manager.specs.Listing.{MayList};
 ghost use Rattle.wl_manager.specs.Locked.{WasCut, first};
 
 use crate::agent::Agent;
+use crate::coarse_clock::CoarseClock;
 use crate::count::Count;
 use crate::inbox::Inbox;
+use crate::lock_list::LockList;
 use crate::locked::{Leaving, Locked, TallyFault};
 use crate::ring::Bell;
 use std::alloc::Global;
+use std::hint::spin_loop;
 use std::sync::{Arc, Condvar, Mutex, MutexGuard, Wait};
 use std::thread::yield_now;
 use wl_core::{LockCore, PlainCore};
 use wl_journal::Entry;
 use wl_types::{Kind, Memory, Refusal};
 
-/// How often a thread tries a lock that another holds, before it sleeps until that is free.
+/// How often a thread looks at a lock that another holds, before it lets others run: for about as long as most calls
+/// take under it. An event loop that lets others run puts off all its connections.
+const LOOKS: u32 = 50;
+
+/// How often it lets others run then, before it sleeps until the lock is free.
 const TRIES: u32 = 64;
 
 /// Who is shown a manager's journal. It is called under the manager's lock: it should be short, and call nothing of
@@ -52,7 +60,7 @@ impl<C: LockCore, T: Count> Manager<C, T> {
     /// A manager without agents, all its numbers 1. Where shares are counted, the total is 0 and the share is the
     /// whole of at least 2^53 parts, of which each agent that opens gets one.
     pub fn new<R>(
-        _rt: &R,
+        rt: &R,
         alloc: Global,
         seed: C::Seed,
         total: T::Total,
@@ -61,9 +69,24 @@ impl<C: LockCore, T: Count> Manager<C, T> {
         requires total { T.COUNTS ≡ true → T.total total ≡ 0 }
         requires all { T.COUNTS ≡ true → (T.parts share ≡ T.all) × (2 ^ 53 ≤ T.all) }
     {
+        Manager::with_clock(rt, alloc, seed, total, share, None)
+    }
+
+    /// `new` of a manager that notes by this clock when its requests are asked for and when they are granted.
+    pub fn with_clock<R>(
+        _rt: &R,
+        alloc: Global,
+        seed: C::Seed,
+        total: T::Total,
+        share: T::Share,
+        clock: Option<CoarseClock>,
+    ) -> Result<Arc<Manager<C, T>>, Memory>
+        requires total { T.COUNTS ≡ true → T.total total ≡ 0 }
+        requires all { T.COUNTS ≡ true → (T.parts share ≡ T.all) × (2 ^ 53 ≤ T.all) }
+    {
         let manager = Manager {
             alloc,
-            locked: Mutex::new(Locked::new(alloc, seed, total, share)),
+            locked: Mutex::new(Locked::new(alloc, seed, total, share, clock)),
             settled: Condvar::new(),
         };
         Ok(Arc::new(alloc, manager)?)
@@ -111,9 +134,15 @@ impl<C: LockCore, T: Count> Manager<C, T> {
         })
     }
 
-    /// Takes the lock. A thread that finds it held lets others run for a while before it sleeps: what is done under it
-    /// takes a few microseconds, and to wake takes longer.
+    /// Takes the lock. A thread that finds it held spins, and then lets others run for a while before it sleeps: what is
+    /// done under it takes a few microseconds, and to wake takes longer.
     pub(crate) fn lock<R: Wait>(&self, rt: &R) -> MutexGuard<'_, Locked<C, T>> {
+        for _ in 0..LOOKS {
+            if let Some(locked) = self.locked.try_lock() {
+                return locked;
+            }
+            spin_loop();
+        }
         for _ in 0..TRIES {
             if let Some(locked) = self.locked.try_lock() {
                 return locked;
@@ -139,6 +168,18 @@ impl<C: LockCore, T: Count> Manager<C, T> {
         } else {
             visitor.visit_since(locked.base(), locked.entries());
         }
+    }
+
+    /// At most so many rows of what is held and what waits, locks first, for whoever watches a server: it is no event of
+    /// the machine, and no agent's. `now` is a time of the clock that the manager was made with; where it has none the
+    /// rows' times mean nothing. It copies the manager's state under its lock.
+    pub fn list_locks<R: Wait>(&self, rt: &R, most: usize, now: u64) -> Result<LockList, Memory>
+        ensures may { IfOk result (MayList most) }
+        ensures few { IfOk result (λ list. length list.held.items + length list.pending.items ≤ most) }
+    {
+        let (list, copy) = self.lock(rt).list_locks(most, now)?;
+        drop(copy);
+        Ok(list)
     }
 
     /// The number of entries, where at least as many Leavings were handed in, here and in tallies that succeeded, as

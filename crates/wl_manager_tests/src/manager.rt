@@ -6,6 +6,7 @@ mod agents;
 mod desk;
 mod growth;
 mod inboxes;
+mod listing;
 mod refusals;
 mod threads;
 

@@ -1,3 +1,4 @@
 pub mod Clients
 pub mod Opening
 pub mod Directory
+pub mod Listing

@@ -1,21 +1,26 @@
 //! The managers by their keys.
 
-ghost use Rattle.std.specs.Prelude.{◌≡◌, ◌≢◌, ◌<◌, [], length, None, IfErr, IfNone, IfSome, OnErr, OnOk};
+ghost use Rattle.std.specs.Prelude.{◌≡◌, ◌≢◌, ◌<◌, [], length, None, IfErr, IfNone, IfOk, IfSome, OnErr, OnOk, option_map};
+ghost use Rattle.std.specs.Arc.{arc_value};
 ghost use Rattle.std.specs.Option.{option_copied};
+ghost use Rattle.std.specs.Range.Bound.{bound_map};
 ghost use Rattle.wl_origin.specs.Manager.{manager_cmp};
 ghost use Rattle.wl_service.specs.declared.fault.OpenFault.TheVariants.{BadUrl, BadBucket};
 ghost use Rattle.wl_service.specs.Directory.{Adds, KeepsOthers, kept_for};
+ghost use Rattle.wl_service.specs.Listing.{MayFollow, bound_after, first_of, left_after};
 ghost use Rattle.wl_service.specs.Opening.{fault_of};
 
 use crate::fault::OpenFault;
+use crate::listing::is_asked;
 use std::alloc::Global;
 use std::collections::BTreeMap;
 use std::hash::RandomState;
+use std::ops::Bound;
 use std::sync::{Arc, Wait};
 use wl_index::IndexCore;
-use wl_manager::{Agent, Bell, Manager, Recent};
-use wl_origin::ManagerKey;
-use wl_types::{Kind, Refusal};
+use wl_manager::{Agent, Bell, CoarseClock, Manager, Recent};
+use wl_origin::{ManagerKey, OriginKey};
+use wl_types::{Kind, Memory, Refusal};
 
 /// The core of every manager.
 pub type Core = IndexCore;
@@ -39,6 +44,8 @@ pub(crate) struct Directory {
     managers: BTreeMap<ManagerKey, Shared>,
     // Of each manager's core.
     seed: RandomState,
+    // Of each manager.
+    clock: Option<CoarseClock>,
 }
 
 /// Why a manager that refuses an agent opens no client. It refuses for no other cause.
@@ -52,13 +59,24 @@ pub(crate) fn fault_of(refusal: Refusal) -> OpenFault
     }
 }
 
+/// What is behind this key, or all.
+fn bound_after(after: Option<&ManagerKey>) -> Bound<&ManagerKey>
+    ensures { bound_map (λ key. key.now) result ≡ bound_after (option_copied after.entry) }
+{
+    match after {
+        Some(key) => Bound::Excluded(key),
+        None => Bound::Unbounded,
+    }
+}
+
 impl Directory {
-    pub(crate) fn new(alloc: Global, seed: RandomState) -> Directory
+    pub(crate) fn new(alloc: Global, seed: RandomState, clock: Option<CoarseClock>) -> Directory
         ensures { result.managers.entries ≡ [] }
     {
         Directory {
             managers: BTreeMap::new(alloc),
             seed,
+            clock,
         }
     }
 
@@ -90,12 +108,54 @@ impl Directory {
         ensures err { OnErr result (self.new.managers.entries ≡ self.old.managers.entries) }
         ensures fault { IfErr result (λ fault. (fault ≢ BadUrl) × (fault ≢ BadBucket)) }
     {
-        let manager = Manager::new(rt, alloc, self.seed, (), ()).map_err(|_| OpenFault::Memory)?;
+        let Ok(manager) = self.new_manager(rt, alloc) else {
+            return Err(OpenFault::Memory);
+        };
         let agent = Manager::open_heard(&manager, rt, kind, bell).map_err(fault_of)?;
         match self.managers.insert(key, manager) {
             Ok(_) => Ok(agent),
             Err(_) => Err(OpenFault::Memory),
         }
+    }
+
+    fn new_manager<R>(&self, rt: &R, alloc: Global) -> Result<Shared, Memory> {
+        let clock = match &self.clock {
+            Some(clock) => Some(clock.share()?),
+            None => None,
+        };
+        Manager::with_clock(rt, alloc, self.seed, (), (), clock)
+    }
+
+    /// The first manager behind this key, or of all, of those that are asked for: with its key.
+    pub(crate) fn next(
+        &self,
+        alloc: Global,
+        after: Option<&ManagerKey>,
+        only: Option<&OriginKey>,
+    ) -> Result<Option<(ManagerKey, Shared)>, Memory>
+        ensures first { IfOk result (λ found. option_map (λ one. one.0) found ≡ option_map (λ one. one.0) (first_of (left_after (option_copied after.entry) (option_copied only.entry) self.now.managers.entries))) }
+        ensures manager { IfOk result (λ found. option_map (λ one. arc_value one.1) found ≡ option_map (λ one. arc_value one.1) (first_of (left_after (option_copied after.entry) (option_copied only.entry) self.now.managers.entries))) }
+        ensures may { IfOk result (λ found. IfSome found (λ one. MayFollow (option_copied after.entry) (option_copied only.entry) one.0)) }
+    {
+        for (key, manager) in self.managers.range((bound_after(after), Bound::Unbounded)) {
+            if is_asked(only, key) {
+                return Ok(Some((key.copy(alloc)?, Arc::try_clone(manager)?)));
+            }
+        }
+        Ok(None)
+    }
+
+    /// How many of those that are asked for stand behind this key.
+    pub(crate) fn count_left(&self, after: Option<&ManagerKey>, only: Option<&OriginKey>) -> u64
+        ensures { result ≡ length (left_after (option_copied after.entry) (option_copied only.entry) self.now.managers.entries) }
+    {
+        let mut count = 0;
+        for (key, _) in self.managers.range((bound_after(after), Bound::Unbounded)) {
+            if is_asked(only, key) {
+                count += 1;
+            }
+        }
+        count
     }
 
     /// Takes the key's manager out, if nobody but the directory holds it: no client, and no ticket. Who opens takes

@@ -8,10 +8,13 @@
 mod client;
 mod directory;
 mod fault;
+mod listing;
 mod opaque;
 mod service;
+mod watching;
 
 pub use client::{Client, Leaving, Ticket};
 pub use directory::{Core, Keeping};
 pub use fault::OpenFault;
+pub use listing::{ManagerLocks, ServiceLocks};
 pub use service::Service;

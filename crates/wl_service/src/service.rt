@@ -14,7 +14,7 @@ use std::alloc::Global;
 use std::random::RandomSource;
 use std::sync::{Arc, Mutex, Wait};
 use wl_index::random_seed;
-use wl_manager::{Agent, Bell, Manager, Recent, Visitor};
+use wl_manager::{Agent, Bell, CoarseClock, Manager, Recent, Visitor};
 use wl_origin::{ManagerFault, ManagerKey, manager_of, manager_of_text};
 use wl_types::{Kind, Memory, Text};
 
@@ -22,9 +22,9 @@ use wl_types::{Kind, Memory, Text};
 /// for as long as the service's `Keeping` says.
 #[derive(Drop)]
 pub struct Service {
-    directory: Mutex<Directory>,
+    pub(crate) directory: Mutex<Directory>,
     keeping: Keeping,
-    alloc: Global,
+    pub(crate) alloc: Global,
 }
 
 impl Service {
@@ -40,9 +40,19 @@ impl Service {
         alloc: Global,
         keeping: Keeping,
     ) -> Result<Service, Memory> {
+        Service::with_clock(rt, alloc, keeping, None)
+    }
+
+    /// As `with_keeping`, of a service whose managers note by this clock when requests are asked for and granted.
+    pub fn with_clock<R: RandomSource>(
+        rt: &R,
+        alloc: Global,
+        keeping: Keeping,
+        clock: Option<CoarseClock>,
+    ) -> Result<Service, Memory> {
         let seed = random_seed(rt)?;
         Ok(Service {
-            directory: Mutex::new(Directory::new(alloc, seed)),
+            directory: Mutex::new(Directory::new(alloc, seed, clock)),
             keeping,
             alloc,
         })
@@ -191,6 +201,14 @@ impl Service {
         if let Some(key) = key {
             // It is dropped once the directory's lock is free.
             let unused = self.directory.lock(rt).take_unused(&key);
+            drop(unused);
+        }
+    }
+
+    /// The same, unless the service keeps each manager.
+    pub(crate) fn let_go_of<R: Wait>(&self, rt: &R, key: &ManagerKey) {
+        if let Keeping::Used { .. } = self.keeping {
+            let unused = self.directory.lock(rt).take_unused(key);
             drop(unused);
         }
     }

@@ -5,7 +5,7 @@ use std::alloc::Global;
 use std::sync::{Arc, Wait};
 use std::test::Fail;
 use wl_cell::cell;
-use wl_manager::Manager;
+use wl_manager::{CoarseClock, Manager};
 use wl_samples::{ask, refused};
 use wl_types::{AbortAnswer, Ask, Kind, Mode, Phase, Reason};
 
@@ -58,6 +58,24 @@ fn try_query<R: Wait>(rt: &R, agent: &mut PlainAgent) -> Result<(), Fail> {
     refused(agent.query(rt)?.seen == 4)
 }
 
+/// Refused memory, a list is no entry, and names the same lock when it is asked for again.
+fn try_list<R: Wait>(rt: &R, manager: &Plain) -> Result<(), Fail> {
+    if manager.list_locks(rt, 10, 0).is_ok() {
+        return Ok(());
+    }
+    let is_not_entered = summed(rt, manager).entries == 4;
+    let list = manager.list_locks(rt, 10, 0)?;
+    let is_first = list.held.first().is_some_and(|row| row.request == 1);
+    refused(is_not_entered && is_first && list.held.len() == 1 && list.left_out == 0)
+}
+
+fn try_clock(alloc: Global) -> Result<(), Fail> {
+    if CoarseClock::new(alloc).is_ok() {
+        return Ok(());
+    }
+    refused(CoarseClock::new(alloc).is_ok())
+}
+
 fn try_manager<R: Wait>(rt: &R, alloc: Global) -> Result<Arc<Plain>, Fail> {
     if let Ok(manager) = plain(rt, alloc) {
         return Ok(manager);
@@ -76,13 +94,15 @@ fn try_cell(alloc: Global) -> Result<(), Fail> {
 
 fn try_calls<R: Wait>(rt: &R, alloc: Global) -> Result<(), Fail> {
     try_cell(alloc)?;
+    try_clock(alloc)?;
     let manager = try_manager(rt, alloc)?;
     let mut agent = try_open(rt, &manager)?;
     try_signal(rt, &manager, &mut agent)?;
     let wanted = ask(alloc, "db", Mode::Exclusive)?;
     try_request(rt, &manager, &mut agent, &wanted)?;
     try_active(rt, &manager, &mut agent)?;
-    try_query(rt, &mut agent)
+    try_query(rt, &mut agent)?;
+    try_list(rt, &manager)
 }
 
 /// Agents of one manager, and the tickets of their requests, in the order in which they were asked.
