@@ -1,5 +1,6 @@
 mod Talks
 mod Answering
 mod Looks
+mod Words
 mod Parts
 mod Sockets

@@ -1,14 +1,16 @@
 -- Looks at the requests of a map, one after another.
-use Rattle.std.proofs.Common.{◌≡◌, ◌≢◌, All, arith, ℕ, zero, suc, ◌+◌, ◌<◌, ◌≤◌, List, [], ◌∷◌, ◌++◌, sym, Less}
+use Rattle.std.proofs.Common.{◌≡◌, ◌≢◌, ◌∙◌, All, Contains, ap₂, arith, get_or, length, ℕ, zero, suc, ◌+◌, ◌<◌, ◌≤◌, List, [], ◌∷◌, ◌++◌, sym, Less}
 use Rattle.std.specs.Cmp.{ranked}
 use Rattle.std.specs.List.{AllByRecursion}
 use Rattle.std.specs.List.Sorted.{IsStrictlySortedBy}
 use Rattle.std.specs.Map.{keys_of}
 use Rattle.std.specs.Ordering.{nat_cmp}
-use Rattle.std.proofs.lemmas.List.Elements.{All-append}
+use Rattle.std.proofs.lemmas.List.{get_or_default}
+use Rattle.std.proofs.lemmas.List.Elements.{All-append, All-push}
 use Rattle.wl_types.specs.declared.phases.Phase.{Phase}
-use Rattle.wl_types.specs.declared.phases.Phase.TheVariants.{Granted}
+use Rattle.wl_types.specs.declared.phases.Phase.TheVariants.{Granted, Taken}
 use Rattle.wl_session.specs.Told.{Look, IsFrom, IsByNumber}
+use Rattle.wl_server.specs.declared.fences.Fence.{Fence}
 
 -- the numbers of the entries rise from the low one on
 abbrev pub Rises : {X : Type 0} → ℕ → List (ℕ × X) → Type 0
@@ -84,3 +86,11 @@ taken_more looks number p all is = All-append (λ (look : Look). look.1 ≢ Gran
     last : All (λ (look : Look). look.1 ≢ Granted) ((number, p) ∷ [])
     last zero d within = is
     last (suc k) d within = absurd (omega (arith, within))
+
+-- one more fence, of a look that found a lock taken
+pub fenced_more : (looks : List Look) (fences : List Fence) (i : ℕ) (d : Look) (f : Fence) → All (λ fence. Contains looks (fence.request, Taken)) fences
+    → i < length looks → f.request ≡ (get_or looks i d).0 → (get_or looks i d).1 ≡ Taken → All (λ fence. Contains looks (fence.request, Taken)) (fences ++ f ∷ [])
+fenced_more looks fences i d f all lt number taken = All-push (λ (fence : Fence). Contains looks (fence.request, Taken)) fences f all (i, lt, at)
+  where
+    at : get_or looks i (f.request, Taken) ≡ (f.request, Taken)
+    at = get_or_default looks i (f.request, Taken) d lt ∙ ap₂ (λ n p. (n, p)) (sym number) taken

@@ -9,7 +9,6 @@ ghost use Rattle.wl_server.specs.Peers.{IsOutcome, IsOutcomeOf};
 use crate::entered::Entered;
 use crate::opener::{NoAnswer, NotOpened, Opener};
 use crate::requests::Requests;
-use std::alloc::Global;
 use std::sync::Wait;
 use wl_codec::{Body, Outcome};
 use wl_service::{Client, OpenFault};
@@ -132,7 +131,6 @@ fn operate<R: Wait>(
 /// Does what a message asks for. An agent opens or leaves by it.
 fn act<R: Wait, O: Opener>(
     rt: &R,
-    alloc: Global,
     opener: &O,
     entered: &mut Option<Entered>,
     requests: &mut Requests,
@@ -146,7 +144,7 @@ fn act<R: Wait, O: Opener>(
         }
         Body::Close => {
             // Before its manager may be let go of, which tickets hold.
-            *requests = Requests::new(alloc);
+            requests.clear();
             if let Some(leaving) = entered.take() {
                 let _ = leaving.end(rt, opener);
             }
@@ -163,7 +161,6 @@ fn act<R: Wait, O: Opener>(
 /// The outcome of what was planned for a message.
 pub fn outcome_of<R: Wait, O: Opener>(
     rt: &R,
-    alloc: Global,
     opener: &O,
     entered: &mut Option<Entered>,
     requests: &mut Requests,
@@ -173,6 +170,6 @@ pub fn outcome_of<R: Wait, O: Opener>(
 {
     match action {
         Action::Answer(outcome) => Ok(outcome),
-        Action::Act(body) => act(rt, alloc, opener, entered, requests, body),
+        Action::Act(body) => act(rt, opener, entered, requests, body),
     }
 }

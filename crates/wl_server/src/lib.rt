@@ -11,6 +11,7 @@ mod caller;
 mod crowd;
 mod entered;
 mod fault;
+mod fences;
 mod lines;
 mod link;
 mod listening;
@@ -26,6 +27,7 @@ mod visit;
 mod writing;
 
 pub use crate::fault::{ListenFault, RelayFault, ServeEnd, ServeFault, Served};
+pub use crate::fences::{Fence, FenceCounter, fenced_text, words_compare_as_tokens};
 pub use crate::listening::serve;
 pub use crate::opener::{NoAnswer, NotOpened, Opener};
 pub use crate::peer::Peer;

@@ -6,6 +6,7 @@ ghost use Rattle.wl_server.specs.Peers.{Answers, Tells};
 
 use crate::acting::outcome_of;
 use crate::entered::Entered;
+use crate::fences::{Fence, FenceCounter};
 use crate::opener::{NoAnswer, Opener};
 use crate::requests::Requests;
 use std::alloc::Global;
@@ -41,12 +42,30 @@ impl Peer {
     pub fn new(alloc: Global) -> Peer
         ensures { result ≡ closed }
     {
+        Peer::with(alloc, None)
+    }
+
+    /// A peer that didn't open yet, and whose grants have fences by this counter.
+    pub fn fenced(alloc: Global, counter: FenceCounter) -> Peer
+        ensures { result ≡ closed }
+    {
+        Peer::with(alloc, Some(counter))
+    }
+
+    fn with(alloc: Global, counter: Option<FenceCounter>) -> Peer
+        ensures { result ≡ closed }
+    {
         Peer {
             alloc,
             session: Session::new(alloc),
             entered: None,
-            requests: Requests::new(alloc),
+            requests: Requests::new(alloc, counter),
         }
+    }
+
+    /// The fences of the grants that the last reply told, or the last push, by request number: for `fenced_text` of it.
+    pub fn fences(&self) -> &[Fence] {
+        self.requests.fences()
     }
 
     /// `answer_by` the service itself, which keeps each manager and opens any URL. The room in which the message is read
@@ -112,14 +131,7 @@ impl Peer {
     {
         let reading = read_message_with(self.alloc, message, scratch)?;
         let Plan { id, action } = self.session.plan(reading);
-        let outcome = outcome_of(
-            rt,
-            self.alloc,
-            opener,
-            &mut self.entered,
-            &mut self.requests,
-            action,
-        )?;
+        let outcome = outcome_of(rt, opener, &mut self.entered, &mut self.requests, action)?;
         let looks = self
             .requests
             .looks(self.entered.as_ref(), &self.session, &outcome)?;

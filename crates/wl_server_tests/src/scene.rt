@@ -9,15 +9,17 @@
 //! `close CLIENT`, which answer whether it left something; and `visit URL BUCKET`, which answers whether the visitor was
 //! called, and how many entries it was shown. One that names no bucket visits that of `default`. `keep COUNT` puts a new
 //! service in the place of the one that keeps each manager, which has so many at most, and `managers` answers how many.
+//! `locks URL` lists the locks of that URL's origin, or without it all: each manager with the numbers of the requests
+//! that hold and, behind a bar, of those that wait, and how many were left out.
 
 use crate::lists::{number, rest, show, word};
-use std::alloc::Global;
+use std::alloc::{AllocError, Global};
 use std::random::RandomSource;
 use std::sync::Wait;
 use std::test::Fail;
 use wl_journal::{Entry, Sight};
-use wl_manager::Visitor;
-use wl_samples::{ask, key_in};
+use wl_manager::{LockRow, Visitor};
+use wl_samples::{ask, key_in, origin_key};
 use wl_service::{Client, Keeping, OpenFault, Service, Ticket};
 use wl_types::{Ask, Kind, Memory, Mode, Phase, Reason, Refusal, ReleaseAnswer, Text};
 
@@ -122,6 +124,7 @@ impl Scene {
             "terminate" => show(came, self.terminate(rt, place)),
             "close" => show(came, self.close(rt, place)),
             "managers" => show(came, Some(self.service.managers(rt))),
+            "locks" => self.list(rt, word(call, 1), came),
             _ => match at(&mut self.clients, place) {
                 Some(client) => call_client(rt, client, call, came),
                 None => show(came, None::<u64>),
@@ -237,4 +240,29 @@ impl Scene {
         let visited = self.service.visit(rt, &key, &mut shown);
         show(came, Some((visited, shown.entries)))
     }
+
+    fn list<R: Wait>(&self, rt: &R, url: &str, came: &mut String) -> Result<(), Fail> {
+        let listed = if url.is_empty() {
+            self.service.list_locks(rt, None, 0)?
+        } else {
+            let origin = origin_key(self.alloc, url)?;
+            self.service.list_locks(rt, Some(&origin), 0)?
+        };
+        for one in &listed.managers {
+            let origin = one.key.origin.text(self.alloc)?;
+            write!(came, "{} {}:", origin.as_str(), one.key.bucket.as_str())?;
+            put_numbers(came, &one.locks.held)?;
+            write!(came, " |")?;
+            put_numbers(came, &one.locks.pending)?;
+            write!(came, " and {}, ", one.locks.left_out)?;
+        }
+        show(came, Some(listed.left_out_managers))
+    }
+}
+
+fn put_numbers(came: &mut String, rows: &[LockRow]) -> Result<(), AllocError> {
+    for row in rows {
+        write!(came, " {}", row.request)?;
+    }
+    Ok(())
 }

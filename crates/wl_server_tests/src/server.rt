@@ -3,6 +3,7 @@
 pub mod crowds;
 pub mod dropped;
 mod endings;
+mod fences;
 mod frames;
 pub mod gates;
 mod growth;

@@ -5,6 +5,7 @@ mod clients;
 mod growth;
 mod hearing;
 mod keeping;
+mod listing;
 mod opening;
 pub mod threads;
 
@@ -20,5 +21,6 @@ fn services_do_the_lists(rt: HostRuntime) -> Result<(), Fail> {
     assert_lists(&rt, rt.alloc(), &opening::LISTS)?;
     assert_lists(&rt, rt.alloc(), &clients::LISTS)?;
     assert_lists(&rt, rt.alloc(), &keeping::LISTS)?;
+    assert_lists(&rt, rt.alloc(), &listing::LISTS)?;
     assert_lists(&rt, rt.alloc(), &threads::LISTS)
 }

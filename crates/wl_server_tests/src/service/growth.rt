@@ -71,10 +71,20 @@ fn try_client<R: Wait>(rt: &R, alloc: Global, client: &mut Client) -> Result<(),
     Ok(())
 }
 
+/// Refused memory, a list changes nothing: asked for again it has the three managers.
+fn try_list<R: Wait>(rt: &R, service: &Service) -> Result<(), Fail> {
+    if service.list_locks(rt, None, 0).is_ok() {
+        return Ok(());
+    }
+    let list = service.list_locks(rt, None, 0)?;
+    refused(list.managers.len() == 3 && list.left_out_managers == 0)
+}
+
 #[test]
 fn a_refused_growth_opens_nobody(rt: HostRuntime) -> Result<(), Fail> {
     let service = try_service(&rt, rt.alloc())?;
     try_opens(&rt, &service)?;
+    try_list(&rt, &service)?;
     let mut client = service.open(&rt, "https://b.test/", Kind::Window)?;
     try_client(&rt, rt.alloc(), &mut client)
 }
