@@ -1,11 +1,11 @@
 -- What functions of lists give of one more element, as at a step of a loop. Elements are seen through v.
-use Rattle.std.proofs.Common.{◌≡◌, ◌<◌, ◌+◌, ℕ, List, [], ◌∷◌, ◌++◌, length, take, get_or, map, ap, sym, append_assoc, ◌∙◌, refl, Option, None, Some, Bool, true, false, ◌&&◌, ◌||◌, eqb, arith}
-use Rattle.std.specs.List.{filter_map, list_any, cons_option, slice_split}
+use Rattle.std.proofs.Common.{◌≡◌, ◌<◌, ◌+◌, ℕ, List, [], ◌∷◌, ◌++◌, length, take, drop, get_or, map, ap, sym, append_assoc, ◌∙◌, refl, Option, None, Some, Bool, true, false, ◌&&◌, eqb, arith}
+use Rattle.std.specs.List.{filter_map, cons_option, slice_split}
 use Rattle.std.specs.Prelude.{filter, ◌==◌, if◌then◌else◌}
 use Rattle.std.specs.Str.{bytes_eq, trim}
 use Rattle.std.proofs.lemmas.Grind.{flat_map-append}
-use Rattle.wl_admission.specs.Handshakes.{offered}
-use Rattle.std.proofs.lemmas.List.{append-nil, take_more, map-append, length-take}
+use Rattle.wl_admission.specs.Handshakes.{first, offered}
+use Rattle.std.proofs.lemmas.List.{append-nil, at_drop_more, take_more, map-append, length-take, take-append-drop}
 use Rattle.std.proofs.lemmas.List.Elements.{filter-append, filter_map-append}
 
 module _ {X Y : Type 0} (v : X → Y) where
@@ -20,9 +20,27 @@ module _ {X Y : Type 0} (v : X → Y) where
       → filter p (map v (take (i + 1) xs)) ≡ filter p (map v (take i xs)) ++ filter p (v (get_or xs i d) ∷ [])
   filter_seen_more p xs i d lt = ap (filter p) (seen_more xs i d lt) ∙ filter-append p (map v (take i xs)) (v (get_or xs i d) ∷ [])
 
-pub list_any_seen : {X Y : Type 0} (v : X → Y) (p : Y → Bool) (xs : List X) → list_any p (map v xs) ≡ list_any (λ x. p (v x)) xs
-list_any_seen v p [] = refl
-list_any_seen v p (x ∷ xs) = ap (λ b. p (v x) || b) (list_any_seen v p xs)
+-- a list is cut around an element
+pub cut_at : {X : Type 0} (xs : List X) (i : ℕ) (d : X) → i < length xs → xs ≡ take i xs ++ get_or xs i d ∷ drop (i + 1) xs
+cut_at xs i d lt = sym (take-append-drop i xs) ∙ at_drop_more (λ rest. take i xs ++ rest) xs i d lt
+
+-- what h gives first, where it gives nothing before that
+pub first_given_at : {X Y Z : Type 0} (v : X → Y) (h : Y → Option Z) (xs : List X) (i : ℕ) (d : X) (z : Z) → i < length xs
+    → filter_map h (map v (take i xs)) ≡ [] → h (v (get_or xs i d)) ≡ Some z → first (filter_map h (map v xs)) ≡ Some z
+first_given_at v h xs i d z lt before is =
+    ap (λ l. first (filter_map h (map v l))) (cut_at xs i d lt)
+    ∙ ap (λ l. first (filter_map h l)) (map-append v (take i xs) (get_or xs i d ∷ drop (i + 1) xs))
+    ∙ ap first (filter_map-append h (map v (take i xs)) (v (get_or xs i d) ∷ map v (drop (i + 1) xs)))
+    ∙ ap (λ l. first (l ++ filter_map h (v (get_or xs i d) ∷ map v (drop (i + 1) xs)))) before
+    ∙ ap (λ o. first (cons_option o (filter_map h (map v (drop (i + 1) xs))))) is
+
+-- the same, where it gives nothing there either
+pub nothing_given_more : {X Y Z : Type 0} (v : X → Y) (h : Y → Option Z) (xs : List X) (i : ℕ) (d : X) → i < length xs
+    → filter_map h (map v (take i xs)) ≡ [] → h (v (get_or xs i d)) ≡ None → filter_map h (map v (take (i + 1) xs)) ≡ []
+nothing_given_more v h xs i d lt before none =
+    filter_map_more v h xs i d lt
+    ∙ ap (λ l. l ++ cons_option (h (v (get_or xs i d))) []) before
+    ∙ ap (λ o. cons_option o []) none
 
 bytes_eq_snoc : (xs ys : List ℕ) (x y : ℕ) → length xs ≡ length ys → bytes_eq (xs ++ x ∷ []) (ys ++ y ∷ []) ≡ (bytes_eq xs ys && eqb x y)
 bytes_eq_snoc [] [] x y same = grind arith

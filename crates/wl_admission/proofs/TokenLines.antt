@@ -1,16 +1,12 @@
 -- The rules of lines, and the origins of words, one after another.
-use Rattle.std.proofs.Common.{◌≡◌, ◌<◌, ◌+◌, ℕ, List, [], ◌∷◌, ◌++◌, length, take, drop, get_or, map, ap, ◌∙◌, sym, refl, arith, Ok, Err, Result, Option, None, Some}
-use Rattle.std.proofs.lemmas.List.{at_drop_more, length-map, length-take, map-append, take-append-drop}
+use Rattle.std.proofs.Common.{◌≡◌, ◌<◌, ◌+◌, ℕ, List, [], ◌∷◌, ◌++◌, length, take, drop, get_or, map, ap, ◌∙◌, refl, arith, Ok, Err, Result, Option, None, Some}
+use Rattle.std.proofs.lemmas.List.{length-map, length-take, map-append}
 use Rattle.std.specs.Option.{option_or}
 use Rattle.wl_origin.specs.Origin.{Tuple}
-use Rattle.wl_admission.proofs.Lists.{seen_more}
+use Rattle.wl_admission.proofs.Lists.{cut_at, seen_more}
 use Rattle.wl_admission.specs.Scopes.{Reach, tuple_in}
 use Rattle.wl_admission.specs.Tokens.{Rule, onto, reach_by, reach_for, origins_of, rule_in, rule_then, rules_from, words}
 use Rattle.wl_admission.specs.declared.token_file.TokenFileFault.{TokenFileFault}
-
--- a list is cut around an element
-cut_at : {X : Type 0} (xs : List X) (i : ℕ) (d : X) → i < length xs → xs ≡ take i xs ++ get_or xs i d ∷ drop (i + 1) xs
-cut_at xs i d lt = sym (take-append-drop i xs) ∙ at_drop_more (λ rest. take i xs ++ rest) xs i d lt
 
 or_nothing : (o : Option Reach) → option_or o None ≡ option_or None o
 or_nothing None = refl

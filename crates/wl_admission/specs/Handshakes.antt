@@ -1,7 +1,7 @@
 -- Which handshakes are admitted (own).
-use Rattle.std.specs.Prelude.{◌≡◌, ◌≢◌, ℕ, nat_eq, List, [], ◌∷◌, ◌++◌, map, take, drop, length, ◌==◌, ◌&&◌, Bool, true, false, not, Option, Some, None, Ok, Err, Result, codes, if◌then◌else◌}
+use Rattle.std.specs.Prelude.{◌≡◌, ◌≢◌, ℕ, nat_eq, List, [], ◌∷◌, ◌++◌, map, take, drop, ◌==◌, ◌&&◌, Bool, true, false, not, Option, Some, None, Ok, Err, Result, codes, is_some, if◌then◌else◌}
 use Rattle.std.specs.Char.{to_ascii_lowercase}
-use Rattle.std.specs.List.{filter_map, flat_map, list_any, slice_split, starts_with}
+use Rattle.std.specs.List.{filter_map, flat_map, slice_split, starts_with}
 use Rattle.std.specs.Str.{bytes_eq, trim}
 use Rattle.wl_origin.specs.Origin.{Tuple}
 use Rattle.wl_admission.specs.Scopes.{Reach, admits, reach_of, page_reach, tuple_in}
@@ -11,7 +11,8 @@ use Rattle.wl_admission.specs.declared.credentials.Carrier.{Carrier}
 use Rattle.wl_admission.specs.declared.credentials.Carrier.TheVariants as carrier
 use Rattle.wl_admission.specs.declared.rejection.Rejection.{Rejection}
 use Rattle.wl_admission.specs.declared.rejection.Rejection.TheVariants as rejection
-use Rattle.wl_admission.specs.declared.scope.Scope.{Scope}
+use Rattle.wl_admission.specs.declared.subprotocols.Subprotocol.{Subprotocol}
+use Rattle.wl_admission.specs.declared.subprotocols.Subprotocol.TheVariants as subprotocol
 
 -- RFC 9110: "400 Bad Request", "401 Unauthorized", "503 Service Unavailable"
 abbrev pub status_of : Rejection → ℕ
@@ -34,8 +35,24 @@ sender_reach trusted (origin ∷ other ∷ more) = Err rejection.SeveralOrigins
 abbrev pub offered : List (List ℕ) → List (List ℕ)
 offered headers = flat_map (λ header. map trim (slice_split (λ byte. byte == 44) header)) headers
 
-abbrev pub offers_push : List (List ℕ) → Bool
-offers_push subprotocols = list_any (λ subprotocol. bytes_eq subprotocol (codes "weblocks.push")) subprotocols
+abbrev pub name_of : Subprotocol → List ℕ
+name_of subprotocol.Push = codes "weblocks.push"
+name_of subprotocol.Fence = codes "weblocks.fence"
+
+-- the subprotocol of this name, where the server may select it: without an epoch it has no fences
+abbrev pub selectable : Bool → List ℕ → Option Subprotocol
+selectable has_fences name =
+    if bytes_eq name (codes "weblocks.push") then Some subprotocol.Push
+    else if has_fences && bytes_eq name (codes "weblocks.fence") then Some subprotocol.Fence
+    else None
+
+abbrev pub first : {X : Type 0} → List X → Option X
+first [] = None
+first (x ∷ xs) = Some x
+
+-- RFC 6455, sections 1.9 and 4.2.2: of those that a client offers, in the order in which it prefers them, one or none
+abbrev pub selected_of : Bool → List (List ℕ) → Option Subprotocol
+selected_of has_fences subprotocols = first (filter_map (selectable has_fences) subprotocols)
 
 -- RFC 6750, section 2.1; RFC 9110, section 11.1: the scheme's letters in any case
 abbrev pub bearer_of_header : List ℕ → Option (List ℕ)
@@ -61,30 +78,31 @@ token_reach (Some rules) [] = Err rejection.NoToken
 token_reach (Some rules) (token ∷ []) = reach_or_unknown (reach_by rules token)
 token_reach (Some rules) (token ∷ other ∷ more) = Err rejection.SeveralTokens
 
--- what whoever is admitted may open, as a page and by a token, and whether changes are pushed
+-- what whoever is admitted may open, as a page and by a token, and the subprotocol that is selected
 abbrev pub Terms : Type 0
-Terms = (Reach × Reach) × Bool
+Terms = (Reach × Reach) × Option Subprotocol
 
 abbrev pub is_empty : List (List ℕ) → Bool
 is_empty [] = true
 is_empty (x ∷ xs) = false
 
-abbrev pub terms_with : Reach → Bool → Result Reach Rejection → Result Terms Rejection
-terms_with page is_pushed (Err reason) = Err reason
-terms_with page is_pushed (Ok token) = Ok ((page, token), is_pushed)
+abbrev pub terms_with : Reach → Option Subprotocol → Result Reach Rejection → Result Terms Rejection
+terms_with page selected (Err reason) = Err reason
+terms_with page selected (Ok token) = Ok ((page, token), selected)
 
 -- a token among the subprotocols wants one beside it that is selected: RFC 6455, section 4.2.2
-abbrev pub terms_by : Option (List Rule) → List (List ℕ) → List (List ℕ) → Result Reach Rejection → Result Terms Rejection
-terms_by rules header_tokens subprotocols (Err reason) = Err reason
-terms_by rules header_tokens subprotocols (Ok page) =
+abbrev pub terms_by : Option (List Rule) → Bool → List (List ℕ) → List (List ℕ) → Result Reach Rejection → Result Terms Rejection
+terms_by rules has_fences header_tokens subprotocols (Err reason) = Err reason
+terms_by rules has_fences header_tokens subprotocols (Ok page) =
     let tokens = filter_map (bearer_of carrier.Subprotocol) subprotocols in
-    if not (is_empty tokens) && not (offers_push subprotocols) then Err rejection.TokenAlone
-    else terms_with page (offers_push subprotocols) (token_reach rules (header_tokens ++ tokens))
+    let selected = selected_of has_fences subprotocols in
+    if not (is_empty tokens) && not (is_some selected) then Err rejection.TokenAlone
+    else terms_with page selected (token_reach rules (header_tokens ++ tokens))
 
 -- what comes of a handshake, by its headers `Origin`, `Authorization` and `Sec-WebSocket-Protocol`
-abbrev pub terms_of : Reach → Option (List Rule) → List (List ℕ) → List (List ℕ) → List (List ℕ) → Result Terms Rejection
-terms_of trusted rules origins authorizations headers =
-    terms_by rules (filter_map (bearer_of carrier.Header) authorizations) (offered headers) (sender_reach trusted origins)
+abbrev pub terms_of : Reach → Option (List Rule) → Bool → List (List ℕ) → List (List ℕ) → List (List ℕ) → Result Terms Rejection
+terms_of trusted rules has_fences origins authorizations headers =
+    terms_by rules has_fences (filter_map (bearer_of carrier.Header) authorizations) (offered headers) (sender_reach trusted origins)
 
 -- a URL has to be open to both: to the page, and to the token
 abbrev pub may_open : Terms → Option Tuple → Bool
@@ -92,7 +110,7 @@ may_open terms origin = admits terms.0.0 origin && admits terms.0.1 origin
 
 -- what was admitted
 abbrev pub terms_for : Admitted → Terms
-terms_for admitted = ((reach_of admitted.page, reach_of admitted.token), admitted.is_pushed)
+terms_for admitted = ((reach_of admitted.page, reach_of admitted.token), admitted.selected)
 
 -- the answer is the expected one, unless memory ran out
 abbrev pub Answers : {X Y : Type 0} → (Y → X) → Result X Rejection → Result Y Rejection → Type 0

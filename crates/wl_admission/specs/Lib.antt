@@ -2,3 +2,4 @@ pub mod Scopes
 pub mod Tokens
 pub mod Handshakes
 pub mod Places
+pub mod Loopback

@@ -1,5 +1,5 @@
 -- How many may be connected at once (own).
-use Rattle.std.specs.Prelude.{◌≡◌, ◌≢◌, ℕ, ◌+◌, ◌-◌, nat_lt, ◌&&◌, Bool, true, false, unwrap_or, if◌then◌else◌}
+use Rattle.std.specs.Prelude.{◌≡◌, ◌≢◌, ℕ, ◌-◌, nat_lt, ◌&&◌, Bool, unwrap_or, if◌then◌else◌}
 use Rattle.std.specs.BTreeMap.{get}
 use Rattle.std.specs.Ordering.{nat_cmp}
 use Rattle.wl_admission.specs.declared.places.PlaceLimits.{PlaceLimits}

@@ -1,5 +1,5 @@
 -- Tokens and the file that lists them (own).
-use Rattle.std.specs.Prelude.{◌≡◌, ◌≢◌, ℕ, ◌+◌, ◌<◌, List, [], ◌∷◌, map, filter, length, nat_lt, ◌==◌, ◌&&◌, ◌||◌, Bool, Option, Some, None, Ok, Err, Result, codes, string_bytes, if◌then◌else◌}
+use Rattle.std.specs.Prelude.{◌≡◌, ◌≢◌, ℕ, ◌+◌, List, [], ◌∷◌, map, filter, length, nat_lt, ◌==◌, ◌&&◌, ◌||◌, Bool, Option, Some, None, Ok, Err, Result, codes, string_bytes, if◌then◌else◌}
 use Rattle.std.specs.Char.{is_ascii_alphanumeric}
 use Rattle.std.specs.List.{list_all, list_any, slice_split}
 use Rattle.std.specs.Option.{option_or}

@@ -1,6 +1,6 @@
 //! Who is admitted.
 
-ghost use Rattle.std.specs.Prelude.{◌≡◌, ◌++◌, Some, map, option_map};
+ghost use Rattle.std.specs.Prelude.{◌≡◌, ◌++◌, Some, is_some, map, option_map};
 ghost use Rattle.std.specs.List.{filter_map};
 ghost use Rattle.std.specs.Option.{option_copied};
 ghost use Rattle.wl_origin.specs.Standing.{tuple_of};
@@ -13,7 +13,7 @@ use crate::credentials::{Carrier, tokens_in};
 use crate::page::sender_scope;
 use crate::rejection::Rejection;
 use crate::scope::Scope;
-use crate::subprotocols::{offers_push, subprotocols};
+use crate::subprotocols::{Subprotocol, selected_of, subprotocols};
 use crate::tokens::Tokens;
 use std::alloc::Global;
 use wl_origin::Standing;
@@ -36,6 +36,8 @@ pub struct Rules {
     pub trusted: Scope,
     /// The tokens of which a handshake has to bring one; none where it need not.
     pub tokens: Option<Tokens>,
+    /// Whether the subprotocol `weblocks.fence` may be selected, for which a server needs an epoch.
+    pub has_fences: bool,
 }
 
 /// Whoever was admitted.
@@ -45,11 +47,18 @@ pub struct Admitted {
     pub page: Scope,
     /// What the handshake's token lets open.
     pub token: Scope,
-    /// Whether the subprotocol `weblocks.push` is selected.
-    pub is_pushed: bool,
+    /// The subprotocol that is selected, if one is.
+    pub selected: Option<Subprotocol>,
 }
 
 impl Admitted {
+    /// Whether changes are pushed, as over each subprotocol that a server selects.
+    pub fn is_pushed(&self) -> bool
+        ensures { result ≡ is_some self.now.selected }
+    {
+        self.selected.is_some()
+    }
+
     /// Whether a URL of this origin may be opened.
     pub fn may_open(&self, origin: &Standing) -> bool
         ensures { result ≡ may_open (terms_for self.now) (tuple_of origin.now) }
@@ -62,17 +71,17 @@ impl Admitted {
 /// reasons the first counts, in this order: the `Origin` headers, a token without a subprotocol that the server
 /// selects, the number of tokens, the token.
 pub fn admit(alloc: Global, hello: &Hello<'_>, rules: &Rules) -> Result<Admitted, Rejection>
-    ensures { Answers terms_for (terms_of (reach_of rules.now.trusted) (option_map rules_of rules.now.tokens) (map (λ h. h.now) hello.now.origins.now) (map (λ h. h.now) hello.now.authorizations.now) (map (λ h. h.now) hello.now.subprotocols.now)) result }
+    ensures { Answers terms_for (terms_of (reach_of rules.now.trusted) (option_map rules_of rules.now.tokens) rules.now.has_fences (map (λ h. h.now) hello.now.origins.now) (map (λ h. h.now) hello.now.authorizations.now) (map (λ h. h.now) hello.now.subprotocols.now)) result }
 {
     let page = sender_scope(alloc, hello.origins, &rules.trusted)?;
     let Ok(offered) = subprotocols(alloc, hello.subprotocols) else {
         return Err(Rejection::Memory);
     };
-    let is_pushed = offers_push(offered.as_slice());
+    let selected = selected_of(offered.as_slice(), rules.has_fences);
     let Ok(tokens) = tokens_in(alloc, Carrier::Subprotocol, offered.as_slice()) else {
         return Err(Rejection::Memory);
     };
-    if !tokens.is_empty() && !is_pushed {
+    if !tokens.is_empty() && selected.is_none() {
         return Err(Rejection::TokenAlone);
     }
     let token = token_scope(
@@ -84,7 +93,7 @@ pub fn admit(alloc: Global, hello: &Hello<'_>, rules: &Rules) -> Result<Admitted
     Ok(Admitted {
         page,
         token,
-        is_pushed,
+        selected,
     })
 }
 

@@ -53,13 +53,14 @@ impl Carrier {
     {
         let bytes = text.as_bytes();
         match self {
-            Carrier::Header => header_bearer(bytes),
+            Carrier::Header => bearer_in_header(bytes),
             Carrier::Subprotocol => subprotocol_bearer(bytes),
         }
     }
 }
 
-fn header_bearer(bytes: &[u8]) -> Option<&[u8]>
+/// The token of an `Authorization` header, if it has one of a bearer's.
+pub fn bearer_in_header(bytes: &[u8]) -> Option<&[u8]>
     ensures { option_map (λ t. t.now) result ≡ bearer_of_header bytes.now }
 {
     if bytes.len() < SCHEME.len() {

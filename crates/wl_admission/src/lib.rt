@@ -7,6 +7,7 @@
 
 mod admitting;
 mod credentials;
+mod loopback;
 mod page;
 mod pieces;
 mod places;
@@ -17,8 +18,11 @@ mod token_file;
 mod tokens;
 
 pub use admitting::{Admitted, Hello, Rules, admit};
+pub use credentials::bearer_in_header;
+pub use loopback::is_of_this_machine;
 pub use places::{PlaceLimits, Places, Source};
 pub use rejection::Rejection;
 pub use scope::{Scope, origin_in};
+pub use subprotocols::Subprotocol;
 pub use token_file::{TokenFileFault, read_tokens};
 pub use tokens::{Grant, Tokens};

@@ -48,7 +48,7 @@ impl Rejection {
             Rejection::BadHeader => "a header that is no text",
             Rejection::SeveralOrigins => "more than one Origin header",
             Rejection::SeveralTokens => "more than one token",
-            Rejection::TokenAlone => "a bearer subprotocol without weblocks.push",
+            Rejection::TokenAlone => "a bearer subprotocol without one that is selected",
             Rejection::NoToken => "no token",
             Rejection::UnknownToken => "unknown token",
             Rejection::NoPlace => "too many connections",

@@ -2,13 +2,35 @@
 
 ghost use Rattle.std.specs.Prelude.{◌≡◌, ◌++◌, IfOk, OnOk, map};
 ghost use Rattle.std.specs.Str.{trim};
-ghost use Rattle.wl_admission.specs.Handshakes.{offered, offers_push};
+ghost use Rattle.wl_admission.specs.Handshakes.{name_of, offered, selectable, selected_of};
 
 use crate::pieces::pieces;
 use std::alloc::{AllocError, Global};
 
-/// The subprotocol of a peer that wants changes pushed.
-pub const PUSH: &str = "weblocks.push";
+const PUSH: &str = "weblocks.push";
+
+const FENCE: &str = "weblocks.fence";
+
+/// A subprotocol that a server may select.
+#[derive(Clone, Copy, Debug, PartialEq, Eq)]
+pub enum Subprotocol {
+    /// `weblocks.push`, of a peer that wants changes pushed.
+    Push,
+    /// `weblocks.fence`, of a peer that wants changes pushed, and a fencing token with each grant.
+    Fence,
+}
+
+impl Subprotocol {
+    /// The name by which a handshake offers it, and an answer selects it.
+    pub fn name(self) -> &'static str
+        ensures { result.now ≡ name_of self }
+    {
+        match self {
+            Subprotocol::Push => PUSH,
+            Subprotocol::Fence => FENCE,
+        }
+    }
+}
 
 /// The subprotocols of these `Sec-WebSocket-Protocol` headers, in their order (RFC 6455, section 11.3.4: each is a list
 /// with commas).
@@ -31,9 +53,27 @@ fn push_trimmed<'a>(found: &mut Vec<&'a str>, pieces: &[&'a str]) -> Result<(), 
     Ok(())
 }
 
-/// Whether the one that asks for pushes is among them.
-pub fn offers_push(subprotocols: &[&str]) -> bool
-    ensures { result ≡ offers_push (map (λ p. p.now) subprotocols.now) }
+/// The first of these that the server selects.
+pub fn selected_of(subprotocols: &[&str], has_fences: bool) -> Option<Subprotocol>
+    ensures { result ≡ selected_of has_fences (map (λ p. p.now) subprotocols.now) }
 {
-    subprotocols.contains(&PUSH)
+    for name in subprotocols {
+        if let Some(selected) = selectable(name, has_fences) {
+            return Some(selected);
+        }
+    }
+    None
+}
+
+/// The subprotocol of this name, where the server may select it.
+fn selectable(name: &str, has_fences: bool) -> Option<Subprotocol>
+    ensures { result ≡ selectable has_fences name.now }
+{
+    if name == PUSH {
+        Some(Subprotocol::Push)
+    } else if has_fences && name == FENCE {
+        Some(Subprotocol::Fence)
+    } else {
+        None
+    }
 }

@@ -2,6 +2,7 @@
 //!
 //! - `trust WORD ..`: the origins whose pages may open all, or `*`;
 //! - `tokens LINE;LINE;..`: the lines of a token file;
+//! - `fences`: from now on the server has fencing tokens to give;
 //! - `hello HEADER; HEADER; ..`: a handshake with these headers, by their first letters (`o`, `a`, `s`), each with its value
 //!   behind a colon;
 //! - `open URL`: whether whoever was admitted last may open it;
@@ -13,11 +14,12 @@ use std::net::IpAddr;
 use std::sync::Wait;
 use std::test::Fail;
 use wl_admission::{
-    Admitted, Hello, PlaceLimits, Places, Rules, Scope, Source, admit, origin_in, read_tokens,
+    Admitted, Hello, PlaceLimits, Places, Rules, Scope, Source, Subprotocol, admit, origin_in,
+    read_tokens,
 };
 use wl_origin::key_of;
 
-const LISTS: [&str; 6] = [
+const LISTS: [&str; 7] = [
     // Programs and pages.
     "hello  -> admitted
 open https://a.test/ -> may
@@ -58,9 +60,23 @@ hello s:chat,\tweblocks.push , x -> admitted, pushed
 hello s:chat; s:weblocks.push -> admitted, pushed
 hello s:chat -> admitted
 hello s:weblocks.pushes -> admitted
-hello s:weblocks.bearer.x -> 400 a bearer subprotocol without weblocks.push
+hello s:weblocks.bearer.x -> 400 a bearer subprotocol without one that is selected
 hello s:weblocks.bearer.x, weblocks.push -> admitted, pushed
 hello a:Bearer x -> admitted
+",
+    // Fencing tokens.
+    "hello s:weblocks.fence -> admitted
+hello s:weblocks.fence, weblocks.push -> admitted, pushed
+hello s:weblocks.fence, weblocks.bearer.x -> 400 a bearer subprotocol without one that is selected
+fences  -> are there
+hello s:weblocks.fence -> admitted, pushed with fences
+hello s:weblocks.fence, weblocks.push -> admitted, pushed with fences
+hello s:weblocks.push, weblocks.fence -> admitted, pushed
+hello s:chat; s:weblocks.push; s:weblocks.fence -> admitted, pushed
+hello s:weblocks.fence, weblocks.bearer.x -> admitted, pushed with fences
+hello s:Weblocks.fence -> admitted
+hello s:weblocks.bearer.x -> 400 a bearer subprotocol without one that is selected
+hello s: -> admitted
 ",
     // Tokens.
     "tokens one;two https://a.test;three https://a.test http://b.test;one https://c.test -> 4 tokens
@@ -84,7 +100,7 @@ open https://a.test/ -> may not
 hello s:weblocks.push, weblocks.bearer.two -> admitted, pushed
 open https://a.test/ -> may
 hello s:weblocks.push, weblocks.bearer.two; a:Bearer two -> 400 more than one token
-hello s:weblocks.bearer.four -> 400 a bearer subprotocol without weblocks.push
+hello s:weblocks.bearer.four -> 400 a bearer subprotocol without one that is selected
 ",
     // The file of tokens.
     "tokens  -> 0 tokens
@@ -136,6 +152,7 @@ impl Scene for Server {
             rules: Rules {
                 trusted: Scope::Only(Vec::new(alloc)),
                 tokens: None,
+                has_fences: false,
             },
             places: Places::new(alloc, limits),
             admitted: None,
@@ -146,6 +163,10 @@ impl Scene for Server {
         match word(call, 0) {
             "trust" => self.trust(rest(call), came),
             "tokens" => self.read(rest(call), came),
+            "fences" => {
+                self.rules.has_fences = true;
+                Ok(came.push_str("are there")?)
+            }
             "hello" => self.greet(rest(call), came),
             "open" => self.open(rest(call), came),
             "take" => self.take(rest(call), came),
@@ -199,8 +220,11 @@ impl Server {
         match admit(self.alloc, &hello, &self.rules) {
             Ok(admitted) => {
                 came.push_str("admitted")?;
-                if admitted.is_pushed {
+                if admitted.is_pushed() {
                     came.push_str(", pushed")?;
+                }
+                if admitted.selected == Some(Subprotocol::Fence) {
+                    came.push_str(" with fences")?;
                 }
                 self.admitted = Some(admitted);
             }

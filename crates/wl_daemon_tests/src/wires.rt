@@ -31,6 +31,7 @@ fn greeted(alloc: Global, script: Script) -> Result<Greeted<Script>, AllocError>
     let rules = Rules {
         trusted: Scope::All,
         tokens: None,
+        has_fences: true,
     };
     let rules = Arc::new(alloc, rules)?;
     let mut greeting = Greeting::new(alloc, script, Some(rules))?;
@@ -83,7 +84,7 @@ fn greeted_text(alloc: Global, script: Script) -> Result<&'static str, AllocErro
 fn told_of(greeted: &Greeted<Script>) -> &'static str {
     match greeted {
         Greeted::Waits(_) => "waits",
-        Greeted::Open(_, admitted) if admitted.is_pushed => PUSHED,
+        Greeted::Open(_, admitted) if admitted.is_pushed() => PUSHED,
         Greeted::Open(_, _) => OPEN,
         Greeted::Refused(rejection) => rejection.text(),
         Greeted::Failed => "failed",

@@ -192,7 +192,7 @@ impl<'a, R: Wait, H: Host> Connection<'a, R, H> {
     }
 
     fn begin(&mut self, wire: Wire<TcpStream>, admitted: Admitted, now: u64) -> Next {
-        self.wants_pushes = admitted.is_pushed;
+        self.wants_pushes = admitted.is_pushed();
         match self.host.begin(self.rt, self.place, admitted) {
             Ok(speaker) => {
                 let seat = Seat::new(self.rt, speaker);

@@ -104,6 +104,7 @@ impl<'a, 'b, R: Wait + Clock, H: Host> EventLoop<'a, 'b, R, H> {
             }
             self.wait(&mut events)?;
             self.look_at_clock();
+            self.answer_beat();
             self.take_events(&events);
             self.take_newcomers();
             // What is marked by now is mostly news from other loops, and behind these turns what they changed here.
@@ -152,6 +153,14 @@ impl<'a, 'b, R: Wait + Clock, H: Host> EventLoop<'a, 'b, R, H> {
     fn look_at_clock(&mut self) {
         if let Ok(now) = Instant::now(self.rt) {
             self.now = millis(now.duration_since(self.start));
+            self.shared.host.tell_time(self.now);
+        }
+    }
+
+    /// Answers whoever asked whether this loop has turns.
+    fn answer_beat(&self) {
+        if let Some(inbox) = self.shared.inboxes.get(self.number) {
+            inbox.answer(self.shared.beat());
         }
     }
 

@@ -73,6 +73,10 @@ pub trait Host {
     /// Is told what happens. It should be short: the loop waits for it.
     fn note(&self, event: Event);
 
+    /// Is told the time by each loop in each of its turns, in milliseconds since the start that all loops have. A loop
+    /// that waited longer may be late with an earlier one.
+    fn tell_time(&self, now: u64);
+
     /// The ring of the loop of this number, from 0; none where there is no such loop.
     fn ring(&self, event_loop: usize) -> Option<&Self::Ring>;
 

@@ -9,8 +9,10 @@ use mio::{Poll, Token, Waker};
 use std::alloc::{AllocError, Global};
 use std::io;
 use std::net::Net;
-use std::sync::atomic::{AtomicBool, Ordering};
+use std::sync::atomic::{AtomicBool, AtomicU64, Ordering};
 use std::sync::{Arc, Mutex, Wait};
+use std::thread::sleep;
+use std::time::{Clock, Duration};
 use wl_admission::{PlaceLimits, Places, Rejection, Rules, Source};
 
 /// The token of a loop's waker.
@@ -22,6 +24,11 @@ const TURNED_AWAY: PlaceLimits = PlaceLimits {
     by_address: 8,
     by_loopback: 64,
 };
+
+/// The looks at whether all loops have answered, and the milliseconds between two of them: 2 s in all.
+const LOOKS: u32 = 200;
+
+const PAUSE: u64 = 10;
 
 /// Which place a connection has.
 #[derive(Clone, Copy, Debug, PartialEq, Eq)]
@@ -63,6 +70,8 @@ pub(crate) struct Inbox {
     arrivals: Mutex<Vec<Arrival>>,
     // A stream or a connection was given to the loop since it last took them in.
     has_newcomers: AtomicBool,
+    // The last beat that the loop answered.
+    answered: AtomicU64,
 }
 
 impl Inbox {
@@ -72,6 +81,14 @@ impl Inbox {
             is_asleep: AtomicBool::new(false),
             arrivals: Mutex::new(Vec::new(alloc)),
             has_newcomers: AtomicBool::new(false),
+            answered: AtomicU64::new(0),
+        }
+    }
+
+    /// The loop is there, and was asked for that by this beat.
+    pub fn answer(&self, beat: u64) {
+        if self.answered.load(Ordering::SeqCst) != beat {
+            self.answered.store(beat, Ordering::SeqCst);
         }
     }
 
@@ -128,6 +145,10 @@ pub struct Shared<H> {
     turned_away: Mutex<Places>,
     rules: Mutex<Arc<Rules, Global>>,
     is_ending: AtomicBool,
+    // How often it was asked whether the loops are there.
+    beat: AtomicU64,
+    // The connections that ever had a place.
+    ever: AtomicU64,
 }
 
 /// What is shared, and each loop's own poll.
@@ -167,6 +188,8 @@ where
             turned_away: Mutex::new(Places::new(alloc, TURNED_AWAY)),
             rules: Mutex::new(rules),
             is_ending: AtomicBool::new(false),
+            beat: AtomicU64::new(0),
+            ever: AtomicU64::new(0),
         },
         polls,
     })
@@ -178,6 +201,11 @@ impl<H> Shared<H> {
         let rules = Arc::new(self.alloc, rules)?;
         *self.rules.lock(rt) = rules;
         Ok(())
+    }
+
+    /// The rules by which handshakes are admitted now. `Memory` comes only where the count of their owners is used up.
+    pub fn rules<R: Wait>(&self, rt: &R) -> Result<Arc<Rules, Global>, AllocError> {
+        Arc::try_clone(&*self.rules.lock(rt))
     }
 
     /// The rules by which a connection with this place is admitted: none where it is turned away.
@@ -199,7 +227,10 @@ impl<H> Shared<H> {
         ensures { IfSome result (λ hold. source_of hold ≡ source) }
     {
         match self.places.lock(rt).take(source) {
-            Ok(()) => return Some(Hold::Served(source)),
+            Ok(()) => {
+                self.ever.fetch_add(1, Ordering::SeqCst);
+                return Some(Hold::Served(source));
+            }
             Err(Rejection::NoPlace) => {}
             Err(_) => return None,
         }
@@ -219,6 +250,38 @@ impl<H> Shared<H> {
     /// How many connections have a place.
     pub fn connections<R: Wait>(&self, rt: &R) -> u32 {
         self.places.lock(rt).taken()
+    }
+
+    /// How many connections ever had one.
+    pub fn connections_ever(&self) -> u64 {
+        self.ever.load(Ordering::SeqCst)
+    }
+
+    /// Whether each loop has a turn within 2 s. It waits until all had one, or for that long.
+    pub fn all_answer<C: Clock>(&self, clock: &C) -> bool {
+        let beat = self.beat.fetch_add(1, Ordering::SeqCst).wrapping_add(1);
+        for inbox in &self.inboxes {
+            inbox.rouse();
+        }
+        for _ in 0..LOOKS {
+            if self.have_answered(beat) {
+                return true;
+            }
+            sleep(clock, Duration::from_millis(PAUSE));
+        }
+        self.have_answered(beat)
+    }
+
+    /// Whether each loop has answered this beat, or a later one.
+    fn have_answered(&self, beat: u64) -> bool {
+        self.inboxes
+            .iter()
+            .all(|inbox| inbox.answered.load(Ordering::SeqCst) >= beat)
+    }
+
+    /// The last beat.
+    pub(crate) fn beat(&self) -> u64 {
+        self.beat.load(Ordering::SeqCst)
     }
 
     pub(crate) fn is_ending(&self) -> bool {

@@ -5,7 +5,7 @@ use std::alloc::Global;
 use std::sync::{Arc, OnceLock};
 use tungstenite::Callback;
 use tungstenite::handshake::server::ErrorResponse;
-use wl_admission::{Admitted, Hello, Rejection, Rules, admit};
+use wl_admission::{Admitted, Hello, Rejection, Rules, Subprotocol, admit};
 
 /// Answers one handshake. What came of it stands in `verdict` from then on.
 #[derive(Drop)]
@@ -70,6 +70,24 @@ impl Greeter {
     }
 }
 
+/// Says in an answer that this subprotocol is selected.
+fn select(response: &mut Response<()>, subprotocol: Subprotocol) -> Result<(), Rejection> {
+    let name = HeaderName::from_static("sec-websocket-protocol");
+    let selected = HeaderValue::from_static(subprotocol.name());
+    match response.headers_mut().insert(name, selected) {
+        Ok(_) => Ok(()),
+        Err(_) => Err(Rejection::Memory),
+    }
+}
+
+/// Whoever was admitted, once the answer says which subprotocol is selected.
+fn answered(response: &mut Response<()>, admitted: Admitted) -> Result<Admitted, Rejection> {
+    if let Some(subprotocol) = admitted.selected {
+        select(response, subprotocol)?;
+    }
+    Ok(admitted)
+}
+
 impl Callback for Greeter {
     fn on_request(
         self,
@@ -78,17 +96,8 @@ impl Callback for Greeter {
     ) -> Result<Response<()>, ErrorResponse> {
         let mut response = response;
         let verdict = match self.judge(request.headers()) {
-            Ok(admitted) if admitted.is_pushed => {
-                let name = HeaderName::from_static("sec-websocket-protocol");
-                match response
-                    .headers_mut()
-                    .insert(name, HeaderValue::from_static("weblocks.push"))
-                {
-                    Ok(_) => Ok(admitted),
-                    Err(_) => Err(Rejection::Memory),
-                }
-            }
-            verdict => verdict,
+            Ok(admitted) => answered(&mut response, admitted),
+            refused => refused,
         };
         let answer = match &verdict {
             Ok(_) => Ok(response),
