@@ -149,6 +149,11 @@ many [default: 30]
       --token-file <FILE>      File with a token a line, and the origins that it may open; whoever has none stays out
       --open                   Listen beyond this machine without a token file
       --allow-origin <ORIGIN>  Origin whose pages may open any URL; '*' is each origin. May be given again
+      --status <ADDRESS:PORT>  Address and port to show the status at, over HTTP; port 0 is any that is free
+      --status-host <NAME>     Host by which requests for the status may name it too, as behind a proxy. May be given \
+again
+      --epoch <NUMBER>         Epoch of the fencing tokens, 1 to 9223372036854775807: greater than at each start before
+      --epoch-file <FILE>      File that keeps the epoch, which each start makes one greater; 1 where there is none yet
       --while-input            End when standard input ends
       --log <LEVEL>            What goes to standard error: off, error, warn, info, debug or trace [default: info]
   -h, --help                   Print help
@@ -158,6 +163,9 @@ Example:
 
   A line once it listens:
   listening 127.0.0.1:8080
+
+  With --status 127.0.0.1:8081 a second one, and http://127.0.0.1:8081/ shows the locks:
+  status 127.0.0.1:8081
 
 Tokens, pages, pushes and close codes: docs/FORMATS.md.
 """
@@ -258,7 +266,7 @@ def no_value(option, value, why):
 
 
 PORT, CLIENTS = "--port <PORT>", "--clients <NUMBER>"
-LISTEN, LOG = "--listen <ADDRESS:PORT>", "--log <LEVEL>"
+LISTEN, LOG, EPOCH = "--listen <ADDRESS:PORT>", "--log <LEVEL>", "--epoch <NUMBER>"
 
 # Words, and what is said of them.
 WRONG = [
@@ -306,6 +314,12 @@ WRONG = [
       for value in (0, most + 1)),
     ("daemon --idle x", "invalid value 'x' for '--idle <SECONDS>': invalid digit found in string"),
     ("daemon --token-file", "a value is required for '--token-file <FILE>' but none was supplied"),
+    ("daemon --epoch 1 --epoch-file e",
+     "the argument '--epoch <NUMBER>' cannot be used with '--epoch-file <FILE>'" + USAGE[""]),
+    # The greatest number of its type is to `clap` as no limit.
+    ("daemon --epoch 0", f"invalid value '0' for '{EPOCH}': 0 is not in 1..{2**63 - 1}"),
+    (f"daemon --epoch {2**63}", f"invalid value '{2**63}' for '{EPOCH}': number too large to fit in target type"),
+    ("daemon --epoch-file", "a value is required for '--epoch-file <FILE>' but none was supplied"),
 ]
 
 NO_COMMAND = """\

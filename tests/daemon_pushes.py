@@ -7,7 +7,7 @@ import socket
 import threading
 import time
 
-from daemon_server import PUSH, Closed, Daemon, framed
+from daemon_server import PUSH, Closed, Daemon, framed, until_true
 from running import Wrong, expect
 
 URL = "https://a.test/"
@@ -360,6 +360,8 @@ def no_wake_for_an_own_change(program):
                 expect("the release", peer.get(), released(n))
         expect("the wakes", writes() - before, 0)
         locks = [json.loads(peer.ask(request(1)))["ok"]["request"] for peer in peers[:2]]
+        # A loop that is still awake, as on a loaded machine, isn't woken.
+        until_true("whether the loops sleep", daemon.is_asleep)
         peers[0].ask(release(2, locks[0]))
         expect("the push", peers[1].get(), push(("granted", locks[1])))
         time.sleep(0.1)

@@ -1,11 +1,7 @@
 -- Who may come in, by the words of the command line (own).
-use Rattle.std.specs.Prelude.{◌≡◌, ℕ, ◌+◌, ◌/◌, List, Option, Some, None, option_map, unwrap_or, Bool, codes, if◌then◌else◌}
+use Rattle.std.specs.Prelude.{ℕ, ◌+◌, ◌/◌, List, Option, Some, None, option_map, unwrap_or, Bool, codes, if◌then◌else◌}
 use Rattle.std.specs.List.{list_any}
-use Rattle.std.specs.Net.Addr.{IsCanonicalOf, IsLoopbackV4, IsLoopbackV6, MatchIp}
-use Rattle.std.specs.Net.Socket.{socket_ip}
 use Rattle.std.specs.Str.{bytes_eq}
-use Rattle.std.specs.declared.net.ip_addr.IpAddr.{IpAddr}
-use Rattle.std.specs.declared.net.socket_addr.SocketAddr.{SocketAddr}
 use Rattle.wl_admission.specs.Scopes.{Reach}
 use Rattle.wl_admission.specs.Tokens.{origins_of}
 use Rattle.wl_admission.specs.declared.places.PlaceLimits.{PlaceLimits}
@@ -24,11 +20,3 @@ places_for connections per_address = record {
   by_address = unwrap_or per_address ((connections + 3) / 4);
   by_loopback = unwrap_or per_address connections;
 }
-
--- one address for both: IPv4 where it stands in IPv6 for one
-abbrev pub IsCanonical : IpAddr → IpAddr → Type 0
-IsCanonical given canonical = MatchIp given (λ v4. canonical ≡ given) (λ v6. IsCanonicalOf v6 canonical)
-
--- whoever connects there is on this machine
-abbrev pub IsOfThisMachine : SocketAddr → Type 0
-IsOfThisMachine address = (ip : IpAddr) × IsCanonical (socket_ip address) ip × MatchIp ip IsLoopbackV4 IsLoopbackV6

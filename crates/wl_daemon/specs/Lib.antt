@@ -1,2 +1,4 @@
 pub mod Entry
 pub mod Desks
+pub mod Epochs
+pub mod Fencing

@@ -89,7 +89,7 @@ impl<'a> Desk<'a> {
 
     /// Marks the connection where something changed for it, twice the same; none where its peer wants no pushes.
     fn bells(&self) -> Result<Option<(Bell, Bell)>, Memory> {
-        if !self.admitted.is_pushed {
+        if !self.admitted.is_pushed() {
             return Ok(None);
         }
         let bell = Bell::new(self.alloc, self.event_loop.ring.places(), self.key)?;
@@ -154,6 +154,7 @@ impl Opener for Desk<'_> {
         let meeting = self.meeting_at(url, &bucket);
         match self.service.open_heard(rt, url, bucket, kind, bell) {
             Ok(client) => {
+                self.event_loop.counts.opened.add(1);
                 self.keep(rt, kept, meeting);
                 Ok(client)
             }
@@ -162,6 +163,7 @@ impl Opener for Desk<'_> {
     }
 
     fn close<R: Wait>(&self, rt: &R, client: Client) -> Option<Leaving> {
+        self.event_loop.counts.closed.add(1);
         self.service.close(rt, client)
     }
 }

@@ -1,18 +1,19 @@
 //! Who may come in, by the words of the command line.
 
-ghost use Rattle.std.specs.Prelude.{◌≡◌, ◌||◌, false, is_some, true, Err, None, Some, map, IfOk};
+ghost use Rattle.std.specs.Prelude.{◌≡◌, ◌||◌, false, is_some, Err, None, Some, map, IfOk, OnOk};
 ghost use Rattle.std.specs.List.{list_any};
+ghost use Rattle.wl_admission.specs.Loopback.{IsOfThisMachine};
 ghost use Rattle.wl_admission.specs.Scopes.{reach_of};
 ghost use Rattle.wl_admission.specs.Tokens.{origins_of};
 ghost use Rattle.wl_daemon.specs.declared.entry.EntryFault.TheVariants.{BadOrigin};
-ghost use Rattle.wl_daemon.specs.Entry.{IsOfThisMachine, is_star, places_for, trusted_reach};
+ghost use Rattle.wl_daemon.specs.Entry.{is_star, places_for, trusted_reach};
 
 use crate::token_file::{FileFault, TokenFile};
 use std::alloc::Global;
 use std::fs::Files;
 use std::net::SocketAddr;
 use thiserror::Error;
-use wl_admission::{PlaceLimits, Rules, Scope, Tokens, origin_in};
+use wl_admission::{PlaceLimits, Rules, Scope, Tokens, is_of_this_machine, origin_in};
 use wl_origin::OriginKey;
 use wl_types::Memory;
 
@@ -91,26 +92,37 @@ fn keys_of<'a>(alloc: Global, texts: &[&'a str]) -> Result<Vec<OriginKey>, Entry
     Ok(keys)
 }
 
-/// The rules of a server whose pages and tokens are these.
+/// The rules of a server whose pages and tokens are these, and which may have fencing tokens to give.
 pub fn rules_with<'a>(
     alloc: Global,
     origins: &[&'a str],
     tokens: Option<Tokens>,
+    has_fences: bool,
 ) -> Result<Rules, EntryFault<'a>>
     ensures trusted { IfOk result (λ rules. trusted_reach (map (λ o. o.now) origins.now) ≡ Some (reach_of rules.trusted)) }
     ensures tokens { IfOk result (λ rules. rules.tokens ≡ tokens) }
+    ensures fences { IfOk result (λ rules. rules.has_fences ≡ has_fences) }
 {
     Ok(Rules {
         trusted: trusted_scope(alloc, origins)?,
         tokens,
+        has_fences,
     })
 }
 
-/// Whether an address is of this machine alone.
-fn is_of_this_machine(address: SocketAddr) -> bool
-    ensures { result ≡ true → IsOfThisMachine address }
+/// Refuses an address for the status that is reached from other machines, where whoever asks there would be told.
+pub fn check_status<'a>(
+    address: SocketAddr,
+    has_tokens: bool,
+    is_open: bool,
+) -> Result<(), EntryFault<'a>>
+    ensures guarded { OnOk result (is_open ≡ false → has_tokens ≡ false → IsOfThisMachine address) }
 {
-    address.ip().to_canonical().is_loopback()
+    if may_listen(is_of_this_machine(address), has_tokens, is_open) {
+        Ok(())
+    } else {
+        Err(EntryFault::Exposed(address))
+    }
 }
 
 /// The rules of a server that listens at this address.
@@ -120,8 +132,10 @@ pub fn read_rules<'a, R: Files + AllocGlobal>(
     is_open: bool,
     origins: &[&'a str],
     file: Option<&mut TokenFile<'_>>,
+    has_fences: bool,
 ) -> Result<Rules, EntryFault<'a>>
     ensures trusted { IfOk result (λ rules. trusted_reach (map (λ o. o.now) origins.now) ≡ Some (reach_of rules.trusted)) }
+    ensures fences { IfOk result (λ rules. rules.has_fences ≡ has_fences) }
     ensures guarded { IfOk result (λ rules. is_open ≡ false → is_some rules.tokens ≡ false → IsOfThisMachine address) }
 {
     if !may_listen(is_of_this_machine(address), file.is_some(), is_open) {
@@ -134,5 +148,5 @@ pub fn read_rules<'a, R: Files + AllocGlobal>(
         },
         None => None,
     };
-    rules_with(rt.alloc(), origins, tokens)
+    rules_with(rt.alloc(), origins, tokens, has_fences)
 }

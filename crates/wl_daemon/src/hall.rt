@@ -1,6 +1,8 @@
 //! What the event loops have behind them.
 
+use crate::counts::Refused;
 use crate::desk::Desk;
+use crate::fencing::Fencing;
 use crate::loop_state::LoopState;
 use crate::member::Member;
 use crate::news::tell_log;
@@ -11,6 +13,7 @@ use std::sync::Wait;
 use wl_admission::Admitted;
 use wl_liveness::Limits;
 use wl_loops::{Event, Host, Place};
+use wl_manager::CoarseClock;
 use wl_service::Service;
 use wl_types::Memory;
 
@@ -21,6 +24,11 @@ pub struct Hall<'a, L> {
     pub service: &'a Service,
     /// One for each loop.
     pub loops: &'a Vec<LoopState>,
+    /// The clock of the service's managers.
+    pub clock: CoarseClock,
+    pub refused: &'a Refused,
+    /// None where the server has no epoch.
+    pub fencing: Option<Fencing>,
     pub limits: Limits,
     pub log: &'a L,
 }
@@ -37,7 +45,16 @@ impl<'a, L: Log> Host for Hall<'a, L> {
     }
 
     fn note(&self, event: Event) {
+        match event {
+            Event::Refused(_, rejection) => self.refused.refuse(rejection),
+            Event::Dropped(_) => self.refused.drop_one(),
+            _ => {}
+        }
         tell_log(self.log, event);
+    }
+
+    fn tell_time(&self, now: u64) {
+        self.clock.set(now);
     }
 
     fn ring(&self, event_loop: usize) -> Option<&LoopRing> {
@@ -57,7 +74,8 @@ impl<'a, L: Log> Host for Hall<'a, L> {
             return Err(Memory);
         };
         let key = place.key as u64;
-        Ok(Member::new(Desk::new(self.alloc, self.service, admitted, event_loop, key)))
+        let desk = Desk::new(self.alloc, self.service, admitted, event_loop, key);
+        Member::new(desk, self.fencing.as_ref())
     }
 
     fn settle<R: Wait>(&self, rt: &R, peer: &mut Member<'a>, place: Place) -> Result<(), Memory> {

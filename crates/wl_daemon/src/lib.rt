@@ -5,19 +5,28 @@
 //! come in is read by `read_rules`, and again by `serve` where the file of tokens has changed.
 #![tactic(auto)]
 
+mod counts;
 mod desk;
 mod entry;
+mod epoch;
+mod fencing;
 mod hall;
+mod locks;
 mod loop_state;
 mod member;
 mod news;
+mod overview;
 mod ring;
+mod said;
 mod serving;
 mod token_file;
 mod watching;
 
 pub use crate::desk::Desk;
-pub use crate::entry::{EntryFault, may_listen, places_for, read_rules, rules_with, trusted_scope};
+pub use crate::entry::{
+    EntryFault, check_status, may_listen, places_for, read_rules, rules_with, trusted_scope,
+};
+pub use crate::epoch::{EpochFault, next_epoch};
 pub use crate::hall::Hall;
 pub use crate::loop_state::LoopState;
 pub use crate::member::Member;

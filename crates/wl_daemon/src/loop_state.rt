@@ -1,6 +1,8 @@
 //! What an event loop has for its connections.
 
+use crate::counts::Counts;
 use crate::ring::LoopRing;
+use crossbeam_utils::CachePadded;
 use std::alloc::Global;
 use std::sync::Mutex;
 use wl_server::Scratch;
@@ -15,6 +17,8 @@ pub struct LoopState {
     /// at a time, and what answers that message doesn't: so nobody ever waits for it. It has a lock because the threads
     /// of all loops share their states.
     pub scratch: Mutex<Scratch>,
+    /// What is counted of them, apart from what other threads write to.
+    pub counts: CachePadded<Counts>,
 }
 
 impl LoopState {
@@ -22,6 +26,7 @@ impl LoopState {
         Ok(LoopState {
             ring: LoopRing::new(alloc)?,
             scratch: Mutex::new(Scratch::new(alloc)),
+            counts: CachePadded::new(Counts::new(alloc)?),
         })
     }
 }

@@ -1,6 +1,10 @@
 //! Who answers over a connection.
 
+ghost use Rattle.std.specs.Prelude.{◌≡◌, IfOk, IfSome, None, true};
+ghost use Rattle.wl_daemon.specs.Fencing.{wants_fences};
+
 use crate::desk::Desk;
+use crate::fencing::{Fencing, told_text, wants_fences};
 use std::sync::Wait;
 use wl_loops::Listener;
 use wl_server::{NoAnswer, Peer};
@@ -17,24 +21,36 @@ const BUSY: &str = "too many buckets are open";
 pub struct Member<'a> {
     pub peer: Peer,
     pub desk: Desk<'a>,
+    /// That of the tokens which it is told; none where it is told none.
+    pub epoch: Option<u64>,
 }
 
 impl<'a> Speaker for Member<'a> {
-    ghost use Rattle.wl_server.specs.Peers.{Answers, Tells};
+    ghost use Rattle.wl_daemon.specs.Fencing.{Pushes, Replies};
 
-    ghost answers = { λ old message text new. Answers old.peer message text new.peer };
+    ghost answers = { Replies };
 
-    ghost pushes = { λ old text new. Tells old.peer text new.peer };
+    ghost pushes = { Pushes };
 
     fn answer<R: Wait>(self, rt: &R, message: &[u8]) -> Result<(Member<'a>, Answer), Memory> {
-        let Member { peer, desk } = self;
+        let Member { peer, desk, epoch } = self;
         let event_loop = desk.event_loop;
+        event_loop.counts.hear(message);
         // Locked for this message alone.
         let mut scratch = event_loop.scratch.lock(rt);
         let answered = peer.answer_by(rt, &desk, message, &mut scratch);
         drop(scratch);
         match answered {
-            Ok((peer, text)) => Ok((Member { peer, desk }, Answer::Text(text))),
+            Ok((peer, text)) => {
+                event_loop.counts.reply(text.as_str());
+                match told_text(desk.alloc, epoch, &peer, text) {
+                    Ok(text) => Ok((Member { peer, desk, epoch }, Answer::Text(text))),
+                    Err(Memory) => {
+                        peer.end_by(rt, &desk);
+                        Err(Memory)
+                    }
+                }
+            }
             Err(NoAnswer::Memory) => Err(Memory),
             Err(NoAnswer::Forbidden) => Ok((
                 Member::closed(desk),
@@ -48,27 +64,54 @@ impl<'a> Speaker for Member<'a> {
     }
 
     fn push<R: Wait>(self, rt: &R) -> Result<(Member<'a>, Option<String>), Memory> {
-        let Member { peer, desk } = self;
+        let Member { peer, desk, epoch } = self;
         let (peer, text) = peer.tell(rt, &desk)?;
-        Ok((Member { peer, desk }, text))
+        let Some(text) = text else {
+            return Ok((Member { peer, desk, epoch }, None));
+        };
+        desk.event_loop.counts.push(text.as_str());
+        match told_text(desk.alloc, epoch, &peer, text) {
+            Ok(text) => Ok((Member { peer, desk, epoch }, Some(text))),
+            Err(Memory) => {
+                peer.end_by(rt, &desk);
+                Err(Memory)
+            }
+        }
     }
 
     fn end<R: Wait>(self, rt: &R) {
-        let Member { peer, desk } = self;
+        let Member {
+            peer,
+            desk,
+            epoch: _epoch,
+        } = self;
         peer.end_by(rt, &desk)
     }
 }
 
 impl<'a> Member<'a> {
-    /// A member that didn't open yet.
-    pub fn new(desk: Desk<'a>) -> Member<'a> {
-        Member::closed(desk)
+    /// A member that didn't open yet. It is told tokens where the server has them, and its handshake selected them.
+    pub fn new(desk: Desk<'a>, fencing: Option<&Fencing>) -> Result<Member<'a>, Memory>
+        ensures { IfOk result (λ member. IfSome member.epoch (λ epoch. wants_fences member.desk.admitted.selected ≡ true)) }
+    {
+        match fencing {
+            Some(fencing) if wants_fences(&desk.admitted) => {
+                let counter = fencing.counter.share()?;
+                let peer = Peer::fenced(desk.alloc, counter);
+                let epoch = Some(fencing.epoch);
+                Ok(Member { peer, desk, epoch })
+            }
+            _ => Ok(Member::closed(desk)),
+        }
     }
 
     /// A member whose agent, if it had one, was terminated.
-    fn closed(desk: Desk<'a>) -> Member<'a> {
+    fn closed(desk: Desk<'a>) -> Member<'a>
+        ensures { result.epoch ≡ None }
+    {
         let peer = Peer::new(desk.alloc);
-        Member { peer, desk }
+        let epoch = None;
+        Member { peer, desk, epoch }
     }
 }
 

@@ -1,7 +1,10 @@
 //! The threads of a server.
 
+use crate::counts::Refused;
+use crate::fencing::Fencing;
 use crate::hall::Hall;
 use crate::loop_state::LoopState;
+use crate::overview::ServerOverview;
 use crate::token_file::TokenFile;
 use crate::watching::{Over, watch};
 use log::Log;
@@ -15,13 +18,15 @@ use std::random::RandomSource;
 use std::sync::Wait;
 use std::sync::atomic::{AtomicBool, Ordering};
 use std::thread::Threads;
-use std::time::{Clock, Instant};
+use std::time::{Clock, Instant, SystemTime, UNIX_EPOCH};
 use std::{io, thread};
 use thiserror::Error;
 use wl_admission::{PlaceLimits, Rules};
 use wl_liveness::Limits;
 use wl_loops::{EventLoop, Lobby, LoopSetup, Shared, setup};
+use wl_manager::CoarseClock;
 use wl_service::{Keeping, Service};
+use wl_status::{StatusEnd, StatusServer};
 use wl_types::Memory;
 
 /// The bytes of standard input that are read at once.
@@ -38,8 +43,12 @@ pub struct Setup<'a> {
     pub origins: &'a [&'a str],
     /// The file that the rules' tokens are from.
     pub file: Option<TokenFile<'a>>,
+    /// The epoch of its fencing tokens, greater than at each start before; without one it has none to give.
+    pub epoch: Option<u64>,
     /// Whether it is to end when standard input does.
     pub while_input: bool,
+    /// What shows its status.
+    pub status: Option<StatusServer>,
 }
 
 /// Why a server doesn't run, or doesn't go on.
@@ -67,6 +76,17 @@ impl From<io::Error> for ServeFault {
             io::ErrorKind::OutOfMemory => ServeFault::Memory,
             _ => ServeFault::Start,
         }
+    }
+}
+
+/// The time by the system's calendar; 0 where it has none.
+fn seconds_since_1970<R: Clock>(rt: &R) -> u64 {
+    match SystemTime::now(rt) {
+        Ok(now) => match now.duration_since(UNIX_EPOCH) {
+            Ok(time) => time.as_secs(),
+            Err(_) => 0,
+        },
+        Err(_) => 0,
     }
 }
 
@@ -111,22 +131,45 @@ where
         rules,
         origins,
         file,
+        epoch,
         while_input,
+        status,
     } = asked;
-    let service = Service::with_keeping(rt, alloc, Keeping::Used { most: managers })?;
+    let clock = CoarseClock::new(alloc)?;
+    let keeping = Keeping::Used { most: managers };
+    let service = Service::with_clock(rt, alloc, keeping, Some(clock.share()?))?;
+    let refused = Refused::new(alloc)?;
     let states = states_for(alloc, loops)?;
     let hall = Hall {
         alloc,
         service: &service,
         loops: &states,
+        clock,
+        refused: &refused,
+        fencing: Fencing::of(alloc, epoch)?,
         limits,
         log,
     };
     let LoopSetup { shared, polls } = setup(rt, alloc, hall, loops, places, rules)?;
+    let status_end = match &status {
+        Some(status) => Some(status.end()?),
+        None => None,
+    };
     let end = End {
         shared: &shared,
         over: Over::new(),
+        status: status_end,
         has_failed: AtomicBool::new(false),
+    };
+    let start = Instant::now(rt)?;
+    let overview = ServerOverview {
+        alloc,
+        shared: &shared,
+        service: &service,
+        loops: &states,
+        refused: &refused,
+        start,
+        started: seconds_since_1970(rt),
     };
     run_threads(
         rt,
@@ -138,7 +181,11 @@ where
             polls,
             origins,
             file,
+            has_fences: epoch.is_some(),
             while_input,
+            status,
+            overview: &overview,
+            start,
         },
     )?;
     if end.has_failed.load(Ordering::SeqCst) {
@@ -156,7 +203,11 @@ struct Run<'a, L> {
     polls: Vec<Poll>,
     origins: &'a [&'a str],
     file: Option<TokenFile<'a>>,
+    has_fences: bool,
     while_input: bool,
+    status: Option<StatusServer>,
+    overview: &'a ServerOverview<'a, L>,
+    start: Instant,
 }
 
 /// Runs the threads of a server until it ends.
@@ -167,7 +218,7 @@ fn run_threads<'a, R, L>(
 ) -> Result<(), ServeFault>
 where
     R: Net + Threads + Wait + Clock + Files<File: Send, Dir: Send> + Sync,
-    R: io::Input + AllocGlobal,
+    R: io::Input + RandomSource + AllocGlobal,
     L: Log + Sync,
 {
     let Run {
@@ -177,13 +228,16 @@ where
         polls,
         origins,
         file,
+        has_fences,
         while_input,
+        status,
+        overview,
+        start,
     } = asked;
     let Ok(lobby) = Lobby::new(rt, end.shared) else {
         return Err(ServeFault::Memory);
     };
     let lobby = &lobby;
-    let start = Instant::now(rt)?;
     thread::scope(thread::scope_env(), rt, |scope| -> Result<(), ServeFault> {
         let mut listener = Some(listener);
         let mut polls = polls;
@@ -215,7 +269,22 @@ where
         if let Some(file) = file {
             let spawned = scope.spawn(move || {
                 let mut file = file;
-                watch(rt, log, origins, &mut file, end.shared, &end.over)
+                watch(
+                    rt, log, origins, has_fences, &mut file, end.shared, &end.over,
+                )
+            });
+            if spawned.is_err() {
+                end.tell(rt);
+                return Err(ServeFault::Start);
+            }
+        }
+        if let (Some(status), Some(told)) = (status, &end.status) {
+            let spawned = scope.spawn(move || {
+                let mut status = status;
+                if status.serve(rt, overview, told).is_err() {
+                    end.has_failed.store(true, Ordering::SeqCst);
+                    end.tell(rt);
+                }
             });
             if spawned.is_err() {
                 end.tell(rt);
@@ -235,6 +304,7 @@ where
 struct End<'a, H> {
     shared: &'a Shared<H>,
     over: Over,
+    status: Option<StatusEnd>,
     has_failed: AtomicBool,
 }
 
@@ -242,5 +312,8 @@ impl<H> End<'_, H> {
     fn tell<R: Wait>(&self, rt: &R) {
         self.shared.end();
         self.over.tell(rt);
+        if let Some(status) = &self.status {
+            status.tell();
+        }
     }
 }

@@ -48,6 +48,7 @@ pub fn watch<R, L, H>(
     rt: &R,
     log: &L,
     origins: &[&str],
+    has_fences: bool,
     file: &mut TokenFile<'_>,
     shared: &Shared<H>,
     over: &Over,
@@ -60,7 +61,7 @@ where
         if over.wait(rt, Duration::from_secs(PERIOD)) {
             return;
         }
-        match renew(rt, origins, file, shared) {
+        match renew(rt, origins, has_fences, file, shared) {
             Ok(false) => {}
             Ok(true) => info!(log; "token file: read again"),
             Err(fault) => warn!(log; "token file: {fault}, so the old tokens stay"),
@@ -72,6 +73,7 @@ where
 fn renew<R, H>(
     rt: &R,
     origins: &[&str],
+    has_fences: bool,
     file: &mut TokenFile<'_>,
     shared: &Shared<H>,
 ) -> Result<bool, FileFault>
@@ -81,7 +83,7 @@ where
     let Some(tokens) = file.read_changed(rt)? else {
         return Ok(false);
     };
-    let Ok(rules) = rules_with(rt.alloc(), origins, Some(tokens)) else {
+    let Ok(rules) = rules_with(rt.alloc(), origins, Some(tokens), has_fences) else {
         return Err(FileFault::Memory);
     };
     match shared.set_rules(rt, rules) {

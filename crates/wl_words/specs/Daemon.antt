@@ -1,5 +1,5 @@
 -- The subcommand `daemon`, and what its options ask for (own).
-use Rattle.std.specs.Prelude.{◌≡◌, ℕ, List, [], ◌∷◌, Bool, true, false, Option, Some, None, map, option_map, unwrap_or, codes, pos}
+use Rattle.std.specs.Prelude.{◌≡◌, ℕ, List, [], ◌∷◌, ◌⊎◌, Bool, true, false, Option, Some, None, is_some, map, option_map, unwrap_or, codes, pos}
 use Rattle.std.specs.Net.Grammar.{IsSocketText}
 use Rattle.std.specs.declared.net.socket_addr.SocketAddr.{SocketAddr}
 use Rattle.clap.specs.Words.{App, Row, Rule, Text, all_of, first_of, new_app, new_rule, one_of, with_rule}
@@ -9,6 +9,10 @@ use Rattle.clap.specs.declared.builder.value_parser.ValueParser.TheVariants as v
 use Rattle.log.specs.Level.{parse_filter}
 use Rattle.wl_words.specs.Numbers.{HasNumberTo, MayHaveNumberTo}
 use Rattle.wl_words.specs.declared.daemon.DaemonOptions.{DaemonOptions}
+use Rattle.wl_words.specs.declared.daemon.OptionFault.{OptionFault}
+use Rattle.wl_words.specs.declared.daemon.OptionFault.TheVariants as fault
+use Rattle.wl_words.specs.declared.epoch.EpochSource.{EpochSource}
+use Rattle.wl_words.specs.declared.epoch.EpochSource.TheVariants.{Number, File}
 
 -- an option with a value, for which help has a name
 abbrev pub value_rule : Text → ValueParser → Rule
@@ -49,14 +53,44 @@ admission_app =
     (flag_rule (codes "open")))
     (record (value_rule (codes "allow-origin") values.String) { action = Some Append })
 
+abbrev pub status_app : App
+status_app =
+    with_rule
+    (with_rule admission_app (value_rule (codes "status") values.String))
+    (record (value_rule (codes "status-host") values.NonEmptyString) { action = Some Append })
+
+abbrev pub epoch_app : App
+epoch_app =
+    with_rule
+    (with_rule status_app (option_rule (codes "epoch") 9223372036854775807))
+    (value_rule (codes "epoch-file") values.NonEmptyString)
+
 abbrev pub daemon_app : App
-daemon_app = with_rule (with_rule admission_app (flag_rule (codes "while-input"))) (by_default (codes "info") (value_rule (codes "log") values.String))
+daemon_app = with_rule (with_rule epoch_app (flag_rule (codes "while-input"))) (by_default (codes "info") (value_rule (codes "log") values.String))
 
 -- an option without a value is used just where it is given
 pub record IsUsed (name : Text) (rows : List Row) (used : Bool) : Type 0 where
   pub given : one_of name rows ≡ Some (codes "true") → used ≡ true
   pub denied : one_of name rows ≡ Some (codes "false") → used ≡ false
   pub missing : one_of name rows ≡ None → used ≡ false
+
+-- the option's text is this address, where it has one, and else nothing
+abbrev pub MayHaveAddress : Text → List Row → Option SocketAddr → Type 0
+MayHaveAddress name rows None = one_of name rows ≡ None
+MayHaveAddress name rows (Some address) = (text : Text) × (one_of name rows ≡ Some text) × IsSocketText text address
+
+-- a number gives the epoch, or a file, or nothing
+abbrev pub MayHaveEpoch : List Row → Option EpochSource → Type 0
+MayHaveEpoch rows None = (one_of (codes "epoch") rows ≡ None) × (first_of (codes "epoch-file") rows ≡ None)
+MayHaveEpoch rows (Some (Number n)) = HasNumberTo 9223372036854775807 (codes "epoch") rows n × (first_of (codes "epoch-file") rows ≡ None)
+MayHaveEpoch rows (Some (File path)) = (one_of (codes "epoch") rows ≡ None) × (first_of (codes "epoch-file") rows ≡ Some path.now)
+
+-- a number and a file are to give it
+abbrev pub HasTwoEpochs : List Row → Type 0
+HasTwoEpochs rows = (is_some (one_of (codes "epoch") rows) ≡ true) × (is_some (first_of (codes "epoch-file") rows) ≡ true)
+
+abbrev pub IsEpochFault : OptionFault → Type 0
+IsEpochFault why = (why ≡ fault.Memory) ⊎ (why ≡ fault.TwoEpochs)
 
 -- the options' texts ask for this
 pub record AsksFor (rows : List Row) (options : DaemonOptions) : Type 0 where
@@ -69,6 +103,9 @@ pub record AsksFor (rows : List Row) (options : DaemonOptions) : Type 0 where
   pub token_file : option_map (λ text. text.now) options.token_file ≡ first_of (codes "token-file") rows
   pub is_open : IsUsed (codes "open") rows options.is_open
   pub origins : map (λ text. text.now) options.allow_origins.items ≡ unwrap_or (all_of (codes "allow-origin") rows) []
+  pub status : MayHaveAddress (codes "status") rows options.status
+  pub status_hosts : map (λ text. text.now) options.status_hosts.items ≡ unwrap_or (all_of (codes "status-host") rows) []
+  pub epoch : MayHaveEpoch rows options.epoch
   pub while_input : IsUsed (codes "while-input") rows options.while_input
   pub log : (text : Text) × (one_of (codes "log") rows ≡ Some text) × (parse_filter text ≡ Some options.log)
 

@@ -4,12 +4,15 @@ use Rattle.clap.specs.Words.{App, Row, Rule, Text, Kinds, IsAmong, new_app, new_
 use Rattle.clap.specs.Simple.{on_top}
 use Rattle.clap.specs.Values.{kind_of}
 use Rattle.clap.specs.declared.builder.action.ArgAction.TheVariants.{Set}
-use Rattle.clap.specs.declared.error.kind.ErrorKind.TheVariants.{ValueValidation}
+use Rattle.clap.specs.declared.error.kind.ErrorKind.{ErrorKind}
+use Rattle.clap.specs.declared.error.kind.ErrorKind.TheVariants.{ArgumentConflict, ValueValidation}
 use Rattle.clap.specs.declared.builder.value_parser.ValueParser.TheVariants as values
 use Rattle.wl_words.specs.declared.job.Job.{Job}
 use Rattle.wl_words.specs.declared.job.Job.TheVariants.{Run, Audit, Timeline, Serve, Client, Daemon}
-use Rattle.wl_words.specs.Daemon.{AsksFor, HasNoAddress, HasNoLevel, daemon_app}
+use Rattle.wl_words.specs.Daemon.{AsksFor, HasNoAddress, HasNoLevel, HasTwoEpochs, daemon_app}
 pub use Rattle.wl_words.specs.Numbers.{HasNumber}
+use Rattle.wl_words.specs.declared.daemon.OptionFault.{OptionFault}
+use Rattle.wl_words.specs.declared.daemon.OptionFault.TheVariants as fault
 use Rattle.wl_words.specs.declared.job.UsageFault.{UsageFault}
 use Rattle.wl_words.specs.declared.job.UsageFault.TheVariants.{Usage, Memory}
 
@@ -61,17 +64,31 @@ IsJob (Some used) (Serve port clients) = (used.0 ≡ codes "serve") × HasNumber
 IsJob (Some used) (Client port) = (used.0 ≡ codes "client") × HasNumber (codes "port") used.1 port × (1 ≤ port) × (port ≤ 65535)
 IsJob (Some used) (Daemon options) = (used.0 ≡ codes "daemon") × AsksFor used.1 options
 
--- The daemon's `--listen` has to be an address and a port, and its `--log` a level, which `clap` doesn't know.
+-- The daemon's `--listen` and `--status` have to be an address and a port, and its `--log` a level, which `clap` doesn't know.
 abbrev pub IsWrongOption : Option (Text × List Row) → Type 0
 IsWrongOption None = ⊥
-IsWrongOption (Some used) = (used.0 ≡ codes "daemon") × (HasNoAddress (one_of (codes "listen") used.1) ⊎ HasNoLevel (one_of (codes "log") used.1))
+IsWrongOption (Some used) = (used.0 ≡ codes "daemon")
+    × (HasNoAddress (one_of (codes "listen") used.1) ⊎ HasNoAddress (one_of (codes "status") used.1) ⊎ HasNoLevel (one_of (codes "log") used.1))
 
--- the error has one of these kinds; or it is that of an option's value, where an option is wrong; unless memory ran out
+-- The daemon's epoch is given twice: of options that exclude each other `clap` says too little.
+abbrev pub IsTwice : Option (Text × List Row) → Type 0
+IsTwice None = ⊥
+IsTwice (Some used) = (used.0 ≡ codes "daemon") × HasTwoEpochs used.1
+
+-- the error has one of these kinds; or it is that of an option's value, where an option is wrong, or of two options at once; unless memory ran out
 abbrev pub IsUsageFault : Kinds → Option (Text × List Row) → UsageFault → Type 0
-IsUsageFault kinds used (Usage error) = IsAmong (kind_of error) kinds ⊎ ((kind_of error ≡ ValueValidation) × IsWrongOption used)
+IsUsageFault kinds used (Usage error) = IsAmong (kind_of error) kinds
+    ⊎ (((kind_of error ≡ ValueValidation) × IsWrongOption used) ⊎ ((kind_of error ≡ ArgumentConflict) × IsTwice used))
 IsUsageFault kinds used Memory = Unit {0}
 
--- an error of an option's value, unless memory ran out
-abbrev pub IsUsageError : UsageFault → Type 0
-IsUsageError (Usage error) = kind_of error ≡ ValueValidation
-IsUsageError Memory = Unit {0}
+abbrev pub kind_for : OptionFault → ErrorKind
+kind_for fault.TwoEpochs = ArgumentConflict
+kind_for fault.Listen = ValueValidation
+kind_for fault.Log = ValueValidation
+kind_for fault.Status = ValueValidation
+kind_for fault.Memory = ValueValidation
+
+-- this option's error, unless memory ran out
+abbrev pub IsUsageError : OptionFault → UsageFault → Type 0
+IsUsageError why (Usage error) = kind_of error ≡ kind_for why
+IsUsageError why Memory = Unit {0}

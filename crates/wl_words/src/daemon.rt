@@ -1,10 +1,11 @@
 //! What the daemon is asked for.
 
-ghost use Rattle.std.specs.Prelude.{◌≡◌, [], map, unwrap_or, IfErr, IfOk, codes};
+ghost use Rattle.std.specs.Prelude.{◌≡◌, [], map, unwrap_or, IfErr, IfOk, OnErr, codes};
 ghost use Rattle.clap.specs.Words.{all_of, found_of, one_of, rows_of};
-ghost use Rattle.wl_words.specs.Daemon.{AsksFor, HasNoAddress, HasNoLevel};
+ghost use Rattle.wl_words.specs.Daemon.{AsksFor, HasNoAddress, HasNoLevel, HasTwoEpochs, MayHaveAddress};
 ghost use Rattle.wl_words.specs.Numbers.{HasNumberTo, MayHaveNumberTo};
 
+use crate::epoch::{EpochSource, epoch_in};
 use clap::ArgMatches;
 use log::LevelFilter;
 use std::alloc::Global;
@@ -43,6 +44,12 @@ pub struct DaemonOptions<'a> {
     pub is_open: bool,
     /// The origins whose pages may open any URL. `*` is all.
     pub allow_origins: Vec<&'a str>,
+    /// Where to show the status; none means nowhere. Port 0 is any that is free.
+    pub status: Option<SocketAddr>,
+    /// The names by which requests for the status may name it, beside those of this machine.
+    pub status_hosts: Vec<&'a str>,
+    /// What gives its epoch; none means that it gives no fencing tokens.
+    pub epoch: Option<EpochSource<'a>>,
     /// Whether it ends with standard input.
     pub while_input: bool,
     /// What goes into its log.
@@ -56,6 +63,10 @@ pub enum OptionFault {
     Listen,
     /// `--log` has no level.
     Log,
+    /// `--status` has no address and port.
+    Status,
+    /// `--epoch` and `--epoch-file` are given at once.
+    TwoEpochs,
     /// A growth was refused, or `clap` gave what it should not.
     Memory,
 }
@@ -90,18 +101,37 @@ fn number_if_any(
     }
 }
 
-/// The texts of `--allow-origin`.
-fn origins_in<'a>(alloc: Global, options: &ArgMatches<'a>) -> Result<Vec<&'a str>, OptionFault>
-    ensures ok { IfOk result (λ found. map (λ text. text.now) found.items ≡ unwrap_or (all_of (codes "allow-origin") (rows_of (found_of options.now))) []) }
+/// The texts of an option that may be given again.
+fn texts_in<'a>(
+    alloc: Global,
+    options: &ArgMatches<'a>,
+    name: &str,
+) -> Result<Vec<&'a str>, OptionFault>
+    ensures ok { IfOk result (λ found. map (λ text. text.now) found.items ≡ unwrap_or (all_of name.now (rows_of (found_of options.now))) []) }
     ensures err { IfErr result (λ fault. fault ≡ OptionFault.Memory) }
 {
-    let mut origins = Vec::new(alloc);
-    if let Some(texts) = options.get_strs("allow-origin") {
-        if origins.extend_from_slice(texts).is_err() {
+    let mut texts = Vec::new(alloc);
+    if let Some(given) = options.get_strs(name) {
+        if texts.extend_from_slice(given).is_err() {
             return Err(OptionFault::Memory);
         }
     }
-    Ok(origins)
+    Ok(texts)
+}
+
+/// The address of `--status`, if it is given.
+fn status_in(options: &ArgMatches<'_>) -> Result<Option<SocketAddr>, OptionFault>
+    ensures ok { IfOk result (MayHaveAddress (codes "status") (rows_of (found_of options.now))) }
+    ensures err { IfErr result (λ fault. fault ≡ OptionFault.Status) }
+    ensures bad { OnErr result (HasNoAddress (one_of (codes "status") (rows_of (found_of options.now)))) }
+{
+    if options.get_str("status").is_none() {
+        return Ok(None);
+    }
+    match options.get_one::<SocketAddr>("status") {
+        Some(address) => Ok(Some(address)),
+        None => Err(OptionFault::Status),
+    }
 }
 
 /// What the options ask for.
@@ -112,6 +142,8 @@ pub fn daemon_in<'a>(
     ensures asked { IfOk result (AsksFor (rows_of (found_of options.now))) }
     ensures listen { IfErr result (λ fault. fault ≡ OptionFault.Listen → HasNoAddress (one_of (codes "listen") (rows_of (found_of options.now)))) }
     ensures log { IfErr result (λ fault. fault ≡ OptionFault.Log → HasNoLevel (one_of (codes "log") (rows_of (found_of options.now)))) }
+    ensures status { IfErr result (λ fault. fault ≡ OptionFault.Status → HasNoAddress (one_of (codes "status") (rows_of (found_of options.now)))) }
+    ensures epochs { IfErr result (λ fault. fault ≡ OptionFault.TwoEpochs → HasTwoEpochs (rows_of (found_of options.now))) }
 {
     if options.get_str("listen").is_none() || options.get_str("log").is_none() {
         return Err(OptionFault::Memory);
@@ -131,7 +163,10 @@ pub fn daemon_in<'a>(
         loops: number_if_any(options, "loops", MOST_LOOPS)?,
         token_file: options.get_str("token-file"),
         is_open: options.get_flag("open"),
-        allow_origins: origins_in(alloc, options)?,
+        allow_origins: texts_in(alloc, options, "allow-origin")?,
+        status: status_in(options)?,
+        status_hosts: texts_in(alloc, options, "status-host")?,
+        epoch: epoch_in(options)?,
         while_input: options.get_flag("while-input"),
         log,
     })

@@ -3,12 +3,13 @@
 ghost use Rattle.std.specs.Prelude.{◌≡◌, IfOk, codes, false};
 ghost use Rattle.clap.specs.Words.{app_of, rule_of};
 ghost use Rattle.clap.specs.declared.builder.command.Command.TheViews.{out-Command as fields_of};
-ghost use Rattle.wl_words.specs.Daemon.{admission_app, daemon_app, flag_rule, limits_app, listen_app, option_rule, value_rule};
+ghost use Rattle.wl_words.specs.Daemon.{admission_app, daemon_app, epoch_app, flag_rule, limits_app, listen_app, option_rule, status_app, value_rule};
 
 use crate::daemon::{MOST_CONNECTIONS, MOST_IDLE, MOST_LOOPS, MOST_MANAGERS};
+use crate::epoch::MOST_EPOCH;
 use crate::texts::{
-    ALLOW_ORIGIN, CONNECTIONS, DAEMON_ABOUT, DAEMON_EXAMPLE, IDLE, LISTEN, LOG, LOOPS, MANAGERS,
-    OPEN, PER_ADDRESS, TOKEN_FILE, WHILE_INPUT,
+    ALLOW_ORIGIN, CONNECTIONS, DAEMON_ABOUT, DAEMON_EXAMPLE, EPOCH, EPOCH_FILE, IDLE, LISTEN, LOG,
+    LOOPS, MANAGERS, OPEN, PER_ADDRESS, STATUS, STATUS_HOST, TOKEN_FILE, WHILE_INPUT,
 };
 use clap::builder::ValueParser;
 use clap::{Arg, ArgAction, Command};
@@ -77,6 +78,36 @@ fn with_admission<'a>(alloc: Global, command: Command<'a>) -> Result<Command<'a>
         .arg(origin.action(ArgAction::Append))
 }
 
+/// Where the status is shown, and by which names.
+fn with_status<'a>(alloc: Global, command: Command<'a>) -> Result<Command<'a>, AllocError>
+    ensures app { app_of command.entry ≡ admission_app → IfOk result (λ c. app_of c ≡ status_app) }
+    ensures local { (fields_of command.entry).has_globals ≡ false → IfOk result (λ c. (fields_of c).has_globals ≡ false) }
+{
+    let address = ValueParser::string();
+    let host = value(
+        alloc,
+        "status-host",
+        "NAME",
+        STATUS_HOST,
+        ValueParser::NonEmptyString,
+    );
+    command
+        .arg(value(alloc, "status", "ADDRESS:PORT", STATUS, address))?
+        .arg(host.action(ArgAction::Append))
+}
+
+/// What gives the epoch of fencing tokens.
+fn with_epoch<'a>(alloc: Global, command: Command<'a>) -> Result<Command<'a>, AllocError>
+    ensures app { app_of command.entry ≡ status_app → IfOk result (λ c. app_of c ≡ epoch_app) }
+    ensures local { (fields_of command.entry).has_globals ≡ false → IfOk result (λ c. (fields_of c).has_globals ≡ false) }
+{
+    let epoch = ValueParser::signed(1, MOST_EPOCH);
+    let file = ValueParser::NonEmptyString;
+    command
+        .arg(value(alloc, "epoch", "NUMBER", EPOCH, epoch))?
+        .arg(value(alloc, "epoch-file", "FILE", EPOCH_FILE, file))
+}
+
 /// How many of what.
 fn with_limits<'a>(alloc: Global, command: Command<'a>) -> Result<Command<'a>, AllocError>
     ensures app { app_of command.entry ≡ listen_app → IfOk result (λ c. app_of c ≡ limits_app) }
@@ -113,7 +144,8 @@ pub fn daemon_command<'a>(alloc: Global) -> Result<Command<'a>, AllocError>
         .about(DAEMON_ABOUT)
         .after_help(DAEMON_EXAMPLE)
         .arg(listen.default_value("127.0.0.1:8080"))?;
-    with_admission(alloc, with_limits(alloc, command)?)?
+    let command = with_status(alloc, with_admission(alloc, with_limits(alloc, command)?)?)?;
+    with_epoch(alloc, command)?
         .arg(flag(alloc, "while-input", WHILE_INPUT))?
         .arg(log.default_value("info"))
 }

@@ -73,24 +73,20 @@ fn job_in<'a>(alloc: Global, matches: &ArgMatches<'a>) -> Result<Job<'a>, UsageF
 
 /// What is said of a wrong option.
 fn wrong_option(alloc: Global, options: &ArgMatches<'_>, fault: OptionFault) -> UsageFault
-    ensures usage { IsUsageError result }
+    ensures usage { IsUsageError fault result }
     ensures memory { fault ≡ OptionFault.Memory → result ≡ UsageFault.Memory }
 {
+    let no_address = "not an address and a port";
     let error = match fault {
         OptionFault::Memory => return UsageFault::Memory,
         OptionFault::Listen => {
-            let text = options.get_str("listen").unwrap_or("");
-            value_error(
-                alloc,
-                text,
-                "listen <ADDRESS:PORT>",
-                "not an address and a port",
-            )
+            value_error(alloc, options, "listen", "<ADDRESS:PORT>", no_address)
         }
-        OptionFault::Log => {
-            let text = options.get_str("log").unwrap_or("");
-            value_error(alloc, text, "log <LEVEL>", "not a level")
+        OptionFault::Status => {
+            value_error(alloc, options, "status", "<ADDRESS:PORT>", no_address)
         }
+        OptionFault::Log => value_error(alloc, options, "log", "<LEVEL>", "not a level"),
+        OptionFault::TwoEpochs => two_epochs_error(alloc),
     };
     match error {
         Ok(error) => UsageFault::Usage(error),
@@ -99,11 +95,26 @@ fn wrong_option(alloc: Global, options: &ArgMatches<'_>, fault: OptionFault) -> 
 }
 
 /// The error of an option's value.
-fn value_error(alloc: Global, text: &str, option: &str, why: &str) -> Result<Error, AllocError>
+fn value_error(
+    alloc: Global,
+    options: &ArgMatches<'_>,
+    name: &str,
+    value_name: &str,
+    why: &str,
+) -> Result<Error, AllocError>
     ensures { IfOk result (λ error. kind_of error ≡ ErrorKind.ValueValidation) }
 {
-    let message = format!(in alloc; "invalid value '{text}' for '--{option}': {why}")?;
+    let text = options.get_str(name).unwrap_or("");
+    let message = format!(in alloc; "invalid value '{text}' for '--{name} {value_name}': {why}")?;
     weblocks_command(alloc)?.error(ErrorKind::ValueValidation, message.as_str())
+}
+
+/// The error of two options that each give the epoch.
+fn two_epochs_error(alloc: Global) -> Result<Error, AllocError>
+    ensures { IfOk result (λ error. kind_of error ≡ ErrorKind.ArgumentConflict) }
+{
+    let message = "the argument '--epoch <NUMBER>' cannot be used with '--epoch-file <FILE>'";
+    weblocks_command(alloc)?.error(ErrorKind::ArgumentConflict, message)
 }
 
 /// The job of the subcommand that the matches have, if it is none with options of many kinds.

@@ -7,8 +7,10 @@
 mod command;
 mod daemon;
 mod daemon_command;
+mod epoch;
 mod job;
 mod texts;
 
 pub use daemon::DaemonOptions;
+pub use epoch::EpochSource;
 pub use job::{Job, UsageFault, job_of};

@@ -84,6 +84,9 @@ pub const DAEMON_EXAMPLE: &str = "Example:
   A line once it listens:
   listening 127.0.0.1:8080
 
+  With --status 127.0.0.1:8081 a second one, and http://127.0.0.1:8081/ shows the locks:
+  status 127.0.0.1:8081
+
 Tokens, pages, pushes and close codes: docs/FORMATS.md.";
 
 pub const LISTEN: &str = "Address and port to listen on; port 0 is any that is free";
@@ -107,6 +110,18 @@ pub const OPEN: &str = "Listen beyond this machine without a token file";
 
 pub const ALLOW_ORIGIN: &str =
     "Origin whose pages may open any URL; '*' is each origin. May be given again";
+
+pub const STATUS: &str =
+    "Address and port to show the status at, over HTTP; port 0 is any that is free";
+
+pub const STATUS_HOST: &str =
+    "Host by which requests for the status may name it too, as behind a proxy. May be given again";
+
+pub const EPOCH: &str =
+    "Epoch of the fencing tokens, 1 to 9223372036854775807: greater than at each start before";
+
+pub const EPOCH_FILE: &str =
+    "File that keeps the epoch, which each start makes one greater; 1 where there is none yet";
 
 pub const WHILE_INPUT: &str = "End when standard input ends";
 

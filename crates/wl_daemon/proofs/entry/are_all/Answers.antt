@@ -1,5 +1,5 @@
 use Rattle.std.proofs.Common.{sym, ◌∙◌}
-use Rattle.wl_admission.proofs.Lists.{list_any_seen}
+use Rattle.wl_daemon.proofs.Lists.{list_any_seen}
 use Rattle.wl_daemon.specs.Entry.{is_star}
 use Rattle.wl_daemon.proofs.entry.are_all.Goals as goal
 

@@ -36,7 +36,10 @@ returns-clause-asked c =
       loops = c.in_ok-number_if_any-2.ensures.ok;
       token_file = c.get_str-2.ensures ∙ first_value-rows found (codes "token-file");
       is_open = is_used found (codes "open") c.get_flag.result c.get_flag.ensures.none c.get_flag.ensures.value c.get_flag.ensures.other;
-      origins = c.in_ok-origins_in.ensures.ok;
+      origins = c.in_ok-texts_in.ensures.ok;
+      status = c.in_ok-status_in.ensures.ok;
+      status_hosts = c.in_ok-texts_in-2.ensures.ok;
+      epoch = c.in_ok-epoch_in.ensures.ok;
       while_input = is_used found (codes "while-input") c.get_flag-2.result c.get_flag-2.ensures.none c.get_flag-2.ensures.value c.get_flag-2.ensures.other;
       log = (log.0, log.1, is_parsed ParseLevelError (parse_filter log.0) c.in-Some-get_one.log log.2);
     }

@@ -1,0 +1,168 @@
+//! What a server counts.
+
+use crate::said::{RULES, grants_in, rule_in};
+use std::alloc::Global;
+use std::sync::atomic::{AtomicU64, Ordering};
+use wl_admission::Rejection;
+use wl_types::Memory;
+
+/// The reasons for which a handshake is refused, and last that of a connection that was dropped without a word.
+pub const REASONS: [&str; 9] = [
+    "bad-header",
+    "several-origins",
+    "several-tokens",
+    "token-alone",
+    "no-token",
+    "unknown-token",
+    "no-place",
+    "memory",
+    "dropped",
+];
+
+/// The place of a rejection among the reasons.
+fn place_of(rejection: Rejection) -> usize {
+    match rejection {
+        Rejection::BadHeader => 0,
+        Rejection::SeveralOrigins => 1,
+        Rejection::SeveralTokens => 2,
+        Rejection::TokenAlone => 3,
+        Rejection::NoToken => 4,
+        Rejection::UnknownToken => 5,
+        Rejection::NoPlace => 6,
+        Rejection::Memory => 7,
+    }
+}
+
+/// The place of those that were dropped.
+const DROPPED: usize = 8;
+
+/// A number that only grows. Whoever adds is mostly one thread, so that its cache line stays where it is.
+#[derive(Drop)]
+pub struct Counter {
+    number: AtomicU64,
+}
+
+impl Counter {
+    pub fn new() -> Counter {
+        Counter {
+            number: AtomicU64::new(0),
+        }
+    }
+
+    pub fn add(&self, more: u64) {
+        if more > 0 {
+            self.number.fetch_add(more, Ordering::SeqCst);
+        }
+    }
+
+    pub fn value(&self) -> u64 {
+        self.number.load(Ordering::SeqCst)
+    }
+}
+
+/// Counters by the place of what they count.
+#[derive(Drop)]
+pub struct Counters {
+    counters: Vec<Counter>,
+}
+
+impl Counters {
+    pub fn new(alloc: Global, places: usize) -> Result<Counters, Memory> {
+        let mut counters = Vec::new(alloc);
+        for _ in 0..places {
+            counters.push(Counter::new())?;
+        }
+        Ok(Counters { counters })
+    }
+
+    pub fn add(&self, place: usize) {
+        if let Some(counter) = self.counters.get(place) {
+            counter.add(1);
+        }
+    }
+
+    pub fn value(&self, place: usize) -> u64 {
+        match self.counters.get(place) {
+            Some(counter) => counter.value(),
+            None => 0,
+        }
+    }
+}
+
+/// The handshakes that were refused, by the places of `REASONS`.
+#[derive(Drop)]
+pub struct Refused {
+    pub by_reason: Counters,
+}
+
+impl Refused {
+    pub fn new(alloc: Global) -> Result<Refused, Memory> {
+        Ok(Refused {
+            by_reason: Counters::new(alloc, REASONS.len())?,
+        })
+    }
+
+    pub fn refuse(&self, rejection: Rejection) {
+        self.by_reason.add(place_of(rejection));
+    }
+
+    pub fn drop_one(&self) {
+        self.by_reason.add(DROPPED);
+    }
+}
+
+/// What is counted of the connections of one loop. The loop's own thread alone adds.
+#[derive(Drop)]
+pub struct Counts {
+    pub messages: Counter,
+    pub pushes: Counter,
+    pub grants: Counter,
+    /// The bytes of messages, without those of frames.
+    pub received: Counter,
+    /// The bytes of replies and pushes, without those of frames.
+    pub sent: Counter,
+    pub opened: Counter,
+    pub closed: Counter,
+    /// The replies of an error, by the places of `RULES`.
+    pub by_rule: Counters,
+}
+
+impl Counts {
+    pub fn new(alloc: Global) -> Result<Counts, Memory> {
+        Ok(Counts {
+            messages: Counter::new(),
+            pushes: Counter::new(),
+            grants: Counter::new(),
+            received: Counter::new(),
+            sent: Counter::new(),
+            opened: Counter::new(),
+            closed: Counter::new(),
+            by_rule: Counters::new(alloc, RULES.len())?,
+        })
+    }
+
+    /// A message came.
+    pub fn hear(&self, message: &[u8]) {
+        self.messages.add(1);
+        self.received.add(message.len() as u64);
+    }
+
+    /// A reply is to leave.
+    pub fn reply(&self, text: &str) {
+        self.tell(text);
+        if let Some(rule) = rule_in(text) {
+            self.by_rule.add(rule);
+        }
+    }
+
+    /// A push is to leave.
+    pub fn push(&self, text: &str) {
+        self.pushes.add(1);
+        self.tell(text);
+    }
+
+    fn tell(&self, text: &str) {
+        self.sent.add(text.len() as u64);
+        self.grants.add(grants_in(text));
+    }
+}

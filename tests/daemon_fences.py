@@ -1,0 +1,159 @@
+"""Fencing tokens: who is told them, their bytes, and that of two locks that exclude each other the later one's is greater.
+
+A theft is granted as it is asked for, under the manager's lock, where requests get their numbers. So the numbers of
+thefts of one name are the order of their grants.
+"""
+
+import json
+import threading
+
+from daemon_pushes import URL, asked, push, release, released, request
+from daemon_server import PUSH, Daemon, framed
+from running import Wrong, expect
+
+FENCE = "Sec-WebSocket-Protocol: weblocks.fence"
+EPOCH = 1234
+# The thefts of one name; tests/run_daemon --grants has others.
+GRANTS = 1_000_000
+PEERS, BATCH = 8, 25
+
+
+def word(token, epoch=EPOCH):
+    return f"{epoch:016x}-{token:016x}"
+
+
+def fenced(text, *fences, epoch=EPOCH):
+    """A text with the tokens of these requests, as its first member."""
+    told = ",".join('{"fence":"%s","request":%d}' % (word(token, epoch), number) for number, token in fences)
+    return '{"fences":[%s],%s' % (told, text[1:])
+
+
+def in_replies_and_pushes(program):
+    with Daemon(program, "--epoch", str(EPOCH)) as daemon:
+        first, second = daemon.opened(URL, FENCE), daemon.opened(URL, FENCE)
+        expect("a reply that grants", first.ask(request(1)), fenced(asked(1, 1, ("granted", 1)), (1, 1)))
+        expect("a reply that doesn't", second.ask(request(1)), asked(1, 2))
+        expect("the release", first.ask(release(2, 1)), released(2))
+        expect("the push", second.get(), fenced(push(("granted", 2)), (2, 2)))
+        expect("a poll after it", second.ask('{"id":9,"op":"poll"}'), '{"id":9,"notices":[],"ok":{}}')
+        thief = first.ask('{"id":3,"op":"request","name":"db","options":{"steal":true}}')
+        expect("a theft", thief, fenced(asked(3, 3, ("granted", 3)), (3, 3)))
+        expect("the push to whom it was stolen from", second.get(), push(("stolen", 2)))
+
+
+def several_in_one_message(program):
+    """A peer that waits for three names, which its neighbour gives up by closing."""
+    with Daemon(program, "--epoch", str(EPOCH)) as daemon:
+        holder, waiter = daemon.opened(URL), daemon.opened(URL, FENCE)
+        for n, name in enumerate("abc"):
+            holder.ask(request(n, name))
+            waiter.ask(request(n, name))
+        holder.ask('{"id":9,"op":"close"}')
+        told = []
+        while len(told) < 3:
+            message = json.loads(waiter.get())
+            granted = [it["request"] for it in message["notices"]]
+            expect("the requests with tokens", [it["request"] for it in message["fences"]], granted)
+            told += [it["fence"] for it in message["fences"]]
+        expect("the tokens", sorted(told), [word(n) for n in (1, 2, 3)])
+
+
+def for_those_who_selected_them(program):
+    """Others are told the same bytes as without an epoch."""
+    with Daemon(program, "--epoch", str(EPOCH)) as daemon:
+        pushed, polled = daemon.opened(URL, PUSH), daemon.opened(URL)
+        expect("a reply with pushes", pushed.ask(request(1)), asked(1, 1, ("granted", 1)))
+        expect("a reply", polled.ask(request(1, "other")), asked(1, 2, ("granted", 2)))
+    with Daemon(program) as daemon:
+        peer = daemon.opened(URL, "Sec-WebSocket-Protocol: weblocks.fence, weblocks.push")
+        expect("a reply without an epoch", peer.ask(request(1)), asked(1, 1, ("granted", 1)))
+
+
+def an_agent_that_opens_again(program):
+    """Over the same connection, which another agent's keeps its bucket for."""
+    with Daemon(program, "--epoch", str(EPOCH)) as daemon:
+        other, peer = daemon.opened(URL), daemon.opened(URL, FENCE)
+        expect("the first token", peer.ask(request(1)), fenced(asked(1, 1, ("granted", 1)), (1, 1)))
+        peer.ask('{"id":2,"op":"close"}')
+        peer.ask('{"id":3,"op":"open","url":"%s"}' % URL)
+        expect("the next token", peer.ask(request(4)), fenced(asked(4, 2, ("granted", 2)), (2, 2)))
+        other.leave()
+
+
+def counts_of_buckets_are_one(program):
+    """One counter is the whole daemon's, whatever the origin."""
+    with Daemon(program, "--epoch", str(EPOCH), "--loops", "4") as daemon:
+        for n in range(1, 9):
+            peer = daemon.opened(f"https://{n}.test/", FENCE)
+            expect("the token", json.loads(peer.ask(request(1)))["fences"], [{"fence": word(n), "request": 1}])
+
+
+class Thief(threading.Thread):
+    """Steals one name again and again, many messages at a time."""
+
+    def __init__(self, daemon, count):
+        super().__init__()
+        self.peer, self.count = daemon.opened(URL, FENCE), count
+        self.tokens, self.fault = {}, None
+
+    def run(self):
+        steal = framed('{"id":1,"op":"request","name":"db","options":{"steal":true}}') * BATCH
+        try:
+            for _ in range(self.count // BATCH):
+                self.peer.sock.sendall(steal)
+                replies = 0
+                while replies < BATCH:
+                    replies += self.take(json.loads(self.peer.get()))
+        except Exception as fault:
+            self.fault = fault
+
+    def take(self, message):
+        granted = [it["request"] for it in message["notices"] if it["phase"] == "granted"]
+        fences = message.get("fences", [])
+        expect("the requests with tokens", [it["request"] for it in fences], granted)
+        self.tokens.update((it["request"], it["fence"]) for it in fences)
+        return message["id"] is not None
+
+
+def thieves(program, grants):
+    """In the order of the grants the tokens grow, across loops."""
+    with Daemon(program, "--epoch", str(EPOCH), "--loops", "4") as daemon:
+        found = [Thief(daemon, grants // PEERS) for _ in range(PEERS)]
+        for it in found:
+            it.start()
+        for it in found:
+            it.join()
+        for it in found:
+            if it.fault:
+                raise it.fault
+    by_number = sorted((number, token) for it in found for number, token in it.tokens.items())
+    expect("whether most were told", len(by_number) > grants // 2, True)
+    for (number, token), (later, greater) in zip(by_number, by_number[1:]):
+        if token >= greater:
+            raise Wrong(f"request {number} has the token {token}, and the later one {later} has {greater}")
+
+
+def hand_overs(program):
+    """The tokens of a lock that goes round."""
+    with Daemon(program, "--epoch", str(EPOCH), "--loops", "4") as daemon:
+        peers = [daemon.opened(URL, FENCE) for _ in range(4)]
+        last = ""
+        for turn in range(200):
+            holder = peers[turn % 4]
+            told = json.loads(holder.ask(request(turn)))
+            expect("whether the token is greater", told["fences"][0]["fence"] > last, True)
+            last = told["fences"][0]["fence"]
+            holder.ask(release(turn, told["ok"]["request"]))
+
+
+def fence_checks(program, grants):
+    for name, check in [
+        ("tokens in replies and pushes", in_replies_and_pushes),
+        ("several tokens in one message", several_in_one_message),
+        ("tokens for those who selected them", for_those_who_selected_them),
+        ("tokens of an agent that opens again", an_agent_that_opens_again),
+        ("one counter for all origins", counts_of_buckets_are_one),
+        ("tokens of a lock that goes round", hand_overs),
+        ("tokens among thieves", lambda it: thieves(it, grants)),
+    ]:
+        yield name, lambda c=check: c(program)
