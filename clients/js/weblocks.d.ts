@@ -21,12 +21,14 @@ export interface ConnectOptions {
   poll?: number | undefined;
   /** Whether to connect again after the connection was lost. True unless given. */
   reconnect?: boolean | undefined;
+  /** Whether locks are to have fencing tokens, as a server gives that was started with an epoch. False unless given. */
+  fences?: boolean | undefined;
   /** The class of sockets, in place of `globalThis.WebSocket` or that of the package `ws`. */
   WebSocket?: WebSocketClass | undefined;
 }
 
 /** How to connect to a worker that serves the locks of its origin's pages, in the place of a server. */
-export interface PortOptions extends Omit<ConnectOptions, "url" | "token" | "poll" | "WebSocket"> {
+export interface PortOptions extends Omit<ConnectOptions, "url" | "token" | "poll" | "fences" | "WebSocket"> {
   /** A port of the worker, over which each connection is handed to it; or what gives one for each connection. */
   port: MessagePort | (() => MessagePort);
 }
@@ -40,6 +42,11 @@ export type LockMode = "exclusive" | "shared";
 export interface Lock {
   readonly name: string;
   readonly mode: LockMode;
+  /**
+   * The fencing token of its grant, which compares with others as texts do; or null where the server gave none, or
+   * `fences` wasn't given. Whoever wants tokens writes nothing by a lock without one.
+   */
+  readonly fence: string | null;
 }
 
 /** The class of locks, for `instanceof`: programs make none. */

@@ -22,7 +22,7 @@ export class Agent {
 
   constructor(opened, settings) {
     this.#connection = new Connection(opened, settings, {
-      onNotice: (notice) => this.#requests.get(notice.request)?.hear(notice.phase),
+      onNotice: ({ request, phase }, fence) => this.#requests.get(request)?.hear(phase, fence),
       onLost: (fault) => this.#lose(fault),
     });
   }

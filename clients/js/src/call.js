@@ -17,6 +17,7 @@ export class Call {
   #onReturn;
   #onEnd;
   #state = WAITING;
+  #given = null;
   #settle;
   #resolve;
   #reject;
@@ -69,10 +70,15 @@ export class Call {
     return this.#loss.signal;
   }
 
-  /** The lock is held: calls the callback, in a task of its own. False where the call has ended before. */
-  grant() {
+  /**
+   * The lock is held: calls the callback, in a task of its own. False where the call has ended before.
+   *
+   * @param {string | null} fence the lock's fencing token
+   */
+  grant(fence) {
     if (this.#state === ENDED) return false;
-    this.#callLater(makeLock(this.#asked.name, this.#asked.mode, this));
+    const { name, mode } = this.#asked;
+    this.#callLater(makeLock({ name, mode, fence }, this));
     return true;
   }
 
@@ -102,10 +108,12 @@ export class Call {
     this.#state = WAITING;
   }
 
+  /** A grant that was lost meanwhile, with its fencing token, isn't the one that the callback is called with. */
   #callLater(lock) {
     this.#state = GRANTED;
+    this.#given = lock;
     runAsTask(() => {
-      if (this.#state === GRANTED) this.#call(lock);
+      if (this.#state === GRANTED && this.#given === lock) this.#call(lock);
     });
   }
 

@@ -2,7 +2,7 @@
 
 import { faultOfClose, networkError } from "./faults.js";
 import { Queue } from "./queue.js";
-import { isPush, readReply } from "./replies.js";
+import { isPush, readFences, readReply } from "./replies.js";
 import { OPEN } from "./states.js";
 import { runAsTask } from "./tasks.js";
 import { cutSocket } from "./transport.js";
@@ -10,6 +10,7 @@ import { cutSocket } from "./transport.js";
 export class Connection {
   #socket;
   #pushes;
+  #fences;
   #onNotice;
   #onLost;
   #unanswered = new Queue();
@@ -24,14 +25,16 @@ export class Connection {
   #isWaiting = false;
 
   /**
-   * @param {{socket: WebSocket | PortSocket, pushes: boolean}} opened
+   * @param {{socket: WebSocket | PortSocket, pushes: boolean, fences: boolean}} opened
    * @param {{heartbeat: number, poll: number}} settings in milliseconds
-   * @param {{onNotice: (notice: object) => void, onLost: (fault: Error) => void}} listeners `onLost` is called once at
+   * @param {{onNotice: (notice: object, fence: string | null) => void, onLost: (fault: Error) => void}} listeners
+   *   `onNotice` is given the fencing token that its message has for the notice's request; `onLost` is called once at
    *   most, and not for an end that was asked for
    */
-  constructor({ socket, pushes }, { heartbeat, poll }, { onNotice, onLost }) {
+  constructor({ socket, pushes, fences }, { heartbeat, poll }, { onNotice, onLost }) {
     this.#socket = socket;
     this.#pushes = pushes;
+    this.#fences = fences;
     this.#onNotice = onNotice;
     this.#onLost = onLost;
     this.#pollTime = poll;
@@ -69,14 +72,16 @@ export class Connection {
   #read(data) {
     if (this.#isOver) return;
     let reply;
+    let fences;
     try {
       reply = readReply(data);
+      if (this.#fences) fences = readFences(reply);
     } catch (fault) {
       this.#fail(`The server sent ${fault.message}`);
       return;
     }
     if (!isPush(reply) && !this.#answer(reply)) return;
-    for (const notice of reply.notices) this.#onNotice(notice);
+    for (const notice of reply.notices) this.#onNotice(notice, fences?.get(notice.request) ?? null);
   }
 
   #answer(reply) {

@@ -12,13 +12,15 @@ export let holderOf;
 export class Lock {
   #name;
   #mode;
+  #fence;
   #holder;
 
   /** Pages make no locks: they request them. */
-  constructor(key, name, mode, holder) {
+  constructor(key, { name, mode, fence } = {}, holder) {
     if (key !== MAKING) throw new TypeError("Illegal constructor");
     this.#name = name;
     this.#mode = mode;
+    this.#fence = fence;
     this.#holder = holder;
   }
 
@@ -32,16 +34,27 @@ export class Lock {
     return this.#mode;
   }
 
+  /** The fencing token of its grant, or null where the server gave none. It isn't the standard's. */
+  get fence() {
+    return this.#fence;
+  }
+
   static {
     holderOf = (lock) => (isObject(lock) && #holder in lock ? lock.#holder : undefined);
   }
 }
 
+// (`fence` stays unlisted: a lock shows the members that the platform's shows)
 showAsPlatformObject(Lock, ["name", "mode"]);
 
-/** A lock that is held by what is given, a call. */
-export function makeLock(name, mode, holder) {
-  return new Lock(MAKING, name, mode, holder);
+/**
+ * A lock that is held by what is given, a call.
+ *
+ * @param {{name: string, mode: string, fence: string | null}} members
+ * @param {object} holder
+ */
+export function makeLock(members, holder) {
+  return new Lock(MAKING, members, holder);
 }
 
 function isObject(value) {

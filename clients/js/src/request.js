@@ -72,11 +72,11 @@ export class LockRequest {
     this.agent.enter(this.#number, this);
   }
 
-  /** News of it, by the word of its phase. */
-  hear(phase) {
+  /** News of it, by the word of its phase; with a grant the lock's fencing token, or null where there is none. */
+  hear(phase, fence) {
     this.#endWaiting();
     if (phase === "granted") {
-      if (!this.#call.grant()) this.release();
+      if (!this.#call.grant(fence)) this.release();
       return;
     }
     if (phase === "unavailable") this.#call.tellUnavailable();

@@ -16,14 +16,15 @@ const POLL = 50;
  *
  * @param {object} options as `ConnectOptions` in weblocks.d.ts says
  * @returns {{url: string | undefined, port: object | Function | undefined, origin: string, kind: string,
- *   bucket: string, token: string | undefined, heartbeat: number, poll: number, reconnect: boolean,
+ *   bucket: string, token: string | undefined, heartbeat: number, poll: number, reconnect: boolean, fences: boolean,
  *   WebSocket: Function | undefined}}
  * @throws {TypeError} where an option is missing or wrong
  */
 export function readSettings(options) {
   if (typeof options !== "object" || options === null) throw new TypeError("The options aren't an object");
-  const { heartbeat = HEARTBEAT, poll = POLL, reconnect = true, WebSocket } = options;
+  const { heartbeat = HEARTBEAT, poll = POLL, reconnect = true, fences = false, WebSocket } = options;
   if (typeof reconnect !== "boolean") throw new TypeError("reconnect is neither true nor false");
+  if (typeof fences !== "boolean") throw new TypeError("fences is neither true nor false");
   if (WebSocket !== undefined && typeof WebSocket !== "function") throw new TypeError("WebSocket isn't a class");
   return {
     ...readServer(options),
@@ -34,6 +35,7 @@ export function readSettings(options) {
     heartbeat: readTime("heartbeat", heartbeat),
     poll: readTime("poll", poll),
     reconnect,
+    fences,
     WebSocket,
   };
 }

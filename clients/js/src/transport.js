@@ -1,10 +1,13 @@
-/** A socket to the server, of whichever class there is or over a port, and whether the server pushes over it. */
+/** A socket to the server, of whichever class there is or over a port, and what the server tells over it unasked. */
 
 import { networkError } from "./faults.js";
 import { PortSocket } from "./port_socket.js";
 
 /** The subprotocol of servers that tell news without being asked. */
 const PUSH = "weblocks.push";
+
+/** That of servers that do so, and tell of each grant its fencing token. */
+const FENCE = "weblocks.fence";
 
 /** What stands before a token, where it is offered as a subprotocol. */
 const BEARER = "weblocks.bearer.";
@@ -24,13 +27,13 @@ class Unserved extends DOMException {
  *
  * @param {object} settings as `readSettings` gives them
  * @param {AbortSignal} signal gives up
- * @returns {Promise<{socket: WebSocket | PortSocket, pushes: boolean}>}
+ * @returns {Promise<{socket: WebSocket | PortSocket, pushes: boolean, fences: boolean}>}
  */
 export async function openSocket(settings, signal) {
   const { port, heartbeat } = settings;
   if (port === undefined) return openWebSocket(settings, signal);
   const socket = await shakeHands(() => new PortSocket(port), heartbeat, signal);
-  return { socket, pushes: true };
+  return { socket, pushes: true, fences: false };
 }
 
 /**
@@ -40,15 +43,21 @@ export async function openSocket(settings, signal) {
 async function openWebSocket(settings, signal) {
   const Socket = await chooseSocket(settings.WebSocket);
   const { url, token, heartbeat } = settings;
-  const offered = token === undefined ? [PUSH] : [PUSH, BEARER + token];
   try {
-    const socket = await shakeHands(() => new Socket(url, offered), heartbeat, signal);
-    return { socket, pushes: socket.protocol === PUSH };
+    const socket = await shakeHands(() => new Socket(url, offeredBy(settings)), heartbeat, signal);
+    const fences = socket.protocol === FENCE;
+    return { socket, pushes: fences || socket.protocol === PUSH, fences };
   } catch (fault) {
     if (signal.aborted || fault instanceof Unserved || (token !== undefined && !sendsHeaders())) throw fault;
     const socket = await shakeHands(() => openPlain(Socket, url, token), heartbeat, signal);
-    return { socket, pushes: false };
+    return { socket, pushes: false, fences: false };
   }
+}
+
+/** The subprotocols of the first handshake, of which the server selects one. */
+function offeredBy({ fences, token }) {
+  const offered = fences ? [FENCE, PUSH] : [PUSH];
+  return token === undefined ? offered : [...offered, BEARER + token];
 }
 
 /** Ends a socket at once where its class can: closing waits for a peer that may be gone. */

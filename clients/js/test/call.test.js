@@ -39,17 +39,19 @@ test("a grant calls the callback in a later task, and the promise settles once t
 });
 
 test("a grant that is lost before the callback was called doesn't call it, and the next one does", async () => {
-  const { call, told } = makeCall();
-  call.grant();
+  const made = makeCall();
+  const { call, told } = made;
+  call.grant("first");
   call.waitAgain();
   await turn();
   assert.deepEqual(told, []);
-  call.grant();
+  call.grant("second");
   call.waitAgain();
-  call.grant();
+  call.grant("third");
   await turn();
   await turn();
   assert.deepEqual(told, ["called", "returned"]);
+  assert.equal(made.lock.fence, "third");
 });
 
 test("a theft before the callback was called rejects, and the callback isn't called", async () => {

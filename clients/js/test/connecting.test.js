@@ -138,7 +138,8 @@ test("an option that is wrong is a TypeError", async () => {
     { origin: undefined }, { origin: "a".repeat(40_000) },
     { kind: "page" }, { kind: null }, { bucket: "" }, { bucket: "Inbox" }, { bucket: "-a" }, { bucket: "a".repeat(65) },
     { token: "" }, { token: "two words" }, { token: "t\u00e4g" }, { heartbeat: 0 }, { heartbeat: "10" },
-    { heartbeat: Infinity }, { heartbeat: 2 ** 31 }, { poll: -1 }, { poll: NaN }, { reconnect: 1 }, { WebSocket: {} },
+    { heartbeat: Infinity }, { heartbeat: 2 ** 31 }, { poll: -1 }, { poll: NaN }, { reconnect: 1 }, { fences: "yes" },
+    { WebSocket: {} },
   ];
   for (const options of wrong) {
     await assert.rejects(connect({ ...good, ...options }), TypeError, JSON.stringify(options));

@@ -10,7 +10,7 @@ import unittest
 import weblocks
 import weblocks.sync
 from commands import CommandLineCase, ignore_hangups, read_all, runs, take_terminal
-from support import SECONDS, Daemon, proxied
+from support import SECONDS, Daemon, free_port, proxied
 
 
 class With(CommandLineCase):
@@ -21,6 +21,18 @@ class With(CommandLineCase):
             process.communicate("go\n", timeout=SECONDS)
             self.assertEqual(7, process.returncode)
             self.wait_for(lambda: locks.query().held == [])
+
+    def test_the_server_is_named_by_WEBLOCKS_URL_unless_the_words_name_one(self):
+        nowhere = f"ws://127.0.0.1:{free_port()}"
+        with self.connect() as locks, locks.request("db"):
+            for words, url in (((), self.daemon.url), (("--url", self.daemon.url), nowhere)):
+                environment = {"WEBLOCKS_URL": url, "WEBLOCKS_ORIGIN": self.origin}
+                ended = self.run_whole("with", "db", "--wait", "0", *words, "--", "echo", environment=environment)
+                self.assertEqual((75, "", "weblocks: the lock 'db' is not free\n"), ended)
+        environment = {"WEBLOCKS_URL": nowhere, "WEBLOCKS_ORIGIN": self.origin}
+        status, out, err = self.run_whole("with", "db", "--", "echo", "ran", environment=environment)
+        self.assertEqual((69, ""), (status, out))
+        self.assertIn(nowhere, err)
 
     def test_the_command_has_the_standard_streams(self):
         process = self.start("with", "db", "--", "sh", "-c", "cat; echo error >&2", stdin=subprocess.PIPE)

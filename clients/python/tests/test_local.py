@@ -149,6 +149,11 @@ class Managers(unittest.IsolatedAsyncioTestCase):
                 async with world.connect(origin="no url"):
                     pass
 
+    async def test_locks_have_no_fencing_tokens(self):
+        with weblocks.local() as world:
+            async with world.connect(origin=ORIGIN) as locks, locks.request("db") as lock:
+                self.assertIsNone(lock.fence)
+
     async def test_the_end_of_a_manager_frees_its_locks(self):
         held = asyncio.Event()
 

@@ -122,7 +122,7 @@ class Losses:
                         cut = asyncio.create_task(self.cut())
                         await asyncio.sleep(1000)
             await cut
-            self.assertEqual([], (await steady.query()).held)
+            await self.until_held(steady)
 
     async def test_a_timeout_of_asyncio_around_the_block_still_raises_TimeoutError(self):
         with self.assertRaises(TimeoutError):

@@ -78,7 +78,9 @@ class Words(CommandLineCase):
     def test_help_tells_of_all_words_and_statuses(self):
         status, out, _err = self.run_whole("with", "--help")
         self.assertEqual(0, status)
-        for word in ("--shared", "--wait", "--steal", "--url", "--origin", "--bucket", "--token-file", "75", "127"):
+        for word in (
+            "--shared", "--wait", "--steal", "--fence", "--url", "--origin", "--bucket", "--token-file", "75", "127"
+        ):  # fmt: skip
             self.assertIn(word, out)
 
 

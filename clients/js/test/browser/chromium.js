@@ -129,6 +129,11 @@ class Page {
     return this.#devTools.call(method, params, this.#session);
   }
 
+  /** Has each event of its session given to the listener. */
+  listen(listener) {
+    this.#devTools.listen((event) => event.sessionId === this.#session && listener(event));
+  }
+
   /** Closes it, as a user closes a tab. */
   async close() {
     await this.#devTools.call("Target.closeTarget", { targetId: this.#target });

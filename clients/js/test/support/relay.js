@@ -7,6 +7,7 @@ import { once } from "node:events";
 import { WebSocket, WebSocketServer } from "./sockets.js";
 
 const PUSH = "weblocks.push";
+const FENCE = "weblocks.fence";
 const BEARER = "weblocks.bearer.";
 
 export class Relay {
@@ -39,10 +40,13 @@ export class Relay {
   /** What each message is refused with, where it is set. */
   refusal = null;
 
+  /** What adds fencing tokens for the clients that ask for them, where it is set. */
+  fences = null;
+
   /**
    * @param {string} backend the URL of the server, which pushes
-   * @param {{token?: string, selects?: boolean}} [options] what clients are to be known by, and whether
-   *   `weblocks.push` is selected: where it isn't, nothing is pushed
+   * @param {{token?: string, selects?: boolean, fences?: import("./fences.js").Fences}} [options] what clients are to
+   *   be known by; whether `weblocks.push` is selected: where it isn't, nothing is pushed; what adds fencing tokens
    */
   static async start(backend, options = {}) {
     const server = new Relay(backend, options);
@@ -50,17 +54,18 @@ export class Relay {
     return server;
   }
 
-  constructor(backend, { token, selects = true }) {
+  constructor(backend, { token, selects = true, fences = null }) {
     this.#backend = backend;
     this.#token = token;
     this.selects = selects;
+    this.fences = fences;
   }
 
   async #listen() {
     this.#server = new WebSocketServer({
       host: "127.0.0.1",
       port: 0,
-      handleProtocols: (offered) => (this.selects && offered.has(PUSH) ? PUSH : false),
+      handleProtocols: (offered) => this.#select(offered),
       verifyClient: ({ req }, answer) => answer(this.#admits(req), 401),
     });
     this.#server.on("connection", (socket) => this.#serve(socket));
@@ -95,6 +100,11 @@ export class Relay {
     await once(this.#server, "close");
   }
 
+  #select(offered) {
+    if (!this.selects || !offered.has(PUSH)) return false;
+    return this.fences !== null && offered.has(FENCE) ? FENCE : PUSH;
+  }
+
   #admits(request) {
     const offered = (request.headers["sec-websocket-protocol"] ?? "").split(",").map((text) => text.trim());
     this.offers.push({ protocols: offered.filter(Boolean), authorization: request.headers.authorization });
@@ -117,6 +127,7 @@ class Link {
   #number;
   #backend;
   #server;
+  #fences;
   #early = [];
 
   constructor(number, socket, backend, server) {
@@ -124,6 +135,8 @@ class Link {
     this.socket = socket;
     this.#backend = backend;
     this.#server = server;
+    // (that of its handshake: the next connection's may be another)
+    this.#fences = socket.protocol === FENCE ? server.fences : null;
     socket.on("message", (data) => this.#take(String(data)));
     socket.on("close", () => this.#end());
     socket.on("error", () => {});
@@ -160,7 +173,8 @@ class Link {
     for (const text of this.#early) this.#backend.send(text);
   }
 
-  #give(text) {
+  #give(said) {
+    const text = this.#fences?.addTo(said) ?? said;
     if (this.#server.delay === 0) this.socket.send(text);
     else setTimeout(() => this.socket.send(text), this.#server.delay);
   }

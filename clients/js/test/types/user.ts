@@ -14,6 +14,7 @@ const locks: LockManager = await connect({
   heartbeat: 10_000,
   poll: 50,
   reconnect: true,
+  fences: true,
   WebSocket,
 });
 
@@ -23,6 +24,7 @@ const again: LockManager = await connect({ port: () => worker.port, origin: "htt
 
 const name: string = await locks.request("db", (lock) => lock.name);
 const mode: LockMode = await locks.request("db", { mode: "shared" }, async (lock: Lock) => lock.mode);
+const fence: string | null = await locks.request("db", (lock) => lock.fence);
 const got: boolean = await locks.request("db", { ifAvailable: true }, (lock) => lock !== null);
 const nothing: void = await locks.request("db", { signal: new AbortController().signal }, () => {});
 const stolen: number = await locks.request("db", { steal: true }, (lock) => lock.name.length);
@@ -51,7 +53,7 @@ const port: number = started.port;
 await started.kill();
 await started.stop();
 
-export { again, agent, got, infos, installedByPort, mode, name, nothing, paged, platform, port, stolen, why };
+export { again, agent, fence, got, infos, installedByPort, mode, name, nothing, paged, platform, port, stolen, why };
 
 // @ts-expect-error
 await connect({ origin: "https://a.test" });
@@ -67,5 +69,9 @@ await locks.request("db", { mode: "odd" }, () => {});
 await locks.request("db", { ifAvailable: true }, (lock) => lock.name);
 // @ts-expect-error
 new LockManager();
+// @ts-expect-error
+await connect({ url: "ws://127.0.0.1:8080", fences: "yes" });
+// @ts-expect-error
+await locks.request("db", (lock) => lock.fence.length);
 // @ts-expect-error
 locks.lostSignal("db");

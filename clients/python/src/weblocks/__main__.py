@@ -13,7 +13,7 @@ from collections.abc import Callable
 from pathlib import Path
 from typing import Any
 
-from .command import BY_SIGNAL, CannotRun, Job, Signals, complain, run_job
+from .command import BY_SIGNAL, FENCE, CannotRun, Job, NoFence, Signals, complain, run_job
 from .errors import Disconnected, Error, Forbidden, Refused
 from .manager import LockManager, connect
 from .table import draw_table
@@ -30,7 +30,7 @@ exit status: that of the command (128 and the signal's number, where one ended i
   2    the words can't be understood
   69   no server answers, or the connection was lost
   75   the lock was not had in time
-  77   the server refused the token, the origin or the request
+  77   the server refused the token, the origin or the request, or gives no fencing tokens
   126  the command can't be run
   127  there is no such command
 """
@@ -97,6 +97,9 @@ def make_parser() -> tuple[argparse.ArgumentParser, dict[str, argparse.ArgumentP
     holding.add_argument("--shared", action="store_true", help="a shared lock, beside which others may be shared")
     holding.add_argument("--wait", type=seconds, metavar="SECONDS", help="how long to wait (without: for ever)")
     holding.add_argument("--steal", action="store_true", help="take the lock from whoever holds it")
+    holding.add_argument(
+        "--fence", action="store_true", help=f"give the command the lock's fencing token as {FENCE}, or don't run it"
+    )
     jobs.add_parser("query", help="show what is held and pending")
     watching = jobs.add_parser("watch", help="show what is held and pending, as it changes")
     watching.add_argument("--every", type=seconds, default=1.0, metavar="SECONDS", help="how often to look (1)")
@@ -155,8 +158,11 @@ async def run_interruptibly(given: argparse.Namespace) -> int:
 
 async def run(given: argparse.Namespace, signals: Signals) -> int:
     """Connects and does the job; what fails is told in a line on standard error."""
+    fences = given.job == "with" and given.fence
     try:
-        async with connect(given.url, origin=given.origin, bucket=given.bucket, token=given.token) as locks:
+        async with connect(
+            given.url, origin=given.origin, bucket=given.bucket, token=given.token, fences=fences
+        ) as locks:
             return await do_job(locks, given, signals)
     except CannotRun as error:
         complain(str(error))
@@ -164,7 +170,7 @@ async def run(given: argparse.Namespace, signals: Signals) -> int:
     except TimeoutError as error:
         complain(str(error))
         return NOT_IN_TIME
-    except (Forbidden, Refused) as error:
+    except (Forbidden, Refused, NoFence) as error:
         complain(explain(error, given))
         return NOT_ALLOWED
     except Error as error:
@@ -175,7 +181,7 @@ async def run(given: argparse.Namespace, signals: Signals) -> int:
         return BAD_WORDS
 
 
-def explain(error: Error, given: argparse.Namespace) -> str:
+def explain(error: Exception, given: argparse.Namespace) -> str:
     """Why the service refused, with what was given to it."""
     if isinstance(error, Refused):
         if error.name == "BadUrl":
@@ -191,7 +197,8 @@ async def do_job(locks: LockManager, given: argparse.Namespace, signals: Signals
     """Does what the first word says."""
     if given.job == "with":
         mode: Any = "shared" if given.shared else "exclusive"
-        return await run_job(locks, Job(given.name, mode, given.steal, given.wait, given.command), signals)
+        job = Job(given.name, mode, given.steal, given.wait, given.fence, given.command)
+        return await run_job(locks, job, signals)
     if given.job == "query":
         sys.stdout.write(draw_table(await locks.query(), sys.stdout.isatty()))
         sys.stdout.flush()

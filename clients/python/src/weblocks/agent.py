@@ -70,6 +70,11 @@ class Agent:
         return self._connection.lost
 
     @property
+    def fences(self) -> bool:
+        """Whether its grants have fencing tokens."""
+        return self._connection.fences
+
+    @property
     def idle(self) -> bool:
         """Whether nothing of it is live or on its way."""
         return not (self._requests or self.unanswered)
@@ -183,11 +188,11 @@ class Agent:
         for number, phase in reply.notices:
             request = self._requests.get(number)
             if request is not None:
-                self._notice(request, phase)
+                self._notice(request, phase, reply.fences.get(number))
         self._connection.want_polls(self._waiting > 0)
         self._owner.changed()
 
-    def _notice(self, request: Request, phase: str) -> None:
+    def _notice(self, request: Request, phase: str, fence: str | None) -> None:
         if request.phase is Phase.SENT:
             self._waiting -= 1
         if phase == "granted":
@@ -196,7 +201,7 @@ class Agent:
                 request.phase = Phase.HELD
                 self.release(request)
             else:
-                request.grant()
+                request.grant(fence)
             return
         del self._requests[request.number]
         self._free_signal(request)

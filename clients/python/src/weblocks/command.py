@@ -13,12 +13,14 @@ from dataclasses import dataclass
 from .errors import LockLost
 from .manager import LockManager
 from .messages import Mode
+from .requests import Lock
 
 LOST = 1
 NOT_RUNNABLE = 126
 NOT_FOUND = 127
 BY_SIGNAL = 128
 KILL_SECONDS = 10.0
+FENCE = "WEBLOCKS_FENCE"
 
 PASSED_ON = (signal.SIGHUP, signal.SIGINT, signal.SIGQUIT, signal.SIGTERM, signal.SIGUSR1, signal.SIGUSR2)
 ENDS_WAITING = (signal.SIGHUP, signal.SIGINT, signal.SIGQUIT, signal.SIGTERM)
@@ -27,12 +29,16 @@ OF_TERMINAL = (signal.SIGINT, signal.SIGQUIT)
 
 @dataclass(frozen=True, slots=True)
 class Job:
-    """A command, the lock that it wants, and how many seconds it may wait for it; None is for ever."""
+    """A command, the lock that it wants, how many seconds it may wait for it, and whether it wants its fencing token.
+
+    A wait of None is for ever.
+    """
 
     name: str
     mode: Mode
     steal: bool
     wait: float | None
+    fence: bool
     command: list[str]
 
 
@@ -47,6 +53,13 @@ class CannotRun(Exception):
     def __init__(self, text: str, status: int) -> None:
         super().__init__(text)
         self.status = status
+
+
+class NoFence(Exception):
+    """The command wants a fencing token, and the server gives none."""
+
+    def __init__(self) -> None:
+        super().__init__("the server gives no fencing tokens, so the command was not run")
 
 
 class Signals:
@@ -88,11 +101,13 @@ class Child:
         self._own_group = own_group
 
     @classmethod
-    async def start(cls, command: list[str]) -> Child:
+    async def start(cls, command: list[str], environment: dict[str, str]) -> Child:
         """Raises CannotRun."""
         own_group = not in_foreground()
         try:
-            process = await asyncio.create_subprocess_exec(*command, process_group=0 if own_group else None)
+            process = await asyncio.create_subprocess_exec(
+                *command, env=environment, process_group=0 if own_group else None
+            )
         except FileNotFoundError as error:
             raise CannotRun(f"{command[0]}: there is no such command", NOT_FOUND) from error
         except (OSError, ValueError) as error:
@@ -142,11 +157,25 @@ def in_foreground() -> bool:
         os.close(terminal)
 
 
+def environment_of(job: Job, lock: Lock) -> dict[str, str]:
+    """The command's environment, with the lock's token if it wants one, and never one of before; raises NoFence."""
+    environment = {name: value for name, value in os.environ.items() if name != FENCE}
+    if job.fence:
+        if lock.fence is None:
+            raise NoFence
+        environment[FENCE] = lock.fence
+    return environment
+
+
 async def run_job(locks: LockManager, job: Job, signals: Signals) -> int:
     """Waits for the lock, runs the command, and answers the exit status.
 
-    Raises TimeoutError where the lock wasn't had in time, and CannotRun. Where the lock is lost, the command is ended.
+    Raises TimeoutError where the lock wasn't had in time, NoFence, and CannotRun. Where the lock is lost, the command
+    is ended.
     """
+    if job.fence and not locks.may_give_fences:
+        # Before the lock is waited for, or stolen.
+        raise NoFence
     at_once = job.wait == 0 and not job.steal
     timeout = None if at_once or job.steal else job.wait
     status = 0
@@ -156,7 +185,7 @@ async def run_job(locks: LockManager, job: Job, signals: Signals) -> int:
         ) as lock:
             if lock is None:
                 raise TimeoutError(f"the lock {job.name!r} is not free")
-            child = await Child.start(job.command)
+            child = await Child.start(job.command, environment_of(job, lock))
             signals.child = child
             try:
                 status = await child.wait()

@@ -11,7 +11,7 @@ from websockets.exceptions import ConnectionClosed
 from .eager import start
 from .errors import Disconnected, Forbidden
 from .messages import POLL, BadReply, Message, Reply, read_reply, write_message
-from .transport import CLOSE_SECONDS, PUSHES, Options, Socket, open_socket
+from .transport import CLOSE_SECONDS, FENCES, PUSHES, Options, Socket, open_socket
 
 Answer = Callable[[Reply], None]
 Failure = Callable[[Disconnected], None]
@@ -31,7 +31,8 @@ class Connection:
         hear: Callable[[Reply], None],
         end: Callable[[Disconnected], None],
     ) -> None:
-        self.pushes = socket.subprotocol == PUSHES
+        self.fences = socket.subprotocol == FENCES
+        self.pushes = self.fences or socket.subprotocol == PUSHES
         self.lost: Disconnected | None = None
         self._loop = asyncio.get_running_loop()
         self._socket = socket
@@ -119,7 +120,7 @@ class Connection:
     async def _read(self) -> None:
         try:
             while True:
-                self._take(read_reply(await self._socket.recv()))
+                self._take(read_reply(await self._socket.recv(), self.fences))
         except ConnectionClosed as error:
             self.lose(_explain_close(error))
         except BadReply as error:

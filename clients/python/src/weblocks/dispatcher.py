@@ -51,6 +51,11 @@ class Dispatcher:
         """By which names the service knows this program now."""
         return {agent.client for agent in self._agents()}
 
+    @property
+    def may_give_fences(self) -> bool:
+        """Whether the next grant may have a fencing token, as far as that is known."""
+        return self._agent is None or self._agent.fences
+
     def submit(self, request: Request) -> None:
         """Sends a request after those before it; one that can't be sent now and may not wait is ended."""
         if self._agent is None and not request.wish.waits:

@@ -43,6 +43,11 @@ class LockManager:
         """
         return self._dispatcher.client_id
 
+    @property
+    def may_give_fences(self) -> bool:
+        """Whether the next lock may have a fencing token, for the blocks of this package: its own `fence` decides."""
+        return self._dispatcher.may_give_fences
+
     @overload
     def request(
         self,
@@ -128,6 +133,7 @@ async def connect(
     heartbeat: float = 10.0,
     poll_interval: float = 0.05,
     reconnect: bool = True,
+    fences: bool = False,
     open_timeout: float = 10.0,
     ssl: tls.SSLContext | None = None,
 ) -> AsyncIterator[LockManager]:
@@ -139,13 +145,14 @@ async def connect(
     Each `heartbeat` seconds the server is asked for a sign of life; if it gives none for as long again, the connection
     is lost. That should be at most a quarter of the time after which the server ends silent connections. A server
     without pushes is asked for news each `poll_interval` seconds while a request waits. `reconnect=False` makes a lost
-    connection the end of the manager. `open_timeout` is how many seconds a connection may take to be made.
+    connection the end of the manager. With `fences` each lock has a fencing token as `lock.fence`, if the server gives
+    them. `open_timeout` is how many seconds a connection may take to be made.
 
     Raises ValueError for a bad URL or option, Disconnected where no server answers, Forbidden where it refuses the
     token, and Refused for a bad origin or bucket.
     """
     options = Options(
-        url, origin, kind, bucket, token, heartbeat, poll_interval, reconnect, open_timeout, ssl
+        url, origin, kind, bucket, token, heartbeat, poll_interval, reconnect, fences, open_timeout, ssl
     )
     locks = await LockManager.open(options)
     try:

@@ -3,6 +3,7 @@
 from __future__ import annotations
 
 import json
+import re
 from dataclasses import dataclass
 from typing import Any, Literal
 
@@ -20,6 +21,9 @@ QUERY: Message = '"op": "query"'
 CLOSE: Message = '"op": "close"'
 
 
+_FENCE = re.compile("[0-9a-f]{16}-[0-9a-f]{16}")
+
+
 class BadReply(Exception):
     """What came is no reply of the service."""
 
@@ -29,13 +33,15 @@ class Reply:
     """One message of the service: the answer to the message of that id, or news that it pushed, whose id is None.
 
     `ok` has what was answered, unless `refusal` says why it was refused. `notices` are pairs of a request's number and
-    its new phase: granted, unavailable, aborted or stolen.
+    its new phase: granted, unavailable, aborted or stolen. `fences` has the fencing tokens of those that were granted,
+    by their numbers, where the server gives some.
     """
 
     id: int | None
     ok: dict[str, Any]
     refusal: Refused | None
     notices: list[tuple[int, str]]
+    fences: dict[int, str]
 
 
 def write_message(id: int, message: Message) -> str:
@@ -43,20 +49,34 @@ def write_message(id: int, message: Message) -> str:
     return f'{{"id": {id}, {message}}}'
 
 
-def read_reply(text: str | bytes) -> Reply:
-    """Reads a reply, or raises BadReply."""
+def read_reply(text: str | bytes, fenced: bool = False) -> Reply:
+    """Reads a reply, or raises BadReply. One that isn't `fenced` has no fencing tokens, whatever it says of them."""
     try:
         value = json.loads(text)
         error = value.get("error")
         notices = [(int(notice["request"]), str(notice["phase"])) for notice in value["notices"]]
+        fences = _read_fences(value["fences"]) if fenced and "fences" in value else {}
         if error is not None:
-            return Reply(value["id"], {}, Refused(error["name"], error["rule"]), notices)
+            return Reply(value["id"], {}, Refused(error["name"], error["rule"]), notices, fences)
         ok = value["ok"]
         if not isinstance(ok, dict):
             raise BadReply("its member ok is no object")
-        return Reply(value["id"], ok, None, notices)
+        return Reply(value["id"], ok, None, notices, fences)
     except (ValueError, KeyError, TypeError, AttributeError) as error:
         raise BadReply(f"it can't be read: {error!r}") from error
+
+
+def _read_fences(entries: object) -> dict[int, str]:
+    """The fencing tokens by the numbers of their requests; whoever wrote by a malformed one could do harm."""
+    if not isinstance(entries, list):
+        raise BadReply("its member fences is no list")
+    fences = {}
+    for entry in entries:
+        request, fence = entry["request"], entry["fence"]
+        if type(request) is not int or not isinstance(fence, str) or _FENCE.fullmatch(fence) is None:
+            raise BadReply(f"it has a malformed fence: {entry!r}")
+        fences[request] = fence
+    return fences
 
 
 def open_message(origin: str, kind: Kind, bucket: str) -> Message:

@@ -17,13 +17,15 @@ LockOrNone = TypeVar("LockOrNone", bound="Lock | None", covariant=True)
 class Lock:
     """A lock that is held, or was.
 
-    `name` and `mode` are those of its request. `lost` is None for as long as nothing ended it but its own release,
-    else the error that says what did.
+    `name` and `mode` are those of its request. `fence` is the fencing token of its grant, which compares with others as
+    texts do; or None where the server gave none, or `connect` wasn't told `fences=True`: whoever wants tokens writes
+    nothing then. `lost` is None for as long as nothing ended it but its own release, else the error that says what did.
     """
 
-    def __init__(self, name: str, mode: Mode) -> None:
+    def __init__(self, name: str, mode: Mode, fence: str | None) -> None:
         self.name = name
         self.mode = mode
+        self.fence = fence
         self.lost: LockLost | None = None
 
     def check(self) -> None:
@@ -110,10 +112,10 @@ class Request:
         """Sends it, unless it must wait for a signal of its own."""
         return agent.send(self)
 
-    def grant(self) -> None:
-        """The service granted the lock and said so."""
+    def grant(self, fence: str | None) -> None:
+        """The service granted the lock and said so, and what its fencing token is, if it has one."""
         self.phase = Phase.HELD
-        self.lock = Lock(self.wish.name, self.wish.mode)
+        self.lock = Lock(self.wish.name, self.wish.mode, fence)
         self._settle(self.lock)
 
     def end_release(self) -> None:

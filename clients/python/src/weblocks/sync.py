@@ -199,12 +199,13 @@ def connect(
     heartbeat: float = 10.0,
     poll_interval: float = 0.05,
     reconnect: bool = True,
+    fences: bool = False,
     open_timeout: float = 10.0,
     ssl: tls.SSLContext | None = None,
 ) -> Iterator[LockManager]:
     """Connects to a service, as `weblocks.connect` says, by a thread that it starts."""
     options = Options(
-        url, origin, kind, bucket, token, heartbeat, poll_interval, reconnect, open_timeout, ssl
+        url, origin, kind, bucket, token, heartbeat, poll_interval, reconnect, fences, open_timeout, ssl
     )
     thread = LoopThread()
     try:

@@ -19,6 +19,9 @@ from .messages import Kind
 PUSHES = "weblocks.push"
 """The subprotocol of a server that tells news without being asked."""
 
+FENCES = "weblocks.fence"
+"""That of a server that does so, and tells of each grant its fencing token."""
+
 CLOSE_SECONDS = 1.0
 
 
@@ -56,6 +59,7 @@ class Options:
     heartbeat: float = 10.0
     poll_interval: float = 0.05
     reconnect: bool = True
+    fences: bool = False
     open_timeout: float = 10.0
     ssl: tls.SSLContext | None = None
     opener: Callable[[Options], Awaitable[Socket]] | None = None
@@ -76,7 +80,7 @@ class Options:
 
 
 async def open_socket(options: Options) -> Socket:
-    """Connects, and offers pushes; the chosen subprotocol says whether the server has them.
+    """Connects, and offers pushes, with fencing tokens if they are wanted; the chosen subprotocol says what there is.
 
     A server that refuses a handshake with subprotocols is tried without. Raises ValueError for a bad URL, Forbidden
     where the token is refused, and Disconnected where no server answers.
@@ -84,7 +88,7 @@ async def open_socket(options: Options) -> Socket:
     if options.opener is not None:
         return await options.opener(options)
     try:
-        return await _connect(options, [PUSHES])
+        return await _connect(options, [FENCES, PUSHES] if options.fences else [PUSHES])
     except InvalidHandshake as error:
         if _status(error) in (401, 403, 503):
             raise _explain(options, error) from error
