@@ -22,6 +22,7 @@ FILES = [
     "usr/lib/python3/dist-packages/weblocks/__main__.py",
     "usr/lib/python3/dist-packages/weblocks/py.typed",
     "usr/lib/systemd/system/weblocks.service",
+    "usr/libexec/weblocks/lead",
     "usr/libexec/weblocks/lend-tokens",
     "usr/share/bash-completion/completions/weblocks",
     "usr/share/doc/weblocks/DEPLOY.md.gz",

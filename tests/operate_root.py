@@ -104,7 +104,7 @@ def is_installed(root: Root) -> None:
     wants = "/etc/systemd/system/multi-user.target.wants/weblocks.service"
     expect("whether it is enabled", root.shell(f"readlink -f {wants}"), "/usr/lib/systemd/system/weblocks.service")
     options = root.shell('. /etc/default/weblocks; echo "$OPTIONS"')
-    expect("the options that it comes with", options, "--listen 127.0.0.1:8080")
+    expect("the options that it comes with", options, "--listen 127.0.0.1:8080 --epoch-file epoch")
     expect("what debsums would find", root.shell("cd / && md5sum -c --quiet /var/lib/dpkg/info/weblocks.md5sums"), "")
     compiled = "ls /usr/lib/python3/dist-packages/weblocks/__pycache__ | wc -l"
     expect("whether its modules are compiled", int(root.shell(compiled)) > 0, True)

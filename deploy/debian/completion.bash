@@ -10,7 +10,7 @@ _weblocks() {
     done
     COMPREPLY=()
     case $previous in
-    --token-file)
+    --token-file | --epoch-file)
         mapfile -t COMPREPLY < <(compgen -f -- "$current")
         compopt -o filenames 2>/dev/null
         return
@@ -19,7 +19,8 @@ _weblocks() {
         mapfile -t COMPREPLY < <(compgen -W "off error warn info debug trace" -- "$current")
         return
         ;;
-    --listen | --connections | --per-address | --managers | --idle | --loops | --allow-origin | --port | --clients)
+    --listen | --connections | --per-address | --managers | --idle | --loops | --allow-origin | --status | --status-host \
+        | --epoch | --port | --clients)
         return
         ;;
     esac
@@ -31,7 +32,7 @@ _weblocks() {
     client) words="--port --help -h" ;;
     daemon)
         words="--listen --connections --per-address --managers --idle --loops --token-file --open --allow-origin"
-        words+=" --while-input --log --help -h"
+        words+=" --status --status-host --epoch --epoch-file --while-input --log --help -h"
         ;;
     help) words=$commands ;;
     *) return ;;

@@ -37,6 +37,10 @@ words)
             '--token-file[file with a token a line]:file:_files' \
             '--open[listen beyond this machine without a token file]' \
             '*--allow-origin[origin whose pages may open any URL]:origin' \
+            '--status[where to show the status]:address and port' \
+            '*--status-host[host by which the status may be asked for too]:name' \
+            '(--epoch-file)--epoch[epoch of the fencing tokens]:number' \
+            '(--epoch)--epoch-file[file that keeps the epoch]:file:_files' \
             '--while-input[end when standard input ends]' \
             '--log[what goes to standard error (info)]:level:(off error warn info debug trace)'
         ;;
