@@ -18,11 +18,11 @@ Checks = Iterator[tuple[str, Callable[[], None]]]
 SAID = "what was just built answers this\n"
 FIRST = "build: proving and building the program: {}\n"
 PROGRESS = """\
-build: wl_number_map was proved by an earlier run, 1 of 23 crates, 0 min
-build: wl_types proved, 2 of 23 crates, 0 min
-build: wl_machine proved, 3 of 23 crates, 0 min
+build: wl_number_map was proved by an earlier run, 1 of 24 crates, 0 min
+build: wl_types proved, 2 of 24 crates, 0 min
+build: wl_machine proved, 3 of 24 crates, 0 min
 """
-CORE = "build: wl_core proved, 4 of 23 crates, 0 min\n"
+CORE = "build: wl_core proved, 4 of 24 crates, 0 min\n"
 END = "build: the program is built, in 0 min\n"
 NOT_BUILT = "build: the program is not built: rt ci ended with {}. Its words are in {}/.build/log, the last of them:\n"
 CHANGED = (
@@ -137,7 +137,7 @@ def fault_checks(made: Checkouts, kit: Kit) -> Checks:
 
     def not_proved() -> None:
         top = made.fresh()
-        told = FIRST.format(cost()) + PROGRESS + "build: wl_core NOT PROVED, 4 of 23 crates, 0 min\n"
+        told = FIRST.format(cost()) + PROGRESS + "build: wl_core NOT PROVED, 4 of 24 crates, 0 min\n"
         told += NOT_BUILT.format(1, top)
         told += """\
     ./proofs/one/Answers.antt:8:13: error: `returns`: expected another type
@@ -229,7 +229,7 @@ def process_checks(made: Checkouts, kit: Kit) -> Checks:
         expect("the status", child.returncode, 0)
         lines = [line.split("\r\x1b[K")[-1] for line in shown.decode().split("\r\n")]
         expect("what is left on the terminal", lines, [FIRST.format(cost()).strip(), END.strip(), ""])
-        if "\r\x1b[Kbuild: wl_core proved, 4 of 23 crates, 0 min" not in shown.decode():
+        if "\r\x1b[Kbuild: wl_core proved, 4 of 24 crates, 0 min" not in shown.decode():
             raise Wrong(f"the progress isn't shown in {shown!r}")
 
     yield "Ctrl-C", lambda: ends_at(signal.SIGINT, 130)

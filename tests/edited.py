@@ -30,29 +30,33 @@ class Edit:
     def name(self) -> str:
         return f"{self.crate}/{self.path.stem}"
 
-    def fault(self) -> str | None:
-        """Why the edit can't be applied, if it can't: each old text must be in its file just once, as the pairs before
-        it left that file."""
-        texts: dict[Path, str] = {}
-        file, old, count = None, "", 0
+    def applied(self) -> tuple[dict[str, str], str | None]:
+        """The texts of the files that it changes, by their place in the crate, and why it can't be applied, if it
+        can't: each old text must be in its file just once, as the pairs before it left that file."""
+        texts: dict[str, str] = {}
+        file, old, count = "", "", 0
         for line in self.path.read_text().splitlines():
             word, _, rest = line.partition(":")
             rest = rest.removeprefix(" ")
             if word == "file":
-                file = TOP / "crates" / self.crate / rest.strip()
-                if file not in texts and not file.is_file():
-                    return f"there is no file {rest.strip()}"
-                texts.setdefault(file, file.read_text())
+                file = rest.strip()
+                place = TOP / "crates" / self.crate / file
+                if not place.is_file():
+                    return texts, f"there is no file {file}"
+                texts.setdefault(file, place.read_text())
             elif word == "old":
                 old = rest
             elif word == "new":
                 if not file or not old:
-                    return "a new text stands before its file and its old text"
+                    return texts, "a new text stands before its file and its old text"
                 if texts[file].count(old) != 1:
-                    return f"not just once in {file.name}: {old.strip()}"
+                    return texts, f"not just once in {Path(file).name}: {old.strip()}"
                 texts[file] = texts[file].replace(old, rest)
                 old, count = "", count + 1
-        return None if count else "it replaces nothing"
+        return texts, None if count else "it replaces nothing"
+
+    def fault(self) -> str | None:
+        return self.applied()[1]
 
 
 def edits_of(crate: str) -> list[Edit]:
@@ -102,6 +106,14 @@ class Digests:
             self.crates[crate] = digest.hexdigest()
         return self.crates[crate]
 
+    def below(self, crate: str) -> list[str]:
+        """The crates of the repository that this one stands on, lowest first."""
+        found: list[str] = []
+        for other in self.lines[crate][1]:
+            if other in self.lines:
+                found += [it for it in (*self.below(other), other) if it not in found]
+        return found
+
     def of_edit(self, edit: Edit) -> str:
         handles = (self.top / "HANDLES").read_bytes()
         whole = (self.logic.encode(), handles, self.of_crate(edit.crate).encode(), edit.path.read_bytes())
@@ -126,6 +138,10 @@ class Record:
 
     def is_due(self, edit: Edit, digest: str) -> bool:
         return self.tried.get(edit.name, ("", ""))[0] != digest
+
+    def reason(self, edit: Edit) -> str | None:
+        """Where the edit was refused at its last try, over whatever sources."""
+        return self.tried[edit.name][1] if edit.name in self.tried else None
 
     def strangers(self, edits: list[Edit]) -> list[str]:
         """The names on record that no edit has."""
