@@ -7,7 +7,7 @@ import { install } from "../polyfill.js";
 import { Lock } from "../weblocks.js";
 import { Fences, fenceOf } from "./support/fences.js";
 import { assertRejects, hold, untilPending } from "./support/holding.js";
-import { connectTo, startPolled, startRelayed } from "./support/servers.js";
+import { connectTo, startPolled, startPushing, startRelayed } from "./support/servers.js";
 import { WebSocket } from "./support/sockets.js";
 
 const EPOCH = 0x4d2;
@@ -230,4 +230,26 @@ test("the resource that README shows takes what is newest, and of readers what i
     const lock = { mode, fence: count === null ? null : fence(count) };
     assert.equal(resource.admits(lock), expected, `${mode} ${count}`);
   }
+});
+
+test("a daemon with an epoch gives tokens that grow, by a reply, a push and a theft, and with the next epoch", async (t) => {
+  const told = [];
+  for (const epoch of ["1234", "1235"]) {
+    const server = await startPushing(t, { words: ["--epoch", epoch] });
+    const [first, second] = [await connectTo(t, server, { fences: true }), await connectTo(t, server, { fences: true })];
+    const holding = await hold(first, "db");
+    const waiting = hold(second, "db");
+    await untilPending(first, 1);
+    told.push(holding.lock.fence);
+    holding.release();
+    told.push((await waiting).lock.fence);
+    told.push(await fenceIn(first, "db", { steal: true }));
+  }
+  assert.equal(told[0], "00000000000004d2-0000000000000001");
+  assert.deepEqual(told, [...new Set(told)].sort());
+});
+
+test("a daemon without an epoch gives none", async (t) => {
+  const locks = await connectTo(t, await startPushing(t), { fences: true });
+  assert.equal(await fenceIn(locks, "db"), null);
 });

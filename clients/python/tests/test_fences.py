@@ -8,7 +8,7 @@ import weblocks
 import weblocks.sync
 from commands import CommandLineCase
 from fencing import FENCES, PUSHES, Fencing, fence_of
-from support import PACKAGE, SECONDS, ServedCase, Server
+from support import PACKAGE, SECONDS, Daemon, ServedCase, Server
 
 EPOCH = 0x4D2
 TOKEN = fence_of(EPOCH, 1)
@@ -208,6 +208,40 @@ class With(CommandLineCase):
             for words in ((), ("--steal",)):
                 self.assertEqual(77, self.run_whole("with", "db", "--fence", *words, *self.SHOW)[0])
             lock.check()
+
+
+class Epochs(ServedCase):
+    """The daemon itself, with an epoch and without."""
+
+    pushes = True
+
+    def started(self, *words):
+        daemon = Daemon(*words)
+        self.addCleanup(daemon.kill)
+        return daemon
+
+    async def test_tokens_grow_by_a_reply_a_push_and_a_theft_and_with_the_next_epoch(self):
+        told = []
+        for epoch in ("1234", "1235"):
+            url = self.started("--epoch", epoch).url
+            async with self.connect(url=url, fences=True) as first, self.connect(url=url, fences=True) as second:
+                async with first.request("db") as lock:
+                    told.append(lock.fence)
+                    waiting = asyncio.create_task(self.fence_in(second))
+                    await self.until_waiting(first, 1)
+                told.append(await waiting)
+                async with first.request("db", steal=True) as lock:
+                    told.append(lock.fence)
+        self.assertEqual(fence(1), told[0])
+        self.assertEqual(sorted(set(told)), told)
+
+    async def fence_in(self, locks):
+        async with locks.request("db") as lock:
+            return lock.fence
+
+    async def test_without_an_epoch_there_are_none(self):
+        async with self.connect(url=self.started().url, fences=True) as locks:
+            self.assertIsNone(await self.fence_in(locks))
 
 
 if __name__ == "__main__":
