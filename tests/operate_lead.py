@@ -124,9 +124,10 @@ def until(holds: Callable[[], bool], seconds: float, otherwise: str) -> None:
 class Candidate:
     """deploy/lead with a daemon of its own, in a group of processes of its own."""
 
-    def __init__(self, program: Path, etcd: int, ttl: int) -> None:
-        words = [str(TOP / "deploy/lead"), "--ttl", str(ttl), "locks", "--", str(program), "daemon"]
-        words += ["--listen", "127.0.0.1:0", "--status", f"127.0.0.1:{free_port()}"]
+    def __init__(self, program: Path, etcd: int, ttl: int, *options: str) -> None:
+        self.listen, self.status = free_port(), free_port()
+        words = [str(TOP / "deploy/lead"), "--ttl", str(ttl), "locks", "--", str(program), "daemon", *options]
+        words += ["--listen", f"127.0.0.1:{self.listen}", "--status", f"127.0.0.1:{self.status}"]
         there = {**environment(), "ETCDCTL_ENDPOINTS": f"http://127.0.0.1:{etcd}"}
         pipes = {"stdin": subprocess.DEVNULL, "stdout": subprocess.PIPE, "stderr": subprocess.PIPE}
         self.child = subprocess.Popen(words, env=there, start_new_session=True, **pipes)
