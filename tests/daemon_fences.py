@@ -8,7 +8,7 @@ import json
 import threading
 
 from daemon_pushes import URL, asked, push, release, released, request
-from daemon_server import PUSH, Daemon, framed
+from daemon_server import PUSH, Daemon, framed, run_at_once
 from running import Wrong, expect
 
 FENCE = "Sec-WebSocket-Protocol: weblocks.fence"
@@ -119,13 +119,7 @@ def thieves(program, grants):
     """In the order of the grants the tokens grow, across loops."""
     with Daemon(program, "--epoch", str(EPOCH), "--loops", "4") as daemon:
         found = [Thief(daemon, grants // PEERS) for _ in range(PEERS)]
-        for it in found:
-            it.start()
-        for it in found:
-            it.join()
-        for it in found:
-            if it.fault:
-                raise it.fault
+        run_at_once(found)
     by_number = sorted((number, token) for it in found for number, token in it.tokens.items())
     expect("whether most were told", len(by_number) > grants // 2, True)
     for (number, token), (later, greater) in zip(by_number, by_number[1:]):

@@ -7,7 +7,7 @@ import socket
 import threading
 import time
 
-from daemon_server import PUSH, Closed, Daemon, framed, until_true
+from daemon_server import PUSH, Closed, Daemon, framed, run_at_once, until_true
 from running import Wrong, expect
 
 URL = "https://a.test/"
@@ -288,14 +288,7 @@ def moves_and_ends_at_once(program):
     no lock has two owners, and in the end none is held or waited for."""
     with Daemon(program, "--loops", "4", "--log", "debug") as daemon:
         owners = {}
-        workers = [Worker(daemon, f"name {n % 3}", owners, 150, n) for n in range(15)]
-        for worker in workers:
-            worker.start()
-        for worker in workers:
-            worker.join()
-        for worker in workers:
-            if worker.fault:
-                raise worker.fault
+        run_at_once([Worker(daemon, f"name {n % 3}", owners, 150, n) for n in range(15)])
         last = daemon.opened(URL, PUSH)
         end = time.monotonic() + 10
         while time.monotonic() < end:

@@ -243,6 +243,17 @@ class Peer:
         self.sock.close()
 
 
+def run_at_once(threads):
+    """Runs threads until all have ended, and raises the first fault that one of them kept."""
+    for it in threads:
+        it.start()
+    for it in threads:
+        it.join()
+    for it in threads:
+        if it.fault:
+            raise it.fault
+
+
 def until_true(what, holds, seconds=SECONDS):
     """Waits until something holds."""
     end = time.monotonic() + seconds
