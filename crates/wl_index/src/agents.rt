@@ -202,8 +202,19 @@ impl Agents {
         found.active = active;
     }
 
-    /// The agent's signal is aborted for this reason.
-    pub fn set_reason(&mut self, agent: u64, signal: u64, reason: Reason)
+    /// The agent's signal is aborted for this reason, and used no more: its list keeps live requests alone, and no more
+    /// room than it needs.
+    pub fn abort(&mut self, live: &Requests, agent: u64, signal: u64, reason: Reason)
+        ensures rows { self.new.rows ≡ record self.old.rows { signals = map (with_reason agent signal reason) self.old.rows.signals } }
+        ensures cleaned { signed_of signal (at agent self.new.members) ≡ only_live live.now.entries (signed_of signal (at agent self.old.members)) }
+        ensures kept { (a : ℕ) → Keeps live.now.entries (at a self.old.members) (at a self.new.members) }
+    {
+        self.set_reason(agent, signal, reason);
+        self.clean(live, agent, signal);
+    }
+
+    /// The agent's signal has this reason.
+    fn set_reason(&mut self, agent: u64, signal: u64, reason: Reason)
         ensures rows { self.new.rows ≡ record self.old.rows { signals = map (with_reason agent signal reason) self.old.rows.signals } }
         ensures members { self.new.members ≡ self.old.members }
     {
@@ -253,8 +264,8 @@ impl Agents {
         }
     }
 
-    /// A signal was aborted: its list is cleaned, and keeps no more room than it needs. It is used no more.
-    pub fn clean(&mut self, live: &Requests, agent: u64, signal: u64)
+    /// A signal's list is cleaned, and keeps no more room than it needs.
+    fn clean(&mut self, live: &Requests, agent: u64, signal: u64)
         ensures rows { self.new.rows ≡ self.old.rows }
         ensures cleaned { signed_of signal (at agent self.new.members) ≡ only_live live.now.entries (signed_of signal (at agent self.old.members)) }
         ensures kept { (a : ℕ) → Keeps live.now.entries (at a self.old.members) (at a self.new.members) }

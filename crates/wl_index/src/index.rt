@@ -201,7 +201,6 @@ impl LockCore for IndexCore {
         if self.agents.reason(agent, signal).is_some() {
             return Ok(AbortAnswer::AlreadyAborted);
         }
-        self.agents.set_reason(agent, signal, reason);
         let phase = Phase::Aborted(reason);
         let ending = Ending {
             owner: Owner::Signal(agent, signal),
@@ -210,7 +209,8 @@ impl LockCore for IndexCore {
         };
         let numbers = self.agents.numbers(ending.owner);
         end_owned(&mut self.locks, numbers, ending, &mut self.ending);
-        self.agents.clean(self.locks.requests(), agent, signal);
+        self.agents
+            .abort(self.locks.requests(), agent, signal, reason);
         self.locks.process();
         Ok(AbortAnswer::Done)
     }
