@@ -1,22 +1,24 @@
 //! The job of the daemon: a server that runs until it is stopped.
 
+use crate::fail;
+use crate::listening::{Listening, Place};
 use log::sink::Console;
 use log::{LevelFilter, Log, Logged, info};
-use mio::net::TcpListener;
-use std::fs::Files;
-use std::net::{Net, SocketAddr};
+use std::fs::{File, Files};
+use std::net::Net;
 use std::process::ExitCode;
 use std::random::RandomSource;
 use std::sync::Wait;
 use std::thread::Threads;
 use std::time::Clock;
 use std::{io, thread};
+use wl_admission::Rules;
 use wl_daemon::{
-    EntryFault, Setup, TokenFile, check_status, next_epoch, places_for, read_rules, serve,
+    EntryFault, Setup, TokenFile, check_address, next_epoch, places_for, read_rules, serve,
 };
 use wl_liveness::Limits;
 use wl_status::StatusServer;
-use wl_words::{DaemonOptions, EpochSource};
+use wl_words::{DaemonOptions, EpochSource, addresses_of};
 
 /// The event loops at most.
 const MOST_LOOPS: usize = 64;
@@ -33,10 +35,31 @@ fn loops_of<R: Threads>(rt: &R, options: &DaemonOptions<'_>) -> usize {
     loops.clamp(1, MOST_LOOPS)
 }
 
-/// Why the daemon doesn't begin, or doesn't go on: a line for standard error, and the status.
-fn refuse<R: Eprint>(rt: &R, fault: EntryFault<'_>) -> ExitCode {
-    let _ = eprintln!(rt; "weblocks: {fault}");
-    ExitCode::FAILURE
+/// The rules that are asked for, of the addresses and the token file of the options.
+fn rules_of<'a, R>(
+    rt: &R,
+    options: &DaemonOptions<'a>,
+    file: Option<&mut TokenFile<'_>>,
+) -> Result<Rules, EntryFault<'a>>
+where
+    R: Files + AllocGlobal,
+{
+    let Ok(addresses) = addresses_of(rt.alloc(), options.listen.as_slice()) else {
+        return Err(EntryFault::Memory);
+    };
+    let origins = options.allow_origins.as_slice();
+    let has_fences = options.epoch.is_some();
+    let addresses = addresses.as_slice();
+    let is_sharded = options.is_sharded;
+    read_rules(
+        rt,
+        addresses,
+        options.is_open,
+        origins,
+        file,
+        has_fences,
+        is_sharded,
+    )
 }
 
 /// The epoch of this start, if one is asked for: where a file keeps it, it is on the disk from now on. Or why there is
@@ -70,8 +93,8 @@ where
         return Ok(None);
     };
     let has_tokens = options.token_file.is_some();
-    if let Err(fault) = check_status(address, has_tokens, options.is_open) {
-        return Err(refuse(rt, fault));
+    if let Err(fault) = check_address(address, has_tokens, options.is_open) {
+        return Err(fail(rt, fault));
     }
     match StatusServer::bind(rt, rt.alloc(), address, options.status_hosts.as_slice()) {
         Ok(server) => Ok(Some(server)),
@@ -83,12 +106,14 @@ where
 }
 
 /// Says where the daemon listens, and where it shows its status.
-fn tell_addresses<R: Print>(
+fn tell_places<R: Print>(
     rt: &R,
-    address: SocketAddr,
+    places: &[Place<'_>],
     status: Option<&StatusServer>,
 ) -> io::Result<()> {
-    println!(rt; "listening {address}")?;
+    for place in places {
+        println!(rt; "listening {place}")?;
+    }
     if let Some(status) = status {
         println!(rt; "status {}", status.address())?;
     }
@@ -98,42 +123,28 @@ fn tell_addresses<R: Print>(
 /// Serves until it is stopped, or standard input ends where that is asked for.
 pub fn daemon<R>(rt: &R, options: &DaemonOptions<'_>) -> ExitCode
 where
-    R: Net + Threads + Wait + Clock + Files<File: Send, Dir: Send> + Sync,
+    R: Net + Threads + Wait + Clock + Files<File = File, Dir: Send> + Sync,
     R: io::Input + Print + Eprint + RandomSource + AllocGlobal,
 {
-    let log = Logged::new(rt, options.log, Console(rt));
-    let log = log.with_target("weblocks");
     let mut file = options.token_file.map(TokenFile::new);
-    let origins = options.allow_origins.as_slice();
-    let listen = options.listen;
-    let has_fences = options.epoch.is_some();
-    let rules = match read_rules(
-        rt,
-        listen,
-        options.is_open,
-        origins,
-        file.as_mut(),
-        has_fences,
-    ) {
+    let rules = match rules_of(rt, options, file.as_mut()) {
         Ok(rules) => rules,
-        Err(fault) => return refuse(rt, fault),
+        Err(fault) => return fail(rt, fault),
     };
     let epoch = match begin_epoch(rt, options) {
         Ok(epoch) => epoch,
         Err(code) => return code,
     };
-    let Ok(listener) = TcpListener::bind(rt, listen) else {
-        let _ = eprintln!(rt; "weblocks: cannot listen on {listen}");
-        return ExitCode::FAILURE;
+    let listening = match Listening::new(rt, options.listen.as_slice()) {
+        Ok(listening) => listening,
+        Err(fault) => return fail(rt, fault),
     };
     let status = match listen_for_status(rt, options) {
         Ok(status) => status,
         Err(code) => return code,
     };
-    let address = listener.local_addr().unwrap_or(listen);
-    if tell_addresses(rt, address, status.as_ref()).is_err() {
-        let _ = eprintln!(rt; "weblocks: cannot write after connection 0");
-        return ExitCode::FAILURE;
+    if tell_places(rt, listening.places.as_slice(), status.as_ref()).is_err() {
+        return fail(rt, "cannot write after connection 0");
     }
     let setup = Setup {
         loops: loops_of(rt, options),
@@ -141,21 +152,46 @@ where
         managers: options.managers as usize,
         limits: Limits::for_idle(options.idle),
         rules,
-        origins,
+        origins: options.allow_origins.as_slice(),
         file,
         epoch,
+        is_sharded: options.is_sharded,
         while_input: options.while_input,
         status,
     };
-    info!(log; "started: listening on {address}, {} loops", setup.loops);
-    match serve(rt, &log, listener, setup) {
+    run(rt, options, listening, setup)
+}
+
+/// Serves what comes in.
+fn run<'a, R>(
+    rt: &'a R,
+    options: &DaemonOptions<'_>,
+    listening: Listening<'a, R>,
+    setup: Setup<'_>,
+) -> ExitCode
+where
+    R: Net + Threads + Wait + Clock + Files<File = File, Dir: Send> + Sync,
+    R: io::Input + Print + Eprint + RandomSource + AllocGlobal,
+{
+    let log = Logged::new(rt, options.log, Console(rt));
+    let log = log.with_target("weblocks");
+    let Listening {
+        listeners,
+        places,
+        files,
+    } = listening;
+    for place in &places {
+        info!(log; "listening on {place}");
+    }
+    info!(log; "started: {} loops", setup.loops);
+    let served = serve(rt, &log, listeners, setup);
+    // Nobody listens any more.
+    drop(files);
+    match served {
         Ok(()) => {
             info!(log; "stopped");
             ExitCode::SUCCESS
         }
-        Err(fault) => {
-            let _ = eprintln!(rt; "weblocks: {fault}");
-            ExitCode::FAILURE
-        }
+        Err(fault) => fail(rt, fault),
     }
 }

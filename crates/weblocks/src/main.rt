@@ -5,12 +5,13 @@
 #![tactic(auto)]
 
 mod daemon;
+mod listening;
 mod network;
 
 use daemon::daemon;
 use network::{NetFault, client, serve};
 use std::alloc::{AllocError, Global};
-use std::fs::Files;
+use std::fs::{File, Files};
 use std::io::Write;
 use std::net::{Net, TcpListener, TcpStream};
 use std::process::ExitCode;
@@ -41,7 +42,7 @@ fn main(rt: HostRuntime) -> ExitCode {
 fn work<R>(rt: &R, words: &[String]) -> ExitCode
 where
     R: Net<Listener = TcpListener, Stream = TcpStream> + Threads + Wait + Sync + RandomSource,
-    R: io::Input + Print + Eprint + Clock + Files<File: Send, Dir: Send> + AllocGlobal,
+    R: io::Input + Print + Eprint + Clock + Files<File = File, Dir: Send> + AllocGlobal,
 {
     let Ok(texts) = texts_of(rt.alloc(), words) else {
         return fail(rt, "out of memory");

@@ -5,6 +5,7 @@ use Rattle.std.specs.List.{filter_map, flat_map, slice_split, starts_with}
 use Rattle.std.specs.Str.{bytes_eq, trim}
 use Rattle.wl_origin.specs.Origin.{Tuple}
 use Rattle.wl_admission.specs.Scopes.{Reach, admits, reach_of, page_reach, tuple_in}
+use Rattle.wl_admission.specs.Targets.{shard_reach}
 use Rattle.wl_admission.specs.Tokens.{Rule, reach_by}
 use Rattle.wl_admission.specs.declared.admitting.Admitted.{Admitted}
 use Rattle.wl_admission.specs.declared.credentials.Carrier.{Carrier}
@@ -17,6 +18,7 @@ use Rattle.wl_admission.specs.declared.subprotocols.Subprotocol.TheVariants as s
 -- RFC 9110: "400 Bad Request", "401 Unauthorized", "503 Service Unavailable"
 abbrev pub status_of : Rejection → ℕ
 status_of rejection.BadHeader = 400
+status_of rejection.BadTarget = 400
 status_of rejection.SeveralOrigins = 400
 status_of rejection.SeveralTokens = 400
 status_of rejection.TokenAlone = 400
@@ -78,39 +80,48 @@ token_reach (Some rules) [] = Err rejection.NoToken
 token_reach (Some rules) (token ∷ []) = reach_or_unknown (reach_by rules token)
 token_reach (Some rules) (token ∷ other ∷ more) = Err rejection.SeveralTokens
 
--- what whoever is admitted may open, as a page and by a token, and the subprotocol that is selected
-abbrev pub Terms : Type 0
-Terms = (Reach × Reach) × Option Subprotocol
+-- what whoever is admitted may open, by the target, as a page and by a token, and the subprotocol that is selected
+pub record Terms : Type 0 where
+  pub shard : Reach
+  pub page : Reach
+  pub token : Reach
+  pub selected : Option Subprotocol
 
 abbrev pub is_empty : List (List ℕ) → Bool
 is_empty [] = true
 is_empty (x ∷ xs) = false
 
-abbrev pub terms_with : Reach → Option Subprotocol → Result Reach Rejection → Result Terms Rejection
-terms_with page selected (Err reason) = Err reason
-terms_with page selected (Ok token) = Ok ((page, token), selected)
+abbrev pub terms_with : Reach → Reach → Option Subprotocol → Result Reach Rejection → Result Terms Rejection
+terms_with shard page selected (Err reason) = Err reason
+terms_with shard page selected (Ok token) = Ok (record { shard = shard; page = page; token = token; selected = selected })
 
 -- a token among the subprotocols wants one beside it that is selected: RFC 6455, section 4.2.2
-abbrev pub terms_by : Option (List Rule) → Bool → List (List ℕ) → List (List ℕ) → Result Reach Rejection → Result Terms Rejection
-terms_by rules has_fences header_tokens subprotocols (Err reason) = Err reason
-terms_by rules has_fences header_tokens subprotocols (Ok page) =
+abbrev pub terms_by : Reach → Option (List Rule) → Bool → List (List ℕ) → List (List ℕ) → Result Reach Rejection → Result Terms Rejection
+terms_by shard rules has_fences header_tokens subprotocols (Err reason) = Err reason
+terms_by shard rules has_fences header_tokens subprotocols (Ok page) =
     let tokens = filter_map (bearer_of carrier.Subprotocol) subprotocols in
     let selected = selected_of has_fences subprotocols in
     if not (is_empty tokens) && not (is_some selected) then Err rejection.TokenAlone
-    else terms_with page selected (token_reach rules (header_tokens ++ tokens))
+    else terms_with shard page selected (token_reach rules (header_tokens ++ tokens))
 
--- what comes of a handshake, by its headers `Origin`, `Authorization` and `Sec-WebSocket-Protocol`
-abbrev pub terms_of : Reach → Option (List Rule) → Bool → List (List ℕ) → List (List ℕ) → List (List ℕ) → Result Terms Rejection
-terms_of trusted rules has_fences origins authorizations headers =
-    terms_by rules has_fences (filter_map (bearer_of carrier.Header) authorizations) (offered headers) (sender_reach trusted origins)
+-- what comes of a handshake whose target lets this open, by its headers `Origin`, `Authorization` and `Sec-WebSocket-Protocol`
+abbrev pub terms_at : Result Reach Rejection → Reach → Option (List Rule) → Bool → List (List ℕ) → List (List ℕ) → List (List ℕ) → Result Terms Rejection
+terms_at (Err reason) trusted rules has_fences origins authorizations headers = Err reason
+terms_at (Ok shard) trusted rules has_fences origins authorizations headers =
+    terms_by shard rules has_fences (filter_map (bearer_of carrier.Header) authorizations) (offered headers) (sender_reach trusted origins)
 
--- a URL has to be open to both: to the page, and to the token
+-- what comes of a handshake, by its target and these headers
+abbrev pub terms_of : Bool → Reach → Option (List Rule) → Bool → List ℕ → List (List ℕ) → List (List ℕ) → List (List ℕ) → Result Terms Rejection
+terms_of is_sharded trusted rules has_fences target origins authorizations headers =
+    terms_at (shard_reach is_sharded target) trusted rules has_fences origins authorizations headers
+
+-- a URL has to be open to all three: at the target, to the page, and to the token
 abbrev pub may_open : Terms → Option Tuple → Bool
-may_open terms origin = admits terms.0.0 origin && admits terms.0.1 origin
+may_open terms origin = admits terms.shard origin && admits terms.page origin && admits terms.token origin
 
 -- what was admitted
 abbrev pub terms_for : Admitted → Terms
-terms_for admitted = ((reach_of admitted.page, reach_of admitted.token), admitted.selected)
+terms_for admitted = record { shard = reach_of admitted.shard; page = reach_of admitted.page; token = reach_of admitted.token; selected = admitted.selected }
 
 -- the answer is the expected one, unless memory ran out
 abbrev pub Answers : {X Y : Type 0} → (Y → X) → Result X Rejection → Result Y Rejection → Type 0

@@ -1,4 +1,6 @@
 pub mod Scopes
+pub mod Targets
+pub mod Laws
 pub mod Tokens
 pub mod Handshakes
 pub mod Places

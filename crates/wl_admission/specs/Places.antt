@@ -1,10 +1,14 @@
 -- How many may be connected at once (own).
-use Rattle.std.specs.Prelude.{◌≡◌, ◌≢◌, ℕ, ◌-◌, nat_lt, ◌&&◌, Bool, unwrap_or, if◌then◌else◌}
+use Rattle.std.specs.Prelude.{◌≡◌, ◌≢◌, ℕ, ◌-◌, nat_lt, ◌&&◌, Bool, true, unwrap_or, if◌then◌else◌}
 use Rattle.std.specs.BTreeMap.{get}
 use Rattle.std.specs.Ordering.{nat_cmp}
 use Rattle.wl_admission.specs.declared.places.PlaceLimits.{PlaceLimits}
 use Rattle.wl_admission.specs.declared.places.Places.{Places}
 use Rattle.wl_admission.specs.declared.places.Source.{Source}
+
+-- whoever comes over a Unix socket, as an address of this machine
+abbrev pub unix_peers : Source
+unix_peers = record { number = 0; is_loopback = true }
 
 -- how many places an address has, by its number
 abbrev pub count_at : Places → ℕ → ℕ

@@ -1,26 +1,29 @@
 //! Who is admitted.
 
-ghost use Rattle.std.specs.Prelude.{◌≡◌, ◌++◌, Some, is_some, map, option_map};
+ghost use Rattle.std.specs.Prelude.{◌≡◌, ◌++◌, Ok, Some, is_some, map, option_map};
 ghost use Rattle.std.specs.List.{filter_map};
 ghost use Rattle.std.specs.Option.{option_copied};
 ghost use Rattle.wl_origin.specs.Standing.{tuple_of};
 ghost use Rattle.wl_admission.specs.Scopes.{admits, reach_of};
 ghost use Rattle.wl_admission.specs.Tokens.{reach_by, rules_of};
 ghost use Rattle.wl_admission.specs.declared.credentials.Carrier.TheVariants.{Header};
-ghost use Rattle.wl_admission.specs.Handshakes.{Answers, bearer_of, may_open, reach_or_unknown, terms_for, terms_of, token_reach};
+ghost use Rattle.wl_admission.specs.Handshakes.{Answers, bearer_of, may_open, reach_or_unknown, terms_at, terms_for, terms_of, token_reach};
 
 use crate::credentials::{Carrier, tokens_in};
 use crate::page::sender_scope;
 use crate::rejection::Rejection;
 use crate::scope::Scope;
 use crate::subprotocols::{Subprotocol, selected_of, subprotocols};
+use crate::targets::shard_scope;
 use crate::tokens::Tokens;
 use std::alloc::Global;
 use wl_origin::Standing;
 
-/// The headers of a handshake that decide whether it is admitted, each with its values in their order.
+/// What of a handshake decides whether it is admitted: its target, and headers, each with its values in their order.
 #[derive(Clone, Copy, Debug)]
 pub struct Hello<'a> {
+    /// The request's target, as it was sent.
+    pub target: &'a str,
     /// `Origin`.
     pub origins: &'a [&'a str],
     /// `Authorization`.
@@ -38,11 +41,15 @@ pub struct Rules {
     pub tokens: Option<Tokens>,
     /// Whether the subprotocol `weblocks.fence` may be selected, for which a server needs an epoch.
     pub has_fences: bool,
+    /// Whether a handshake has to name, by its target, the one origin whose URLs it may open.
+    pub is_sharded: bool,
 }
 
 /// Whoever was admitted.
 #[derive(Debug, Drop)]
 pub struct Admitted {
+    /// What the handshake's target lets open.
+    pub shard: Scope,
     /// What the page that sent the handshake may open.
     pub page: Scope,
     /// What the handshake's token lets open.
@@ -63,15 +70,28 @@ impl Admitted {
     pub fn may_open(&self, origin: &Standing) -> bool
         ensures { result ≡ may_open (terms_for self.now) (tuple_of origin.now) }
     {
-        self.page.admits(origin) && self.token.admits(origin)
+        self.shard.admits(origin) && self.page.admits(origin) && self.token.admits(origin)
     }
 }
 
 /// Whether a handshake is admitted, and what it may open. A refusal is to be answered by its status of HTTP. Of several
-/// reasons the first counts, in this order: the `Origin` headers, a token without a subprotocol that the server
+/// reasons the first counts, in this order: the target, the `Origin` headers, a token without a subprotocol that the server
 /// selects, the number of tokens, the token.
 pub fn admit(alloc: Global, hello: &Hello<'_>, rules: &Rules) -> Result<Admitted, Rejection>
-    ensures { Answers terms_for (terms_of (reach_of rules.now.trusted) (option_map rules_of rules.now.tokens) rules.now.has_fences (map (λ h. h.now) hello.now.origins.now) (map (λ h. h.now) hello.now.authorizations.now) (map (λ h. h.now) hello.now.subprotocols.now)) result }
+    ensures { Answers terms_for (terms_of rules.now.is_sharded (reach_of rules.now.trusted) (option_map rules_of rules.now.tokens) rules.now.has_fences hello.now.target.now (map (λ h. h.now) hello.now.origins.now) (map (λ h. h.now) hello.now.authorizations.now) (map (λ h. h.now) hello.now.subprotocols.now)) result }
+{
+    let shard = shard_scope(alloc, hello.target, rules.is_sharded)?;
+    admit_at(alloc, hello, rules, shard)
+}
+
+/// Whether a handshake whose target lets this open is admitted, by its headers.
+fn admit_at(
+    alloc: Global,
+    hello: &Hello<'_>,
+    rules: &Rules,
+    shard: Scope,
+) -> Result<Admitted, Rejection>
+    ensures { Answers terms_for (terms_at (Ok (reach_of shard)) (reach_of rules.now.trusted) (option_map rules_of rules.now.tokens) rules.now.has_fences (map (λ h. h.now) hello.now.origins.now) (map (λ h. h.now) hello.now.authorizations.now) (map (λ h. h.now) hello.now.subprotocols.now)) result }
 {
     let page = sender_scope(alloc, hello.origins, &rules.trusted)?;
     let Ok(offered) = subprotocols(alloc, hello.subprotocols) else {
@@ -91,6 +111,7 @@ pub fn admit(alloc: Global, hello: &Hello<'_>, rules: &Rules) -> Result<Admitted
         rules.tokens.as_ref(),
     )?;
     Ok(Admitted {
+        shard,
         page,
         token,
         selected,

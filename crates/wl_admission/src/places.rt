@@ -1,7 +1,7 @@
 //! How many may be connected at once.
 
 ghost use Rattle.std.specs.Prelude.{◌≡◌, ◌+◌, ℕ, true, false, OnOk, OnErr, Err};
-ghost use Rattle.wl_admission.specs.Places.{Counts, Leaves, count_at, has_place, limit_for};
+ghost use Rattle.wl_admission.specs.Places.{Counts, Leaves, count_at, has_place, limit_for, unix_peers};
 ghost use Rattle.wl_admission.specs.declared.rejection.Rejection.TheVariants.{NoPlace};
 
 use crate::rejection::Rejection;
@@ -51,6 +51,16 @@ impl Source {
         Source {
             number: mapped.to_bits(),
             is_loopback: address.is_loopback(),
+        }
+    }
+
+    /// Whoever comes over a Unix socket: all of them are one address of this machine, `::`, from which nobody else comes.
+    pub fn of_unix_peers() -> Source
+        ensures { result ≡ unix_peers }
+    {
+        Source {
+            number: 0,
+            is_loopback: true,
         }
     }
 }

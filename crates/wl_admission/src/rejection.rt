@@ -11,6 +11,8 @@ use std::fmt;
 pub enum Rejection {
     /// One of the headers that decide has bytes that are no visible ASCII.
     BadHeader,
+    /// Its target names no origin, at a server where each handshake names one.
+    BadTarget,
     /// It has more than one `Origin` header.
     SeveralOrigins,
     /// It has more than one token (RFC 6750, section 2: a client "must not use more than one method").
@@ -34,6 +36,7 @@ impl Rejection {
     {
         match self {
             Rejection::BadHeader
+            | Rejection::BadTarget
             | Rejection::SeveralOrigins
             | Rejection::SeveralTokens
             | Rejection::TokenAlone => 400,
@@ -46,6 +49,7 @@ impl Rejection {
     pub fn text(self) -> &'static str {
         match self {
             Rejection::BadHeader => "a header that is no text",
+            Rejection::BadTarget => "a target that is not /?origin= and an origin's canonical text",
             Rejection::SeveralOrigins => "more than one Origin header",
             Rejection::SeveralTokens => "more than one token",
             Rejection::TokenAlone => "a bearer subprotocol without one that is selected",

@@ -7,8 +7,9 @@ use wl_admission::Rejection;
 use wl_types::Memory;
 
 /// The reasons for which a handshake is refused, and last that of a connection that was dropped without a word.
-pub const REASONS: [&str; 9] = [
+pub const REASONS: [&str; 10] = [
     "bad-header",
+    "bad-target",
     "several-origins",
     "several-tokens",
     "token-alone",
@@ -23,18 +24,19 @@ pub const REASONS: [&str; 9] = [
 fn place_of(rejection: Rejection) -> usize {
     match rejection {
         Rejection::BadHeader => 0,
-        Rejection::SeveralOrigins => 1,
-        Rejection::SeveralTokens => 2,
-        Rejection::TokenAlone => 3,
-        Rejection::NoToken => 4,
-        Rejection::UnknownToken => 5,
-        Rejection::NoPlace => 6,
-        Rejection::Memory => 7,
+        Rejection::BadTarget => 1,
+        Rejection::SeveralOrigins => 2,
+        Rejection::SeveralTokens => 3,
+        Rejection::TokenAlone => 4,
+        Rejection::NoToken => 5,
+        Rejection::UnknownToken => 6,
+        Rejection::NoPlace => 7,
+        Rejection::Memory => 8,
     }
 }
 
 /// The place of those that were dropped.
-const DROPPED: usize = 8;
+const DROPPED: usize = 9;
 
 /// A number that only grows. Whoever adds is mostly one thread, so that its cache line stays where it is.
 #[derive(Drop)]

@@ -1,7 +1,7 @@
 //! Who may come in, by the words of the command line.
 
 ghost use Rattle.std.specs.Prelude.{◌≡◌, ◌||◌, false, is_some, Err, None, Some, map, IfOk, OnOk};
-ghost use Rattle.std.specs.List.{list_any};
+ghost use Rattle.std.specs.List.{All, list_any};
 ghost use Rattle.wl_admission.specs.Loopback.{IsOfThisMachine};
 ghost use Rattle.wl_admission.specs.Scopes.{reach_of};
 ghost use Rattle.wl_admission.specs.Tokens.{origins_of};
@@ -92,26 +92,30 @@ fn keys_of<'a>(alloc: Global, texts: &[&'a str]) -> Result<Vec<OriginKey>, Entry
     Ok(keys)
 }
 
-/// The rules of a server whose pages and tokens are these, and which may have fencing tokens to give.
+/// The rules of a server whose pages and tokens are these, which may have fencing tokens to give, and may want each
+/// handshake to name its origin.
 pub fn rules_with<'a>(
     alloc: Global,
     origins: &[&'a str],
     tokens: Option<Tokens>,
     has_fences: bool,
+    is_sharded: bool,
 ) -> Result<Rules, EntryFault<'a>>
     ensures trusted { IfOk result (λ rules. trusted_reach (map (λ o. o.now) origins.now) ≡ Some (reach_of rules.trusted)) }
     ensures tokens { IfOk result (λ rules. rules.tokens ≡ tokens) }
     ensures fences { IfOk result (λ rules. rules.has_fences ≡ has_fences) }
+    ensures sharded { IfOk result (λ rules. rules.is_sharded ≡ is_sharded) }
 {
     Ok(Rules {
         trusted: trusted_scope(alloc, origins)?,
         tokens,
         has_fences,
+        is_sharded,
     })
 }
 
-/// Refuses an address for the status that is reached from other machines, where whoever asks there would be told.
-pub fn check_status<'a>(
+/// Refuses an address that is reached from other machines, where whoever comes there would be let in, or told the status.
+pub fn check_address<'a>(
     address: SocketAddr,
     has_tokens: bool,
     is_open: bool,
@@ -125,22 +129,36 @@ pub fn check_status<'a>(
     }
 }
 
-/// The rules of a server that listens at this address.
+/// Refuses the first address that is reached from other machines, where whoever comes there would be let in.
+fn check_addresses<'a>(
+    addresses: &[SocketAddr],
+    has_tokens: bool,
+    is_open: bool,
+) -> Result<(), EntryFault<'a>>
+    ensures guarded { OnOk result (is_open ≡ false → has_tokens ≡ false → All IsOfThisMachine addresses.now) }
+{
+    for address in addresses {
+        check_address(*address, has_tokens, is_open)?;
+    }
+    Ok(())
+}
+
+/// The rules of the network of a server that listens at these addresses.
 pub fn read_rules<'a, R: Files + AllocGlobal>(
     rt: &R,
-    address: SocketAddr,
+    addresses: &[SocketAddr],
     is_open: bool,
     origins: &[&'a str],
     file: Option<&mut TokenFile<'_>>,
     has_fences: bool,
+    is_sharded: bool,
 ) -> Result<Rules, EntryFault<'a>>
     ensures trusted { IfOk result (λ rules. trusted_reach (map (λ o. o.now) origins.now) ≡ Some (reach_of rules.trusted)) }
     ensures fences { IfOk result (λ rules. rules.has_fences ≡ has_fences) }
-    ensures guarded { IfOk result (λ rules. is_open ≡ false → is_some rules.tokens ≡ false → IsOfThisMachine address) }
+    ensures sharded { IfOk result (λ rules. rules.is_sharded ≡ is_sharded) }
+    ensures guarded { IfOk result (λ rules. is_open ≡ false → is_some rules.tokens ≡ false → All IsOfThisMachine addresses.now) }
 {
-    if !may_listen(is_of_this_machine(address), file.is_some(), is_open) {
-        return Err(EntryFault::Exposed(address));
-    }
+    check_addresses(addresses, file.is_some(), is_open)?;
     let tokens = match file {
         Some(file) => match file.read(rt) {
             Ok(tokens) => Some(tokens),
@@ -148,5 +166,5 @@ pub fn read_rules<'a, R: Files + AllocGlobal>(
         },
         None => None,
     };
-    rules_with(rt.alloc(), origins, tokens, has_fences)
+    rules_with(rt.alloc(), origins, tokens, has_fences, is_sharded)
 }

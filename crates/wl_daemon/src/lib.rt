@@ -2,7 +2,8 @@
 //! is told what changed without being asked if it wants that.
 //!
 //! `Member` is what answers over a connection, `Hall` what makes one for each, and `serve` runs the event loops. Who may
-//! come in is read by `read_rules`, and again by `serve` where the file of tokens has changed.
+//! come in is read by `read_rules`, and again by `serve` where the file of tokens has changed. `bind_socket` listens at a path
+//! of this machine's file system.
 #![tactic(auto)]
 
 mod counts;
@@ -19,12 +20,13 @@ mod overview;
 mod ring;
 mod said;
 mod serving;
+mod socket_file;
 mod token_file;
 mod watching;
 
 pub use crate::desk::Desk;
 pub use crate::entry::{
-    EntryFault, check_status, may_listen, places_for, read_rules, rules_with, trusted_scope,
+    EntryFault, check_address, may_listen, places_for, read_rules, rules_with, trusted_scope,
 };
 pub use crate::epoch::{EpochFault, next_epoch};
 pub use crate::hall::Hall;
@@ -32,4 +34,5 @@ pub use crate::loop_state::LoopState;
 pub use crate::member::Member;
 pub use crate::ring::LoopRing;
 pub use crate::serving::{ServeFault, Setup, serve};
+pub use crate::socket_file::{SocketFault, SocketFile, bind_socket};
 pub use crate::token_file::{FileFault, TokenFile};

@@ -9,7 +9,6 @@ use crate::token_file::TokenFile;
 use crate::watching::{Over, watch};
 use log::Log;
 use mio::Poll;
-use mio::net::TcpListener;
 use std::alloc::Global;
 use std::fs::Files;
 use std::io::Read;
@@ -19,11 +18,11 @@ use std::sync::Wait;
 use std::sync::atomic::{AtomicBool, Ordering};
 use std::thread::Threads;
 use std::time::{Clock, Instant, SystemTime, UNIX_EPOCH};
-use std::{io, thread};
+use std::{io, mem, thread};
 use thiserror::Error;
 use wl_admission::{PlaceLimits, Rules};
 use wl_liveness::Limits;
-use wl_loops::{EventLoop, Lobby, LoopSetup, Shared, setup};
+use wl_loops::{EventLoop, Lobby, LoopSetup, Shared, TransportListener, setup};
 use wl_manager::CoarseClock;
 use wl_service::{Keeping, Service};
 use wl_status::{StatusEnd, StatusServer};
@@ -45,6 +44,8 @@ pub struct Setup<'a> {
     pub file: Option<TokenFile<'a>>,
     /// The epoch of its fencing tokens, greater than at each start before; without one it has none to give.
     pub epoch: Option<u64>,
+    /// Whether each handshake has to name, by its target, the one origin that it is for.
+    pub is_sharded: bool,
     /// Whether it is to end when standard input does.
     pub while_input: bool,
     /// What shows its status.
@@ -110,11 +111,11 @@ fn wait_for_input<R: io::Input + AllocGlobal>(rt: &R) {
     }
 }
 
-/// Serves what comes to the listener, until it is to end, which it may never be, or a loop fails.
+/// Serves what comes to the listeners, until it is to end, which it may never be, or a loop fails.
 pub fn serve<R, L>(
     rt: &R,
     log: &L,
-    listener: TcpListener,
+    listeners: Vec<TransportListener>,
     asked: Setup<'_>,
 ) -> Result<(), ServeFault>
 where
@@ -132,6 +133,7 @@ where
         origins,
         file,
         epoch,
+        is_sharded,
         while_input,
         status,
     } = asked;
@@ -177,11 +179,12 @@ where
         Run {
             log,
             loops,
-            listener,
+            listeners,
             polls,
             origins,
             file,
             has_fences: epoch.is_some(),
+            is_sharded,
             while_input,
             status,
             overview: &overview,
@@ -199,11 +202,12 @@ where
 struct Run<'a, L> {
     log: &'a L,
     loops: usize,
-    listener: TcpListener,
+    listeners: Vec<TransportListener>,
     polls: Vec<Poll>,
     origins: &'a [&'a str],
     file: Option<TokenFile<'a>>,
     has_fences: bool,
+    is_sharded: bool,
     while_input: bool,
     status: Option<StatusServer>,
     overview: &'a ServerOverview<'a, L>,
@@ -224,11 +228,12 @@ where
     let Run {
         log,
         loops,
-        listener,
+        listeners,
         polls,
         origins,
         file,
         has_fences,
+        is_sharded,
         while_input,
         status,
         overview,
@@ -239,13 +244,14 @@ where
     };
     let lobby = &lobby;
     thread::scope(thread::scope_env(), rt, |scope| -> Result<(), ServeFault> {
-        let mut listener = Some(listener);
+        let mut listeners = listeners;
         let mut polls = polls;
         for place in (0..loops).rev() {
             let Some(poll) = polls.pop() else {
                 break;
             };
-            let mine = listener.take();
+            // The first that is started has all of them.
+            let mine = mem::replace(&mut listeners, Vec::new(rt.alloc()));
             let spawned = scope.spawn(move || {
                 let mut event_loop = EventLoop::new(
                     rt,
@@ -270,7 +276,7 @@ where
             let spawned = scope.spawn(move || {
                 let mut file = file;
                 watch(
-                    rt, log, origins, has_fences, &mut file, end.shared, &end.over,
+                    rt, log, origins, has_fences, is_sharded, &mut file, end.shared, &end.over,
                 )
             });
             if spawned.is_err() {

@@ -49,6 +49,7 @@ pub fn watch<R, L, H>(
     log: &L,
     origins: &[&str],
     has_fences: bool,
+    is_sharded: bool,
     file: &mut TokenFile<'_>,
     shared: &Shared<H>,
     over: &Over,
@@ -61,7 +62,7 @@ where
         if over.wait(rt, Duration::from_secs(PERIOD)) {
             return;
         }
-        match renew(rt, origins, has_fences, file, shared) {
+        match renew(rt, origins, has_fences, is_sharded, file, shared) {
             Ok(false) => {}
             Ok(true) => info!(log; "token file: read again"),
             Err(fault) => warn!(log; "token file: {fault}, so the old tokens stay"),
@@ -74,6 +75,7 @@ fn renew<R, H>(
     rt: &R,
     origins: &[&str],
     has_fences: bool,
+    is_sharded: bool,
     file: &mut TokenFile<'_>,
     shared: &Shared<H>,
 ) -> Result<bool, FileFault>
@@ -83,7 +85,7 @@ where
     let Some(tokens) = file.read_changed(rt)? else {
         return Ok(false);
     };
-    let Ok(rules) = rules_with(rt.alloc(), origins, Some(tokens), has_fences) else {
+    let Ok(rules) = rules_with(rt.alloc(), origins, Some(tokens), has_fences, is_sharded) else {
         return Err(FileFault::Memory);
     };
     match shared.set_rules(rt, rules) {

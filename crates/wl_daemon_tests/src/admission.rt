@@ -3,10 +3,14 @@
 //! - `trust WORD ..`: the origins whose pages may open all, or `*`;
 //! - `tokens LINE;LINE;..`: the lines of a token file;
 //! - `fences`: from now on the server has fencing tokens to give;
+//! - `shard`: from now on each handshake has to name its origin;
 //! - `hello HEADER; HEADER; ..`: a handshake with these headers, by their first letters (`o`, `a`, `s`), each with its value
-//!   behind a colon;
+//!   behind a colon; `t` stands for its target, which is `/` where it is left out;
+//! - `target TARGET`: whether a handshake with this target and no headers is admitted, or by which status it is refused;
 //! - `open URL`: whether whoever was admitted last may open it;
 //! - `take ADDRESS` and `leave ADDRESS`: a place of three, two for an address and three for one of this machine.
+
+mod targets;
 
 use crate::lists::{Scene, assert_lists, rest, word};
 use std::alloc::{AllocError, Global};
@@ -153,6 +157,7 @@ impl Scene for Server {
                 trusted: Scope::Only(Vec::new(alloc)),
                 tokens: None,
                 has_fences: false,
+                is_sharded: false,
             },
             places: Places::new(alloc, limits),
             admitted: None,
@@ -167,7 +172,12 @@ impl Scene for Server {
                 self.rules.has_fences = true;
                 Ok(came.push_str("are there")?)
             }
+            "shard" => {
+                self.rules.is_sharded = true;
+                Ok(came.push_str("is sharded")?)
+            }
             "hello" => self.greet(rest(call), came),
+            "target" => self.name(rest(call), came),
             "open" => self.open(rest(call), came),
             "take" => self.take(rest(call), came),
             _ => self.leave(rest(call), came),
@@ -212,7 +222,9 @@ impl Server {
         let origins = values(self.alloc, headers, "o:")?;
         let authorizations = values(self.alloc, headers, "a:")?;
         let subprotocols = values(self.alloc, headers, "s:")?;
+        let targets = values(self.alloc, headers, "t:")?;
         let hello = Hello {
+            target: targets.first().copied().unwrap_or("/"),
             origins: origins.as_slice(),
             authorizations: authorizations.as_slice(),
             subprotocols: subprotocols.as_slice(),
@@ -229,6 +241,23 @@ impl Server {
                 self.admitted = Some(admitted);
             }
             Err(rejection) => write!(came, "{} {rejection}", rejection.status())?,
+        }
+        Ok(())
+    }
+
+    fn name(&mut self, target: &str, came: &mut String) -> Result<(), Fail> {
+        let hello = Hello {
+            target,
+            origins: &[],
+            authorizations: &[],
+            subprotocols: &[],
+        };
+        match admit(self.alloc, &hello, &self.rules) {
+            Ok(admitted) => {
+                came.push_str("admitted")?;
+                self.admitted = Some(admitted);
+            }
+            Err(rejection) => write!(came, "{}", rejection.status())?,
         }
         Ok(())
     }

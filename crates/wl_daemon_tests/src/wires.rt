@@ -2,7 +2,8 @@
 //! how often the speaker ended, and the frames that left whole, by their kinds and texts.
 //!
 //! - What is read, one read each: `hello` and `pushed`, a handshake without and with pushes; `origins` and `latin`, one
-//!   with two origins and one whose origin is no ASCII; `head=COUNT`, one of so many bytes; `ping`, `close`, `long`,
+//!   with two origins and one whose origin is no ASCII; `head=COUNT`, one of so many bytes; `target=TARGET`, one with this
+//!   target; `get=PART` and `tail=PART`, that in two reads; `empty`, an empty line; `ping`, `close`, `long`,
 //!   `bytes`, `unmasked`, frames that are so; `half` and `rest`, a text in two reads; `20`, so many texts; `wait`, nothing
 //!   yet; any other word, as a text. Behind them nothing comes.
 //! - What a write takes: a number of bytes, 0 where it would wait. Behind them all is taken.
@@ -26,12 +27,13 @@ use wl_wire::{Greeted, Greeting, Pace, Speaker, Turn, Wire, take_turn};
 /// The turns that are taken.
 const TURNS: u32 = 4;
 
-/// How far a handshake is, at a server that trusts each page, once it went on so often.
+/// How far a handshake is, at a server that is sharded and trusts each page, once it went on so often.
 fn greeted(alloc: Global, script: Script) -> Result<Greeted<Script>, AllocError> {
     let rules = Rules {
         trusted: Scope::All,
         tokens: None,
         has_fences: true,
+        is_sharded: true,
     };
     let rules = Arc::new(alloc, rules)?;
     let mut greeting = Greeting::new(alloc, script, Some(rules))?;
@@ -141,6 +143,14 @@ head=16384 a -> waits waits waits waits 1: a
 head=16385 a -> failed
 origins -> more than one Origin header
 latin -> a header that is no text
+target=/?origin=http%3A%2F%2Fb.test a -> waits waits waits waits 1: a
+get=/?origin=http%3A%2F tail=%2Fb.test a -> waits waits waits waits 1: a
+get=/?origin=http%3A%2F%2Fb wait tail=.test%2Fx -> a target that is not /?origin= and an origin's canonical text
+empty empty target=/?origin=http%3A%2F%2Fb.test a -> waits waits waits waits 1: a
+target=/ -> a target that is not /?origin= and an origin's canonical text
+target=/?origin=http%3A%2F%2Fb.test#x -> a target that is not /?origin= and an origin's canonical text
+target=http://b/?origin=http%3A%2F%2Fb.test -> a target that is not /?origin= and an origin's canonical text
+target=HTTP://b/?origin=http%3A%2F%2Fb.test -> a target that is not /?origin= and an origin's canonical text
 ",
     // What comes and goes.
     "hello -> waits waits waits waits 1:

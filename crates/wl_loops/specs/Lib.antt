@@ -1,3 +1,4 @@
 pub mod Affinity
 pub mod Holds
 pub mod Sweeps
+pub mod Transports

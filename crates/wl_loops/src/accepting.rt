@@ -1,40 +1,81 @@
 //! Taking connections in.
 
+ghost use Rattle.std.specs.Prelude.{◌≡◌, ◌≢◌, ◌<◌, ℕ, length, IfSome, IfNone};
+ghost use Rattle.wl_loops.specs.Transports.{token_of};
+
 use crate::host::{Event, Host};
-use crate::shared::{Arrival, Shared};
-use mio::net::TcpListener;
+use crate::shared::{Arrival, Shared, WAKER};
+use crate::transport_listener::TransportListener;
+use mio::{Registry, Token};
+use std::io;
 use std::io::ErrorKind;
 use std::sync::Wait;
-use wl_admission::Source;
 
 /// The connections that are accepted in a turn.
 const TURN: u32 = 1_024;
 
+/// The token of the first listener.
+const FIRST: usize = WAKER - 1;
+
+/// The token of the listener of this place, from 0.
+fn token_of(place: usize) -> usize
+    ensures { result ≡ token_of place }
+{
+    FIRST.saturating_sub(place)
+}
+
 /// What takes connections in, and gives them to the loops in turn.
 #[derive(Drop)]
 pub struct Acceptor {
-    pub listener: TcpListener,
+    listeners: Vec<TransportListener>,
     next: usize,
 }
 
 impl Acceptor {
-    pub fn new(listener: TcpListener) -> Acceptor {
-        Acceptor { listener, next: 0 }
+    pub fn new(listeners: Vec<TransportListener>) -> Acceptor {
+        Acceptor { listeners, next: 0 }
     }
 
-    /// Accepts until the listener would block. After want of memory or of file descriptors it stops too, and is to be
-    /// asked again after a while, since no event comes for what waits already.
+    /// Has this poll report, for each listener by a token of its own, when connections come in.
+    pub fn register(&mut self, registry: &Registry) -> io::Result<()> {
+        for place in 0..self.listeners.len() {
+            if let Some(listener) = self.listeners.get_mut(place) {
+                listener.register(registry, Token(token_of(place)))?;
+            }
+        }
+        Ok(())
+    }
+
+    /// The place, from 0, of the listener that has this token; none where it is a connection's, which are far below.
+    pub fn place_of(&self, token: usize) -> Option<usize>
+        ensures found { IfSome result (λ place. token_of place ≡ token) }
+        ensures there { IfSome result (λ place. place < length self.now.listeners.items) }
+        ensures none { IfNone result ((place : ℕ) → place < length self.now.listeners.items → token_of place ≢ token) }
+    {
+        let place = FIRST.checked_sub(token)?;
+        (place < self.listeners.len()).then_some(place)
+    }
+
+    /// Accepts from each listener.
     pub fn accept_all<R: Wait, H: Host>(&mut self, rt: &R, shared: &Shared<H>) {
+        for place in 0..self.listeners.len() {
+            self.accept_from(rt, shared, place);
+        }
+    }
+
+    /// Accepts until the listener of this place would block. After want of memory or of file descriptors it stops too,
+    /// and is to be asked again after a while, since no event comes for what waits already.
+    pub fn accept_from<R: Wait, H: Host>(&mut self, rt: &R, shared: &Shared<H>, place: usize) {
         for _ in 0..TURN {
-            match self.listener.accept() {
-                Ok((stream, address)) => {
-                    let source = Source::of(address.ip());
-                    match shared.take_place(rt, source) {
-                        Some(hold) => self.give(rt, shared, Arrival { stream, hold }),
-                        // It is closed.
-                        None => shared.host.note(Event::Dropped(source)),
-                    }
-                }
+            let Some(listener) = self.listeners.get(place) else {
+                return;
+            };
+            match listener.accept() {
+                Ok((transport, source)) => match shared.take_place(rt, source) {
+                    Some(hold) => self.give(rt, shared, Arrival { transport, hold }),
+                    // It is closed.
+                    None => shared.host.note(Event::Dropped(source)),
+                },
                 Err(error) => {
                     let kind = error.kind();
                     match kind {

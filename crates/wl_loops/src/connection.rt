@@ -9,8 +9,8 @@ use crate::farewell::Farewell;
 use crate::host::{Event, Host, Listener, Place};
 use crate::seat::Seat;
 use crate::talk::Talk;
+use crate::transport::Transport;
 use mio::Registry;
-use mio::net::TcpStream;
 use std::mem;
 use std::sync::Wait;
 use wl_admission::{Admitted, Source};
@@ -21,7 +21,7 @@ use wl_wire::{Ending, Greeted, Greeting, Pace, Sending, Wire};
 /// How far a connection is.
 #[derive(Drop)]
 enum Stage<'a, R: Wait, P: Listener> {
-    Greeting(Greeting<TcpStream>),
+    Greeting(Greeting<Transport>),
     Open(Talk<'a, R, P>),
     Closing(Farewell),
     Ended,
@@ -74,7 +74,7 @@ impl<'a, R: Wait, H: Host> Connection<'a, R, H> {
         host: &'a H,
         place: Place,
         source: Source,
-        greeting: Greeting<TcpStream>,
+        greeting: Greeting<Transport>,
         now: u64,
     ) -> Connection<'a, R, H>
         ensures { result.liveness ≡ new_liveness now }
@@ -173,7 +173,7 @@ impl<'a, R: Wait, H: Host> Connection<'a, R, H> {
         }
     }
 
-    fn greet(&mut self, greeting: Greeting<TcpStream>, now: u64) -> Next {
+    fn greet(&mut self, greeting: Greeting<Transport>, now: u64) -> Next {
         match greeting.go_on() {
             Greeted::Waits(greeting) => {
                 self.stage = Stage::Greeting(greeting);
@@ -191,7 +191,7 @@ impl<'a, R: Wait, H: Host> Connection<'a, R, H> {
         }
     }
 
-    fn begin(&mut self, wire: Wire<TcpStream>, admitted: Admitted, now: u64) -> Next {
+    fn begin(&mut self, wire: Wire<Transport>, admitted: Admitted, now: u64) -> Next {
         self.wants_pushes = admitted.is_pushed();
         match self.host.begin(self.rt, self.place, admitted) {
             Ok(speaker) => {
@@ -228,7 +228,7 @@ impl<'a, R: Wait, H: Host> Connection<'a, R, H> {
     }
 
     /// Tells the peer why the connection ends, as far as it can be told.
-    fn close(&mut self, wire: Wire<TcpStream>, ending: Ending, now: u64) -> Next {
+    fn close(&mut self, wire: Wire<Transport>, ending: Ending, now: u64) -> Next {
         self.host.note(Event::Closed(self.source, ending));
         if ending == Ending::Broken {
             return Next::Ended;

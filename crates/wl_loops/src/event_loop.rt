@@ -11,9 +11,9 @@ use crate::host::{Host, Place, Ring};
 use crate::lobby::Lobby;
 use crate::served::{Served, watch_all};
 use crate::shared::{Arrival, Inbox, Shared, WAKER};
+use crate::transport_listener::TransportListener;
 use mio::event::Event;
-use mio::net::TcpListener;
-use mio::{Events, Interest, Poll, Token};
+use mio::{Events, Poll, Token};
 use slab::Slab;
 use std::io::ErrorKind;
 use std::sync::Wait;
@@ -30,9 +30,6 @@ const SWEEP: u64 = 500;
 /// The connections of a loop at most.
 const MOST: usize = 65_536;
 
-/// The token of the listener.
-const LISTENER: usize = WAKER - 1;
-
 /// A loop, and the connections that it serves.
 #[derive(Drop)]
 pub struct EventLoop<'a, 'b, R: Wait, H: Host> {
@@ -42,6 +39,7 @@ pub struct EventLoop<'a, 'b, R: Wait, H: Host> {
     lobby: Option<&'b Lobby<'a, R, H>>,
     number: usize,
     poll: Poll,
+    // None once the server ends.
     acceptor: Option<Acceptor>,
     served: Slab<Served<'a, R, H>>,
     // The keys of those that have a turn. Each is there once.
@@ -57,15 +55,15 @@ pub struct EventLoop<'a, 'b, R: Wait, H: Host> {
 }
 
 impl<'a, 'b, R: Wait + Clock, H: Host> EventLoop<'a, 'b, R, H> {
-    /// The loop of this number, from 0. One of a server's loops has the listener. All of them have the same start, since
-    /// a connection takes its times along to another loop.
+    /// The loop of this number, from 0. One of a server's loops has the listeners, all of them; the others have none. All
+    /// loops have the same start, since a connection takes its times along to another loop.
     pub fn new(
         rt: &'a R,
         shared: &'a Shared<H>,
         lobby: Option<&'b Lobby<'a, R, H>>,
         number: usize,
         poll: Poll,
-        listener: Option<TcpListener>,
+        listeners: Vec<TransportListener>,
         start: Instant,
     ) -> EventLoop<'a, 'b, R, H> {
         let alloc = shared.alloc;
@@ -75,7 +73,7 @@ impl<'a, 'b, R: Wait + Clock, H: Host> EventLoop<'a, 'b, R, H> {
             lobby,
             number,
             poll,
-            acceptor: listener.map(Acceptor::new),
+            acceptor: Some(Acceptor::new(listeners)),
             served: Slab::new(alloc),
             queue: Vec::new(alloc),
             keys: Vec::new(alloc),
@@ -91,9 +89,7 @@ impl<'a, 'b, R: Wait + Clock, H: Host> EventLoop<'a, 'b, R, H> {
     pub fn serve(&mut self) -> io::Result<()> {
         let mut events = Events::with_capacity(self.shared.alloc, EVENTS)?;
         if let Some(acceptor) = &mut self.acceptor {
-            let listener = &mut acceptor.listener;
-            let registry = self.poll.registry();
-            registry.register(listener, Token(LISTENER), Interest::READABLE)?;
+            acceptor.register(self.poll.registry())?;
         }
         for _ in self.rt.forever() {
             if self.shared.is_ending() {
@@ -170,10 +166,17 @@ impl<'a, 'b, R: Wait + Clock, H: Host> EventLoop<'a, 'b, R, H> {
             match event.token().0 {
                 // What it was woken for stands elsewhere.
                 WAKER => {}
-                LISTENER => self.accept(),
-                key => self.hear_of(key, event),
+                token => match self.listener_of(token) {
+                    Some(place) => self.accept_from(place),
+                    None => self.hear_of(token, event),
+                },
             }
         }
+    }
+
+    /// The place of the listener that has this token, if it isn't a connection's.
+    fn listener_of(&self, token: usize) -> Option<usize> {
+        self.acceptor.as_ref()?.place_of(token)
     }
 
     /// The stream of this key is ready for something.
@@ -186,7 +189,15 @@ impl<'a, 'b, R: Wait + Clock, H: Host> EventLoop<'a, 'b, R, H> {
         }
     }
 
-    fn accept(&mut self)
+    /// Takes in what waits at the listener of this place.
+    fn accept_from(&mut self, place: usize) {
+        if let Some(acceptor) = &mut self.acceptor {
+            acceptor.accept_from(self.rt, self.shared, place);
+        }
+    }
+
+    /// Takes in what waits at all listeners.
+    fn accept_all(&mut self)
         ensures { self.new.served ≡ self.old.served }
     {
         if let Some(acceptor) = &mut self.acceptor {
@@ -216,20 +227,15 @@ impl<'a, 'b, R: Wait + Clock, H: Host> EventLoop<'a, 'b, R, H> {
         }
     }
 
-    /// Takes a stream in. Where that fails it is closed.
+    /// Takes a transport in. Where that fails it is closed.
     fn take_in(&mut self, arrival: Arrival) -> io::Result<()> {
-        let Arrival { stream, hold } = arrival;
-        let mut stream = stream;
         self.served.reserve(1)?;
         let key = self.served.vacant_key();
-        let rules = self.shared.rules_for(self.rt, hold)?;
-        let both = Interest::READABLE | Interest::WRITABLE;
-        self.poll
-            .registry()
-            .register(&mut stream, Token(key), both)?;
-        // Without it a reply may wait for the peer's word of the one before.
-        let _ = stream.set_nodelay(true);
-        let greeting = Greeting::new(self.shared.alloc, stream, rules)?;
+        let rules = self.shared.rules_for(self.rt, &arrival)?;
+        let Arrival { transport, hold } = arrival;
+        transport.register(self.poll.registry(), Token(key))?;
+        transport.set_nodelay();
+        let greeting = Greeting::new(self.shared.alloc, transport, rules)?;
         let place = Place {
             event_loop: self.number,
             key,
@@ -335,7 +341,7 @@ impl<'a, 'b, R: Wait + Clock, H: Host> EventLoop<'a, 'b, R, H> {
         }
         self.swept = self.now;
         watch_all(self.rt, self.shared, &mut self.served, self.now);
-        self.accept();
+        self.accept_all();
         // Those for which there was no memory are looked at once more.
         if let Some(inbox) = self.shared.inboxes.get(self.number) {
             inbox.set_newcomers();

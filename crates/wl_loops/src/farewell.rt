@@ -3,7 +3,7 @@
 //! What still comes is read and dropped, so that the close frame isn't lost: a system that gets bytes for a stream that
 //! was closed with bytes unread resets it, and the peer loses what it hasn't read yet.
 
-use mio::net::TcpStream;
+use crate::transport::Transport;
 use std::io::{ErrorKind, Read};
 use std::net::Shutdown;
 use wl_wire::{Sending, Wire};
@@ -18,15 +18,15 @@ const TURN: u32 = 16;
 #[derive(Drop)]
 pub enum Farewell {
     /// The close frame has not left whole.
-    Sending(Wire<TcpStream>),
+    Sending(Wire<Transport>),
     /// All has left, and the writing side is shut.
-    Draining(TcpStream),
+    Draining(Transport),
     Done,
 }
 
 impl Farewell {
     /// Begins, where the close frame was put.
-    pub fn new(wire: Wire<TcpStream>, sending: Sending) -> Farewell {
+    pub fn new(wire: Wire<Transport>, sending: Sending) -> Farewell {
         match sending {
             Sending::Left => shut(wire),
             Sending::Waits => Farewell::Sending(wire),
@@ -77,7 +77,7 @@ fn done(dropped: u64) -> Progress {
     }
 }
 
-fn shut(wire: Wire<TcpStream>) -> Farewell {
+fn shut(wire: Wire<Transport>) -> Farewell {
     let stream = wire.into_stream();
     match stream.shutdown(Shutdown::Write) {
         Ok(()) => Farewell::Draining(stream),
@@ -86,7 +86,7 @@ fn shut(wire: Wire<TcpStream>) -> Farewell {
 }
 
 /// Reads until the stream would block, and drops what came.
-fn drain(stream: TcpStream) -> Progress {
+fn drain(stream: Transport) -> Progress {
     let mut stream = stream;
     let mut bytes = [0; READ];
     let mut dropped: u64 = 0;

@@ -12,12 +12,16 @@ mod event_loop;
 mod farewell;
 mod host;
 mod lobby;
+mod rules;
 mod seat;
 mod served;
 mod shared;
 mod talk;
+mod transport;
+mod transport_listener;
 
 pub use crate::event_loop::EventLoop;
 pub use crate::host::{Event, Host, Listener, Place, Ring};
 pub use crate::lobby::Lobby;
 pub use crate::shared::{LoopSetup, Shared, setup};
+pub use crate::transport_listener::TransportListener;

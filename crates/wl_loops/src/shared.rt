@@ -1,10 +1,13 @@
 //! What the loops of a server share.
 
-ghost use Rattle.std.specs.Prelude.{◌≡◌, is_some, IfOk, IfSome};
+ghost use Rattle.std.specs.Prelude.{◌≡◌, true, false, is_some, None, IfOk, IfSome};
+ghost use Rattle.std.specs.Arc.{arc_value};
 ghost use Rattle.wl_loops.specs.Holds.{is_served, source_of};
+ghost use Rattle.wl_loops.specs.Transports.{is_local};
 
 use crate::host::{Host, Ring};
-use mio::net::TcpStream;
+use crate::rules::AdmissionRules;
+use crate::transport::Transport;
 use mio::{Poll, Token, Waker};
 use std::alloc::{AllocError, Global};
 use std::io;
@@ -49,10 +52,10 @@ impl Hold {
     }
 }
 
-/// A stream on its way to the loop that is to serve it.
+/// A transport on its way to the loop that is to serve it.
 #[derive(Drop)]
 pub(crate) struct Arrival {
-    pub stream: TcpStream,
+    pub transport: Transport,
     pub hold: Hold,
 }
 
@@ -143,7 +146,7 @@ pub struct Shared<H> {
     pub(crate) inboxes: Vec<Inbox>,
     places: Mutex<Places>,
     turned_away: Mutex<Places>,
-    rules: Mutex<Arc<Rules, Global>>,
+    rules: AdmissionRules,
     is_ending: AtomicBool,
     // How often it was asked whether the loops are there.
     beat: AtomicU64,
@@ -158,7 +161,8 @@ pub struct LoopSetup<H> {
     pub polls: Vec<Poll>,
 }
 
-/// Makes what so many loops need.
+/// Makes what so many loops need. The rules are those of the network to begin with; whoever comes over a Unix socket is
+/// admitted by the same pages and subprotocols, and without a token.
 pub fn setup<N: Net, H>(
     net: &N,
     alloc: Global,
@@ -169,6 +173,7 @@ pub fn setup<N: Net, H>(
 ) -> io::Result<LoopSetup<H>>
 where
     H: Drop,
+    ensures { IfOk result (λ made. made.shared.rules.wants_tokens ≡ is_some rules.tokens) }
 {
     let mut polls = Vec::new(alloc);
     let mut inboxes = Vec::new(alloc);
@@ -178,7 +183,7 @@ where
         inboxes.push(Inbox::new(alloc, waker))?;
         polls.push(poll)?;
     }
-    let rules = Arc::new(alloc, rules)?;
+    let rules = AdmissionRules::new(alloc, rules)?;
     Ok(LoopSetup {
         shared: Shared {
             alloc,
@@ -186,7 +191,7 @@ where
             inboxes,
             places: Mutex::new(Places::new(alloc, limits)),
             turned_away: Mutex::new(Places::new(alloc, TURNED_AWAY)),
-            rules: Mutex::new(rules),
+            rules,
             is_ending: AtomicBool::new(false),
             beat: AtomicU64::new(0),
             ever: AtomicU64::new(0),
@@ -196,28 +201,29 @@ where
 }
 
 impl<H> Shared<H> {
-    /// Puts other rules in place for the handshakes from now on.
+    /// Puts other rules of the network in place for the handshakes from now on.
     pub fn set_rules<R: Wait>(&self, rt: &R, rules: Rules) -> Result<(), AllocError> {
-        let rules = Arc::new(self.alloc, rules)?;
-        *self.rules.lock(rt) = rules;
-        Ok(())
+        self.rules.set(rt, rules)
     }
 
-    /// The rules by which handshakes are admitted now. `Memory` comes only where the count of their owners is used up.
+    /// The rules by which handshakes of the network are admitted now. `Memory` comes only where the count of their owners
+    /// is used up.
     pub fn rules<R: Wait>(&self, rt: &R) -> Result<Arc<Rules, Global>, AllocError> {
-        Arc::try_clone(&*self.rules.lock(rt))
+        self.rules.network(rt)
     }
 
-    /// The rules by which a connection with this place is admitted: none where it is turned away.
+    /// The rules by which this connection is admitted: none where it is turned away.
     pub(crate) fn rules_for<R: Wait>(
         &self,
         rt: &R,
-        hold: Hold,
-    ) -> Result<Option<Arc<Rules, Global>>, AllocError>
-        ensures { IfOk result (λ rules. is_some rules ≡ is_served hold) }
+        arrival: &Arrival,
+    ) -> io::Result<Option<Arc<Rules, Global>>>
+        ensures placed { IfOk result (λ rules. is_some rules ≡ is_served arrival.now.hold) }
+        ensures local { is_local arrival.now.transport ≡ true → IfOk result (λ rules. IfSome rules (λ its. (arc_value its).tokens ≡ None)) }
+        ensures wanted { is_local arrival.now.transport ≡ false → self.now.rules.wants_tokens ≡ true → IfOk result (λ rules. IfSome rules (λ its. is_some (arc_value its).tokens ≡ true)) }
     {
-        match hold {
-            Hold::Served(_) => Ok(Some(Arc::try_clone(&*self.rules.lock(rt))?)),
+        match arrival.hold {
+            Hold::Served(_) => Ok(Some(self.rules.of_peer(rt, arrival.transport.is_local())?)),
             Hold::TurnedAway(_) => Ok(None),
         }
     }

@@ -2,10 +2,8 @@
 
 use crate::host::{Host, Listener, Place};
 use crate::seat::Seat;
-use mio::net::TcpStream;
-use mio::unix::SourceFd;
-use mio::{Interest, Registry, Token};
-use std::os::fd::AsRawFd;
+use crate::transport::Transport;
+use mio::{Registry, Token};
 use std::sync::Wait;
 use wl_wire::{Ending, Pace, Turn, Wire, take_turn};
 
@@ -14,7 +12,7 @@ use wl_wire::{Ending, Pace, Turn, Wire, take_turn};
 pub struct Talk<'a, R: Wait, P: Listener> {
     // Let go of in this order, so that whoever sees the stream closed finds the speaker ended.
     pub seat: Seat<'a, R, P>,
-    pub wire: Wire<TcpStream>,
+    pub wire: Wire<Transport>,
 }
 
 impl<'a, R: Wait, P: Listener> Talk<'a, R, P> {
@@ -34,8 +32,7 @@ impl<'a, R: Wait, P: Listener> Talk<'a, R, P> {
 
     /// Has this poll report no more of its stream, and answers whether it won't.
     pub fn detach(&self, registry: &Registry) -> bool {
-        let stream = self.wire.stream().as_raw_fd();
-        registry.deregister(&mut SourceFd(&stream)).is_ok()
+        self.wire.stream().deregister(registry).is_ok()
     }
 
     /// Has its stream and its speaker report to this place, and answers whether they will. Else neither does.
@@ -46,17 +43,12 @@ impl<'a, R: Wait, P: Listener> Talk<'a, R, P> {
         registry: &Registry,
         place: Place,
     ) -> bool {
-        let stream = self.wire.stream().as_raw_fd();
-        let both = Interest::READABLE | Interest::WRITABLE;
-        let mut source = SourceFd(&stream);
-        if registry
-            .register(&mut source, Token(place.key), both)
-            .is_err()
-        {
+        let transport = self.wire.stream();
+        if transport.register(registry, Token(place.key)).is_err() {
             return false;
         }
         if !self.settle_speaker(rt, host, place) {
-            let _ = registry.deregister(&mut source);
+            let _ = self.wire.stream().deregister(registry);
             return false;
         }
         self.wire.wake();

@@ -13,6 +13,8 @@ pub struct Greeter {
     pub alloc: Global,
     /// None where there is no place for the connection.
     pub rules: Option<Arc<Rules, Global>>,
+    /// The request's target, once its line has come.
+    pub target: Arc<OnceLock<String>, Global>,
     pub verdict: Arc<OnceLock<Result<Admitted, Rejection>>, Global>,
 }
 
@@ -39,6 +41,10 @@ impl Greeter {
         let Some(rules) = &self.rules else {
             return Err(Rejection::NoPlace);
         };
+        // The line has come, so that only memory can have been wanting.
+        let Some(target) = self.target.get() else {
+            return Err(Rejection::Memory);
+        };
         let origins = values(self.alloc, headers, HeaderName::from_static("origin"))?;
         let authorizations = values(
             self.alloc,
@@ -51,6 +57,7 @@ impl Greeter {
             HeaderName::from_static("sec-websocket-protocol"),
         )?;
         let hello = Hello {
+            target: target.as_str(),
             origins: origins.as_slice(),
             authorizations: authorizations.as_slice(),
             subprotocols: subprotocols.as_slice(),

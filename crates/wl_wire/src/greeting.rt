@@ -2,6 +2,7 @@
 
 use crate::counted::Counted;
 use crate::greeter::Greeter;
+use crate::targeted::Targeted;
 use crate::wire::Wire;
 use std::alloc::{AllocError, Global};
 use std::io::{Read, Write};
@@ -27,7 +28,7 @@ type Verdict = OnceLock<Result<Admitted, Rejection>>;
 #[derive(Drop)]
 pub struct Greeting<S: Read + Write + Drop> {
     alloc: Global,
-    handshake: MidHandshake<ServerHandshake<Counted<S>, Greeter>>,
+    handshake: MidHandshake<ServerHandshake<Counted<Targeted<S>>, Greeter>>,
     verdict: Arc<Verdict, Global>,
 }
 
@@ -59,12 +60,14 @@ impl<S: Read + Write + Drop> Greeting<S> {
         rules: Option<Arc<Rules, Global>>,
     ) -> Result<Greeting<S>, AllocError> {
         let verdict = Arc::new(alloc, OnceLock::new())?;
+        let target = Arc::new(alloc, OnceLock::new())?;
         let greeter = Greeter {
             alloc,
             rules,
+            target: Arc::try_clone(&target)?,
             verdict: Arc::try_clone(&verdict)?,
         };
-        let counted = Counted::new(stream, HEAD);
+        let counted = Counted::new(Targeted::new(alloc, stream, target), HEAD);
         Ok(Greeting {
             alloc,
             handshake: start(alloc, counted, greeter, None),
@@ -99,8 +102,11 @@ impl<S: Read + Write + Drop> Greeting<S> {
 }
 
 /// The wire of a handshake that is done, of which no more than the head was read.
-fn opened<S: Read + Write + Drop>(alloc: Global, socket: WebSocket<Counted<S>, NoMask>) -> Wire<S> {
-    let stream = socket.into_inner().into_stream();
+fn opened<S: Read + Write + Drop>(
+    alloc: Global,
+    socket: WebSocket<Counted<Targeted<S>>, NoMask>,
+) -> Wire<S> {
+    let stream = socket.into_inner().into_stream().into_stream();
     let counted = Counted::new(stream, u64::MAX);
     let socket = WebSocket::from_raw_socket(alloc, counted, NoMask, Role::Server, Some(config()));
     Wire::new(alloc, socket)

@@ -11,6 +11,7 @@ mod ending;
 mod greeter;
 mod greeting;
 mod speaker;
+mod targeted;
 mod turn;
 mod wire;
 

@@ -7,10 +7,11 @@ use Rattle.clap.specs.declared.builder.action.ArgAction.TheVariants.{Append, Set
 use Rattle.clap.specs.declared.builder.value_parser.ValueParser.{ValueParser}
 use Rattle.clap.specs.declared.builder.value_parser.ValueParser.TheVariants as values
 use Rattle.log.specs.Level.{parse_filter}
+use Rattle.wl_words.specs.Endpoints.{ListensAt}
 use Rattle.wl_words.specs.Numbers.{HasNumberTo, MayHaveNumberTo}
 use Rattle.wl_words.specs.declared.daemon.DaemonOptions.{DaemonOptions}
-use Rattle.wl_words.specs.declared.daemon.OptionFault.{OptionFault}
-use Rattle.wl_words.specs.declared.daemon.OptionFault.TheVariants as fault
+use Rattle.wl_words.specs.declared.arguments.OptionFault.{OptionFault}
+use Rattle.wl_words.specs.declared.arguments.OptionFault.TheVariants as fault
 use Rattle.wl_words.specs.declared.epoch.EpochSource.{EpochSource}
 use Rattle.wl_words.specs.declared.epoch.EpochSource.TheVariants.{Number, File}
 
@@ -18,7 +19,11 @@ use Rattle.wl_words.specs.declared.epoch.EpochSource.TheVariants.{Number, File}
 abbrev pub value_rule : Text → ValueParser → Rule
 value_rule name parser = record (new_rule name) { long = Some name; value_names = 1; action = Some Set; parser = Some parser }
 
--- the same with a number from 1
+-- the same that may be given again
+abbrev pub again_rule : Text → ValueParser → Rule
+again_rule name parser = record (value_rule name parser) { action = Some Append }
+
+-- an option with a number from 1
 abbrev pub option_rule : Text → ℕ → Rule
 option_rule name most = value_rule name (values.Signed (pos 1) (pos most))
 
@@ -31,7 +36,7 @@ abbrev pub flag_rule : Text → Rule
 flag_rule name = record (new_rule name) { long = Some name; action = Some SetTrue }
 
 abbrev pub listen_app : App
-listen_app = with_rule (new_app (codes "daemon")) (by_default (codes "127.0.0.1:8080") (value_rule (codes "listen") values.String))
+listen_app = with_rule (new_app (codes "daemon")) (by_default (codes "127.0.0.1:8080") (again_rule (codes "listen") values.String))
 
 abbrev pub limits_app : App
 limits_app =
@@ -49,15 +54,17 @@ abbrev pub admission_app : App
 admission_app =
     with_rule
     (with_rule
+    (with_rule
     (with_rule limits_app (value_rule (codes "token-file") values.NonEmptyString))
     (flag_rule (codes "open")))
-    (record (value_rule (codes "allow-origin") values.String) { action = Some Append })
+    (flag_rule (codes "sharded")))
+    (again_rule (codes "allow-origin") values.String)
 
 abbrev pub status_app : App
 status_app =
     with_rule
     (with_rule admission_app (value_rule (codes "status") values.String))
-    (record (value_rule (codes "status-host") values.NonEmptyString) { action = Some Append })
+    (again_rule (codes "status-host") values.NonEmptyString)
 
 abbrev pub epoch_app : App
 epoch_app =
@@ -94,7 +101,7 @@ IsEpochFault why = (why ≡ fault.Memory) ⊎ (why ≡ fault.TwoEpochs)
 
 -- the options' texts ask for this
 pub record AsksFor (rows : List Row) (options : DaemonOptions) : Type 0 where
-  pub listen : (text : Text) × (one_of (codes "listen") rows ≡ Some text) × IsSocketText text options.listen
+  pub listen : ListensAt rows options.listen.items
   pub connections : HasNumberTo 1000000 (codes "connections") rows options.connections
   pub per_address : MayHaveNumberTo 1000000 (codes "per-address") rows options.per_address
   pub managers : HasNumberTo 10000000 (codes "managers") rows options.managers
@@ -102,6 +109,7 @@ pub record AsksFor (rows : List Row) (options : DaemonOptions) : Type 0 where
   pub loops : MayHaveNumberTo 64 (codes "loops") rows options.loops
   pub token_file : option_map (λ text. text.now) options.token_file ≡ first_of (codes "token-file") rows
   pub is_open : IsUsed (codes "open") rows options.is_open
+  pub is_sharded : IsUsed (codes "sharded") rows options.is_sharded
   pub origins : map (λ text. text.now) options.allow_origins.items ≡ unwrap_or (all_of (codes "allow-origin") rows) []
   pub status : MayHaveAddress (codes "status") rows options.status
   pub status_hosts : map (λ text. text.now) options.status_hosts.items ≡ unwrap_or (all_of (codes "status-host") rows) []

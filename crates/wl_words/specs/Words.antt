@@ -9,10 +9,11 @@ use Rattle.clap.specs.declared.error.kind.ErrorKind.TheVariants.{ArgumentConflic
 use Rattle.clap.specs.declared.builder.value_parser.ValueParser.TheVariants as values
 use Rattle.wl_words.specs.declared.job.Job.{Job}
 use Rattle.wl_words.specs.declared.job.Job.TheVariants.{Run, Audit, Timeline, Serve, Client, Daemon}
+use Rattle.wl_words.specs.Endpoints.{HasWrongEndpoint}
 use Rattle.wl_words.specs.Daemon.{AsksFor, HasNoAddress, HasNoLevel, HasTwoEpochs, daemon_app}
 pub use Rattle.wl_words.specs.Numbers.{HasNumber}
-use Rattle.wl_words.specs.declared.daemon.OptionFault.{OptionFault}
-use Rattle.wl_words.specs.declared.daemon.OptionFault.TheVariants as fault
+use Rattle.wl_words.specs.declared.arguments.OptionFault.{OptionFault}
+use Rattle.wl_words.specs.declared.arguments.OptionFault.TheVariants as fault
 use Rattle.wl_words.specs.declared.job.UsageFault.{UsageFault}
 use Rattle.wl_words.specs.declared.job.UsageFault.TheVariants.{Usage, Memory}
 
@@ -64,11 +65,11 @@ IsJob (Some used) (Serve port clients) = (used.0 ≡ codes "serve") × HasNumber
 IsJob (Some used) (Client port) = (used.0 ≡ codes "client") × HasNumber (codes "port") used.1 port × (1 ≤ port) × (port ≤ 65535)
 IsJob (Some used) (Daemon options) = (used.0 ≡ codes "daemon") × AsksFor used.1 options
 
--- The daemon's `--listen` and `--status` have to be an address and a port, and its `--log` a level, which `clap` doesn't know.
+-- The daemon's `--listen` has to say where, its `--status` has to be an address and a port, and its `--log` a level, which `clap` doesn't know.
 abbrev pub IsWrongOption : Option (Text × List Row) → Type 0
 IsWrongOption None = ⊥
 IsWrongOption (Some used) = (used.0 ≡ codes "daemon")
-    × (HasNoAddress (one_of (codes "listen") used.1) ⊎ HasNoAddress (one_of (codes "status") used.1) ⊎ HasNoLevel (one_of (codes "log") used.1))
+    × (HasWrongEndpoint used.1 ⊎ HasNoAddress (one_of (codes "status") used.1) ⊎ HasNoLevel (one_of (codes "log") used.1))
 
 -- The daemon's epoch is given twice: of options that exclude each other `clap` says too little.
 abbrev pub IsTwice : Option (Text × List Row) → Type 0

@@ -1,10 +1,12 @@
 //! What the daemon is asked for.
 
-ghost use Rattle.std.specs.Prelude.{◌≡◌, [], map, unwrap_or, IfErr, IfOk, OnErr, codes};
-ghost use Rattle.clap.specs.Words.{all_of, found_of, one_of, rows_of};
+ghost use Rattle.std.specs.Prelude.{◌≡◌, IfErr, IfOk, OnErr, codes};
+ghost use Rattle.clap.specs.Words.{found_of, one_of, rows_of};
+ghost use Rattle.wl_words.specs.Endpoints.{HasWrongEndpoint};
 ghost use Rattle.wl_words.specs.Daemon.{AsksFor, HasNoAddress, HasNoLevel, HasTwoEpochs, MayHaveAddress};
-ghost use Rattle.wl_words.specs.Numbers.{HasNumberTo, MayHaveNumberTo};
 
+use crate::arguments::{OptionFault, number_if_any, number_in, texts_in};
+use crate::endpoint::{Endpoint, endpoints_in};
 use crate::epoch::{EpochSource, epoch_in};
 use clap::ArgMatches;
 use log::LevelFilter;
@@ -26,8 +28,8 @@ pub const MOST_LOOPS: u32 = 64;
 /// What the daemon is asked for.
 #[derive(Debug, Drop)]
 pub struct DaemonOptions<'a> {
-    /// Where to listen. Port 0 is any that is free.
-    pub listen: SocketAddr,
+    /// Where to listen: at least one.
+    pub listen: Vec<Endpoint<'a>>,
     /// The connections at once, 1 to 1,000,000.
     pub connections: u32,
     /// The connections at once from one address; none means a quarter of all, and all from this machine.
@@ -42,6 +44,8 @@ pub struct DaemonOptions<'a> {
     pub token_file: Option<&'a str>,
     /// Whether it may listen beyond this machine without a token file.
     pub is_open: bool,
+    /// Whether each connection may open URLs of one origin alone, which its handshake's target names.
+    pub is_sharded: bool,
     /// The origins whose pages may open any URL. `*` is all.
     pub allow_origins: Vec<&'a str>,
     /// Where to show the status; none means nowhere. Port 0 is any that is free.
@@ -54,69 +58,6 @@ pub struct DaemonOptions<'a> {
     pub while_input: bool,
     /// What goes into its log.
     pub log: LevelFilter,
-}
-
-/// Why the options ask for nothing that can be done, beyond what `clap` finds.
-#[derive(Clone, Copy, Debug, PartialEq, Eq, Drop)]
-pub enum OptionFault {
-    /// `--listen` has no address and port.
-    Listen,
-    /// `--log` has no level.
-    Log,
-    /// `--status` has no address and port.
-    Status,
-    /// `--epoch` and `--epoch-file` are given at once.
-    TwoEpochs,
-    /// A growth was refused, or `clap` gave what it should not.
-    Memory,
-}
-
-/// The number of an option that has a default. `clap` has tested the range; it is tested again, since no contract of its
-/// says so.
-fn number_in(options: &ArgMatches<'_>, name: &str, most: u32) -> Result<u32, OptionFault>
-    ensures ok { IfOk result (HasNumberTo most name.now (rows_of (found_of options.now))) }
-    ensures err { IfErr result (λ fault. fault ≡ OptionFault.Memory) }
-{
-    match options.get_one::<u32>(name) {
-        Some(number) if (1..=most).contains(&number) => Ok(number),
-        _ => Err(OptionFault::Memory),
-    }
-}
-
-/// The number of an option that needn't be there.
-fn number_if_any(
-    options: &ArgMatches<'_>,
-    name: &str,
-    most: u32,
-) -> Result<Option<u32>, OptionFault>
-    ensures ok { IfOk result (MayHaveNumberTo most name.now (rows_of (found_of options.now))) }
-    ensures err { IfErr result (λ fault. fault ≡ OptionFault.Memory) }
-{
-    if options.get_str(name).is_none() {
-        return Ok(None);
-    }
-    match number_in(options, name, most) {
-        Ok(number) => Ok(Some(number)),
-        Err(fault) => Err(fault),
-    }
-}
-
-/// The texts of an option that may be given again.
-fn texts_in<'a>(
-    alloc: Global,
-    options: &ArgMatches<'a>,
-    name: &str,
-) -> Result<Vec<&'a str>, OptionFault>
-    ensures ok { IfOk result (λ found. map (λ text. text.now) found.items ≡ unwrap_or (all_of name.now (rows_of (found_of options.now))) []) }
-    ensures err { IfErr result (λ fault. fault ≡ OptionFault.Memory) }
-{
-    let mut texts = Vec::new(alloc);
-    if let Some(given) = options.get_strs(name) {
-        if texts.extend_from_slice(given).is_err() {
-            return Err(OptionFault::Memory);
-        }
-    }
-    Ok(texts)
 }
 
 /// The address of `--status`, if it is given.
@@ -140,22 +81,19 @@ pub fn daemon_in<'a>(
     options: &ArgMatches<'a>,
 ) -> Result<DaemonOptions<'a>, OptionFault>
     ensures asked { IfOk result (AsksFor (rows_of (found_of options.now))) }
-    ensures listen { IfErr result (λ fault. fault ≡ OptionFault.Listen → HasNoAddress (one_of (codes "listen") (rows_of (found_of options.now)))) }
+    ensures listen { IfErr result (λ fault. fault ≡ OptionFault.Listen → HasWrongEndpoint (rows_of (found_of options.now))) }
     ensures log { IfErr result (λ fault. fault ≡ OptionFault.Log → HasNoLevel (one_of (codes "log") (rows_of (found_of options.now)))) }
     ensures status { IfErr result (λ fault. fault ≡ OptionFault.Status → HasNoAddress (one_of (codes "status") (rows_of (found_of options.now)))) }
     ensures epochs { IfErr result (λ fault. fault ≡ OptionFault.TwoEpochs → HasTwoEpochs (rows_of (found_of options.now))) }
 {
-    if options.get_str("listen").is_none() || options.get_str("log").is_none() {
+    if options.get_str("log").is_none() {
         return Err(OptionFault::Memory);
     }
-    let Some(listen) = options.get_one::<SocketAddr>("listen") else {
-        return Err(OptionFault::Listen);
-    };
     let Some(log) = options.get_one::<LevelFilter>("log") else {
         return Err(OptionFault::Log);
     };
     Ok(DaemonOptions {
-        listen,
+        listen: endpoints_in(alloc, options)?,
         connections: number_in(options, "connections", MOST_CONNECTIONS)?,
         per_address: number_if_any(options, "per-address", MOST_CONNECTIONS)?,
         managers: number_in(options, "managers", MOST_MANAGERS)?,
@@ -163,6 +101,7 @@ pub fn daemon_in<'a>(
         loops: number_if_any(options, "loops", MOST_LOOPS)?,
         token_file: options.get_str("token-file"),
         is_open: options.get_flag("open"),
+        is_sharded: options.get_flag("sharded"),
         allow_origins: texts_in(alloc, options, "allow-origin")?,
         status: status_in(options)?,
         status_hosts: texts_in(alloc, options, "status-host")?,

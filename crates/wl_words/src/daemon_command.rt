@@ -3,13 +3,13 @@
 ghost use Rattle.std.specs.Prelude.{◌≡◌, IfOk, codes, false};
 ghost use Rattle.clap.specs.Words.{app_of, rule_of};
 ghost use Rattle.clap.specs.declared.builder.command.Command.TheViews.{out-Command as fields_of};
-ghost use Rattle.wl_words.specs.Daemon.{admission_app, daemon_app, epoch_app, flag_rule, limits_app, listen_app, option_rule, status_app, value_rule};
+ghost use Rattle.wl_words.specs.Daemon.{admission_app, again_rule, daemon_app, epoch_app, flag_rule, limits_app, listen_app, option_rule, status_app, value_rule};
 
 use crate::daemon::{MOST_CONNECTIONS, MOST_IDLE, MOST_LOOPS, MOST_MANAGERS};
 use crate::epoch::MOST_EPOCH;
 use crate::texts::{
     ALLOW_ORIGIN, CONNECTIONS, DAEMON_ABOUT, DAEMON_EXAMPLE, EPOCH, EPOCH_FILE, IDLE, LISTEN, LOG,
-    LOOPS, MANAGERS, OPEN, PER_ADDRESS, STATUS, STATUS_HOST, TOKEN_FILE, WHILE_INPUT,
+    LOOPS, MANAGERS, OPEN, PER_ADDRESS, SHARDED, STATUS, STATUS_HOST, TOKEN_FILE, WHILE_INPUT,
 };
 use clap::builder::ValueParser;
 use clap::{Arg, ArgAction, Command};
@@ -32,6 +32,20 @@ fn value<'a>(
         .help(help)
         .action(ArgAction::Set)
         .value_parser(parser)
+}
+
+/// An option with one value that may be given again.
+fn repeated<'a>(
+    alloc: Global,
+    name: &'a str,
+    value_name: &'a str,
+    help: &'a str,
+    parser: ValueParser<'a>,
+) -> Arg<'a>
+    ensures rule { rule_of result ≡ again_rule name.entry.now parser.entry }
+    ensures local { result.global ≡ false }
+{
+    value(alloc, name, value_name, help, parser).action(ArgAction::Append)
 }
 
 /// An option with a number from 1 to `most`.
@@ -65,7 +79,7 @@ fn with_admission<'a>(alloc: Global, command: Command<'a>) -> Result<Command<'a>
     ensures local { (fields_of command.entry).has_globals ≡ false → IfOk result (λ c. (fields_of c).has_globals ≡ false) }
 {
     let file = ValueParser::NonEmptyString;
-    let origin = value(
+    let origin = repeated(
         alloc,
         "allow-origin",
         "ORIGIN",
@@ -75,7 +89,8 @@ fn with_admission<'a>(alloc: Global, command: Command<'a>) -> Result<Command<'a>
     command
         .arg(value(alloc, "token-file", "FILE", TOKEN_FILE, file))?
         .arg(flag(alloc, "open", OPEN))?
-        .arg(origin.action(ArgAction::Append))
+        .arg(flag(alloc, "sharded", SHARDED))?
+        .arg(origin)
 }
 
 /// Where the status is shown, and by which names.
@@ -84,7 +99,7 @@ fn with_status<'a>(alloc: Global, command: Command<'a>) -> Result<Command<'a>, A
     ensures local { (fields_of command.entry).has_globals ≡ false → IfOk result (λ c. (fields_of c).has_globals ≡ false) }
 {
     let address = ValueParser::string();
-    let host = value(
+    let host = repeated(
         alloc,
         "status-host",
         "NAME",
@@ -93,7 +108,7 @@ fn with_status<'a>(alloc: Global, command: Command<'a>) -> Result<Command<'a>, A
     );
     command
         .arg(value(alloc, "status", "ADDRESS:PORT", STATUS, address))?
-        .arg(host.action(ArgAction::Append))
+        .arg(host)
 }
 
 /// What gives the epoch of fencing tokens.
@@ -132,10 +147,10 @@ pub fn daemon_command<'a>(alloc: Global) -> Result<Command<'a>, AllocError>
     ensures app { IfOk result (λ c. app_of c ≡ daemon_app) }
     ensures local { IfOk result (λ c. (fields_of c).has_globals ≡ false) }
 {
-    let listen = value(
+    let listen = repeated(
         alloc,
         "listen",
-        "ADDRESS:PORT",
+        "ADDRESS:PORT|unix:PATH",
         LISTEN,
         ValueParser::string(),
     );

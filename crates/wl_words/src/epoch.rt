@@ -5,7 +5,7 @@ ghost use Rattle.clap.specs.Words.{found_of, rows_of};
 ghost use Rattle.wl_words.specs.Daemon.{HasTwoEpochs, IsEpochFault, MayHaveEpoch};
 ghost use Rattle.wl_words.specs.Numbers.{HasNumberTo};
 
-use crate::daemon::OptionFault;
+use crate::arguments::OptionFault;
 use clap::ArgMatches;
 
 /// The greatest epoch.

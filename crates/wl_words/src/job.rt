@@ -4,8 +4,10 @@ ghost use Rattle.std.specs.Prelude.{◌≡◌, [], map, IfOk, IfErr, IfSome, IsO
 ghost use Rattle.clap.specs.Words.{fault_of, found_of, kind_of, rows_of, subcommand_name_of, subcommand_of, subcommand_rows_of};
 ghost use Rattle.wl_words.specs.Words.{weblocks_app, HasNumber, IsJob, IsUsageError, IsUsageFault};
 
+use crate::arguments::OptionFault;
 use crate::command::weblocks_command;
-use crate::daemon::{DaemonOptions, OptionFault, daemon_in};
+use crate::daemon::{DaemonOptions, daemon_in};
+use crate::endpoint::wrong_endpoint;
 use clap::error::ErrorKind;
 use clap::{ArgMatches, Error};
 use std::alloc::{AllocError, Global};
@@ -76,16 +78,26 @@ fn wrong_option(alloc: Global, options: &ArgMatches<'_>, fault: OptionFault) -> 
     ensures usage { IsUsageError fault result }
     ensures memory { fault ≡ OptionFault.Memory → result ≡ UsageFault.Memory }
 {
-    let no_address = "not an address and a port";
     let error = match fault {
         OptionFault::Memory => return UsageFault::Memory,
         OptionFault::Listen => {
-            value_error(alloc, options, "listen", "<ADDRESS:PORT>", no_address)
+            let option = "listen <ADDRESS:PORT|unix:PATH>";
+            let why = "neither an address and a port nor a socket's path";
+            value_error(alloc, wrong_endpoint(options), option, why)
         }
         OptionFault::Status => {
-            value_error(alloc, options, "status", "<ADDRESS:PORT>", no_address)
+            let text = options.get_str("status").unwrap_or("");
+            value_error(
+                alloc,
+                text,
+                "status <ADDRESS:PORT>",
+                "not an address and a port",
+            )
         }
-        OptionFault::Log => value_error(alloc, options, "log", "<LEVEL>", "not a level"),
+        OptionFault::Log => {
+            let text = options.get_str("log").unwrap_or("");
+            value_error(alloc, text, "log <LEVEL>", "not a level")
+        }
         OptionFault::TwoEpochs => two_epochs_error(alloc),
     };
     match error {
@@ -95,17 +107,10 @@ fn wrong_option(alloc: Global, options: &ArgMatches<'_>, fault: OptionFault) -> 
 }
 
 /// The error of an option's value.
-fn value_error(
-    alloc: Global,
-    options: &ArgMatches<'_>,
-    name: &str,
-    value_name: &str,
-    why: &str,
-) -> Result<Error, AllocError>
+fn value_error(alloc: Global, text: &str, option: &str, why: &str) -> Result<Error, AllocError>
     ensures { IfOk result (λ error. kind_of error ≡ ErrorKind.ValueValidation) }
 {
-    let text = options.get_str(name).unwrap_or("");
-    let message = format!(in alloc; "invalid value '{text}' for '--{name} {value_name}': {why}")?;
+    let message = format!(in alloc; "invalid value '{text}' for '--{option}': {why}")?;
     weblocks_command(alloc)?.error(ErrorKind::ValueValidation, message.as_str())
 }
 

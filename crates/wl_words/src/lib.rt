@@ -4,13 +4,16 @@
 //! the program does.
 #![tactic(auto)]
 
+mod arguments;
 mod command;
 mod daemon;
 mod daemon_command;
+mod endpoint;
 mod epoch;
 mod job;
 mod texts;
 
 pub use daemon::DaemonOptions;
+pub use endpoint::{Endpoint, addresses_of};
 pub use epoch::EpochSource;
 pub use job::{Job, UsageFault, job_of};

@@ -89,7 +89,9 @@ pub const DAEMON_EXAMPLE: &str = "Example:
 
 Tokens, pages, pushes and close codes: docs/FORMATS.md.";
 
-pub const LISTEN: &str = "Address and port to listen on; port 0 is any that is free";
+pub const LISTEN: &str =
+    "Address and port to listen on, port 0 being any that is free, or socket of this machine. \
+     May be given again";
 
 pub const CONNECTIONS: &str = "Connections at once, 1 to 1000000";
 
@@ -107,6 +109,9 @@ pub const TOKEN_FILE: &str =
     "File with a token a line, and the origins that it may open; whoever has none stays out";
 
 pub const OPEN: &str = "Listen beyond this machine without a token file";
+
+pub const SHARDED: &str =
+    "Have each connection open URLs of one origin alone, which its target /?origin=ORIGIN names";
 
 pub const ALLOW_ORIGIN: &str =
     "Origin whose pages may open any URL; '*' is each origin. May be given again";

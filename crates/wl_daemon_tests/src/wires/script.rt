@@ -5,8 +5,10 @@ use std::collections::VecDeque;
 use std::io::{ErrorKind, Read, Write};
 use std::{io, str};
 
-const HEAD: &[u8] =
-    b"GET / HTTP/1.1\r\nHost: a\r\nUpgrade: websocket\r\nConnection: Upgrade\r\nSec-WebSocket-Version: 13\r\nSec-WebSocket-Key: dGhlIHNhbXBsZSBub25jZQ==\r\n";
+const TARGET: &str = "/?origin=https%3A%2F%2Fa.test";
+
+const FIELDS: &[u8] =
+    b"Host: a\r\nUpgrade: websocket\r\nConnection: Upgrade\r\nSec-WebSocket-Version: 13\r\nSec-WebSocket-Key: dGhlIHNhbXBsZSBub25jZQ==\r\n";
 
 const PUSH: &[u8] = b"Sec-WebSocket-Protocol: weblocks.push\r\n";
 
@@ -122,22 +124,23 @@ fn reads_of(alloc: Global, words: &str) -> Result<VecDeque<Vec<u8>>, AllocError>
 fn add_piece(alloc: Global, piece: &mut Vec<u8>, word: &str) -> Result<(), AllocError> {
     match word {
         "hello" => {
-            piece.extend_from_slice(HEAD)?;
+            begin(piece, TARGET)?;
             piece.extend_from_slice(b"\r\n")
         }
         "pushed" => {
-            piece.extend_from_slice(HEAD)?;
+            begin(piece, TARGET)?;
             piece.extend_from_slice(PUSH)?;
             piece.extend_from_slice(b"\r\n")
         }
         "origins" => {
-            piece.extend_from_slice(HEAD)?;
+            begin(piece, TARGET)?;
             piece.extend_from_slice(b"Origin: https://a.test\r\nOrigin: https://a.test\r\n\r\n")
         }
         "latin" => {
-            piece.extend_from_slice(HEAD)?;
+            begin(piece, TARGET)?;
             piece.extend_from_slice(b"Origin: \xe9\r\n\r\n")
         }
+        "empty" => piece.extend_from_slice(b"\r\n"),
         "wait" => Ok(()),
         "ping" => add_frame(piece, 0x89, b"?"),
         "close" => add_frame(piece, 0x88, b""),
@@ -152,18 +155,49 @@ fn add_piece(alloc: Global, piece: &mut Vec<u8>, word: &str) -> Result<(), Alloc
             }
             Ok(())
         }
-        _ => match word.strip_prefix("head=") {
-            Some(length) => add_head(alloc, piece, length.parse::<usize>().unwrap_or(0)),
-            None => add_frame(piece, 0x81, word.as_bytes()),
-        },
+        _ => add_of(alloc, piece, word),
     }
+}
+
+/// Adds what a word with a value says; any other is a text.
+fn add_of(alloc: Global, piece: &mut Vec<u8>, word: &str) -> Result<(), AllocError> {
+    match word.split_once('=') {
+        Some(("head", length)) => add_head(alloc, piece, length.parse::<usize>().unwrap_or(0)),
+        Some(("target", target)) => {
+            begin(piece, target)?;
+            piece.extend_from_slice(b"\r\n")
+        }
+        Some(("get", part)) => add_get(piece, part),
+        Some(("tail", part)) => {
+            end_line(piece, part)?;
+            piece.extend_from_slice(b"\r\n")
+        }
+        _ => add_frame(piece, 0x81, word.as_bytes()),
+    }
+}
+
+/// A handshake's head with this target, up to its last field.
+fn begin(piece: &mut Vec<u8>, target: &str) -> Result<(), AllocError> {
+    add_get(piece, target)?;
+    end_line(piece, "")
+}
+
+fn add_get(piece: &mut Vec<u8>, part: &str) -> Result<(), AllocError> {
+    piece.extend_from_slice(b"GET ")?;
+    piece.extend_from_slice(part.as_bytes())
+}
+
+fn end_line(piece: &mut Vec<u8>, part: &str) -> Result<(), AllocError> {
+    piece.extend_from_slice(part.as_bytes())?;
+    piece.extend_from_slice(b" HTTP/1.1\r\n")?;
+    piece.extend_from_slice(FIELDS)
 }
 
 /// A handshake of so many bytes.
 fn add_head(alloc: Global, piece: &mut Vec<u8>, length: usize) -> Result<(), AllocError> {
-    piece.extend_from_slice(HEAD)?;
+    begin(piece, TARGET)?;
     piece.extend_from_slice(b"Filler: ")?;
-    let filler = length.saturating_sub(HEAD.len()).saturating_sub(12);
+    let filler = length.saturating_sub(piece.len()).saturating_sub(4);
     piece.extend_from_slice(&vec![in alloc; b'x'; filler]?)?;
     piece.extend_from_slice(b"\r\n\r\n")
 }

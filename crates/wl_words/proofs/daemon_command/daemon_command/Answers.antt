@@ -1,15 +1,15 @@
 use Rattle.std.proofs.Common.{◌≡◌, ◌∙◌, ap, codes, false, rules}
 use Rattle.clap.specs.Words.{app_of, new_app}
 use Rattle.clap.specs.declared.builder.command.Command.TheViews.{out-Command as fields_of}
-use Rattle.wl_words.specs.Daemon.{value_rule}
+use Rattle.wl_words.specs.Daemon.{again_rule, value_rule}
 use Rattle.wl_words.proofs.Commands.{default_stays_local, defaults, gains, gains_last, stays_local, stays_local_last}
 use Rattle.wl_words.proofs.daemon_command.daemon_command.Goals as goal
 
 pub returns-clause-app : goal.returns-clause-app
 returns-clause-app c =
     let daemon : app_of c.after_help.result ≡ new_app (codes "daemon") = search rules in
-    let listen = gains _ _ _ _ _ c.in_ok-command.ensures (default_stays_local c.value-listen.result _ _ c.default_value.ensures c.value-listen.ensures.local) daemon
-    (defaults c.value-listen.result _ _ _ c.default_value.ensures (c.value-listen.ensures.rule ∙ ap (value_rule (codes "listen")) c.string.ensures)) in
+    let listen = gains _ _ _ _ _ c.in_ok-command.ensures (default_stays_local c.repeated-listen.result _ _ c.default_value.ensures c.repeated-listen.ensures.local) daemon
+    (defaults c.repeated-listen.result _ _ _ c.default_value.ensures (c.repeated-listen.ensures.rule ∙ ap (again_rule (codes "listen")) c.string.ensures)) in
     let limits = c.in_ok-with_limits.ensures.app listen in
     let admission = c.in_ok-with_admission.ensures.app limits in
     let status = c.in_ok-command-2.ensures.app admission in
@@ -21,7 +21,7 @@ returns-clause-app c =
 pub returns-clause-local : goal.returns-clause-local
 returns-clause-local c =
     let daemon : (fields_of c.after_help.result).has_globals ≡ false = search rules in
-    let listen = stays_local _ _ _ c.in_ok-command.ensures (default_stays_local c.value-listen.result _ _ c.default_value.ensures c.value-listen.ensures.local) daemon in
+    let listen = stays_local _ _ _ c.in_ok-command.ensures (default_stays_local c.repeated-listen.result _ _ c.default_value.ensures c.repeated-listen.ensures.local) daemon in
     let limits = c.in_ok-with_limits.ensures.local listen in
     let admission = c.in_ok-with_admission.ensures.local limits in
     let status = c.in_ok-command-2.ensures.local admission in

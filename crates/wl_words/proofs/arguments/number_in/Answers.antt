@@ -2,7 +2,7 @@ use Rattle.std.proofs.Common.{rules, Some}
 use Rattle.std.specs.Str.Parse.{ParsesUnsigned, ExplainsUnsignedError, HasUnsignedDigitsIfOk}
 use Rattle.clap.specs.Words.{found_of}
 use Rattle.wl_words.proofs.Options.{has_number}
-use Rattle.wl_words.proofs.daemon.number_in.Goals as goal
+use Rattle.wl_words.proofs.arguments.number_in.Goals as goal
 
 pub returns-in-Some-clause-ok : goal.returns-in-Some-clause-ok
 returns-in-Some-clause-ok c =

@@ -3,8 +3,8 @@ use Rattle.std.proofs.lemmas.Grind.{common_steps}
 use Rattle.std.specs.Prelude.{option_map}
 use Rattle.clap.specs.Words.{found_of}
 use Rattle.clap.proofs.WalkLemmas.{raw_values-rows}
-use Rattle.wl_words.proofs.daemon.texts_in.Goals as goal
-use Rattle.wl_words.proofs.daemon.texts_in.Goals.{in-Some+else-is_err, in_default}
+use Rattle.wl_words.proofs.arguments.texts_in.Goals as goal
+use Rattle.wl_words.proofs.arguments.texts_in.Goals.{in-Some+else-is_err, in_default}
 
 pub returns-clause-ok : goal.returns-clause-ok
 returns-clause-ok c =

@@ -2,7 +2,7 @@ use Rattle.std.proofs.Common.{◌≡◌, false, rules, sym, ◌∙◌}
 use Rattle.std.specs.Prelude.{is_some}
 use Rattle.clap.specs.Words.{found_of}
 use Rattle.wl_words.proofs.Options.{has_text, none_of}
-use Rattle.wl_words.proofs.daemon.number_if_any.Goals as goal
+use Rattle.wl_words.proofs.arguments.number_if_any.Goals as goal
 
 pub returns-then-is_none-clause-ok : goal.returns-then-is_none-clause-ok
 returns-then-is_none-clause-ok c =
