@@ -11,7 +11,8 @@ export { LockManager, LostEvent } from "./src/manager.js";
  *
  * @param {import("./weblocks.d.ts").ConnectOptions | import("./weblocks.d.ts").PortOptions} options
  * @returns {Promise<LockManager>} rejected with a TypeError where an option is wrong, a NetworkError where no server
- *   answers, a QuotaExceededError where it has no room, or a SecurityError where it doesn't let this page in
+ *   answers, a QuotaExceededError where it has no room, or a SecurityError where it doesn't let this page in, or hasn't
+ *   this origin
  */
 export async function connect(options) {
   const { manager, session } = makeManager(readSettings(options));

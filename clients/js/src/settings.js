@@ -1,5 +1,7 @@
 /** What `connect` and `install` are given, checked and with its defaults. */
 
+import { readServerUrl } from "./server_url.js";
+
 const KINDS = ["window", "worker"];
 const BUCKET = /^[a-z0-9][a-z0-9_-]{0,63}$/;
 const TOKEN = /^[!#$%&'*+\-.^_`|~0-9A-Za-z]+$/;
@@ -26,9 +28,10 @@ export function readSettings(options) {
   if (typeof reconnect !== "boolean") throw new TypeError("reconnect is neither true nor false");
   if (typeof fences !== "boolean") throw new TypeError("fences is neither true nor false");
   if (WebSocket !== undefined && typeof WebSocket !== "function") throw new TypeError("WebSocket isn't a class");
+  const origin = readOrigin(options.origin);
   return {
-    ...readServer(options),
-    origin: readOrigin(options.origin),
+    ...readServer(options, origin),
+    origin,
     kind: readKind(options.kind),
     bucket: readBucket(options.bucket),
     token: readToken(options.token),
@@ -55,32 +58,14 @@ export function isOpaque({ origin }) {
 }
 
 /** The server is named by its URL, or else it is a worker behind a port. */
-function readServer({ url, port, token }) {
-  if (port === undefined) return { url: readUrl(url), port };
+function readServer({ url, port, token }, origin) {
+  if (port === undefined) return { url: readServerUrl(url, origin), port };
   if (url !== undefined) throw new TypeError("The options have both a url and a port");
   if (token !== undefined) throw new TypeError("A token is for a server with a url, and not for a port");
   if (typeof port !== "function" && typeof port?.postMessage !== "function") {
     throw new TypeError("port is neither a MessagePort nor a function that gives one");
   }
   return { url, port };
-}
-
-function readUrl(given) {
-  if (given === undefined) throw new TypeError("The url of the server is missing");
-  const text = String(given);
-  const url = parseUrl(text);
-  if (url === null || (url.protocol !== "ws:" && url.protocol !== "wss:") || url.hash !== "") {
-    throw new TypeError(`'${text}' isn't the URL of a WebSocket: it begins with ws: or wss: and has no fragment`);
-  }
-  return url.href;
-}
-
-function parseUrl(text) {
-  try {
-    return new URL(text);
-  } catch {
-    return null;
-  }
 }
 
 /** An opaque origin is serialized as `null`, which is no URL: any `data:` URL has such an origin too. */

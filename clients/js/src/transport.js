@@ -1,7 +1,9 @@
 /** A socket to the server, of whichever class there is or over a port, and what the server tells over it unasked. */
 
-import { networkError } from "./faults.js";
+import { networkError, securityError } from "./faults.js";
+import { isNode } from "./platform.js";
 import { PortSocket } from "./port_socket.js";
+import { isUnix } from "./server_url.js";
 
 /** The subprotocol of servers that tell news without being asked. */
 const PUSH = "weblocks.push";
@@ -13,7 +15,10 @@ const FENCE = "weblocks.fence";
 const BEARER = "weblocks.bearer.";
 
 /** How the package `ws` tells of a server that has no place for a further connection. */
-const FULL = /\b503$/;
+const FULL = / response: 503$/;
+
+/** And of one that doesn't take a handshake as it is, as of an origin that isn't its own. */
+const REFUSED = / response: 400$/;
 
 /** A handshake that fails whatever it offers: nobody answers, or the server has no place. */
 class Unserved extends DOMException {
@@ -41,17 +46,22 @@ export async function openSocket(settings, signal) {
  * takes that one is polled.
  */
 async function openWebSocket(settings, signal) {
-  const Socket = await chooseSocket(settings.WebSocket);
+  const Socket = await chooseSocket(settings);
   const { url, token, heartbeat } = settings;
   try {
-    const socket = await shakeHands(() => new Socket(url, offeredBy(settings)), heartbeat, signal);
+    const socket = await shakeHands(() => makeSocket(Socket, url, offeredBy(settings)), heartbeat, signal);
     const fences = socket.protocol === FENCE;
     return { socket, pushes: fences || socket.protocol === PUSH, fences };
   } catch (fault) {
-    if (signal.aborted || fault instanceof Unserved || (token !== undefined && !sendsHeaders())) throw fault;
+    if (signal.aborted || isSettled(fault) || (token !== undefined && !isNode())) throw fault;
     const socket = await shakeHands(() => openPlain(Socket, url, token), heartbeat, signal);
     return { socket, pushes: false, fences: false };
   }
+}
+
+/** Whether a second handshake would fail as the first one did. */
+function isSettled(fault) {
+  return fault instanceof Unserved || fault instanceof TypeError;
 }
 
 /** The subprotocols of the first handshake, of which the server selects one. */
@@ -66,13 +76,14 @@ export function cutSocket(socket) {
   else socket.close();
 }
 
-async function chooseSocket(given) {
-  const Socket = given ?? globalThis.WebSocket;
-  return Socket ?? (await loadSocket());
+/** Sockets of the platform can be no Unix sockets. */
+async function chooseSocket({ url, WebSocket: given }) {
+  const own = isUnix(url) ? undefined : globalThis.WebSocket;
+  return given ?? own ?? (await loadSocket(url));
 }
 
 /** The package `ws`, of this project's folders or else of those that Node's `require` looks in too, as a system's. */
-async function loadSocket() {
+async function loadSocket(url) {
   try {
     return (await import("ws")).WebSocket;
   } catch {
@@ -80,19 +91,31 @@ async function loadSocket() {
     try {
       return createRequire(import.meta.url)("ws");
     } catch {
+      if (isUnix(url)) throw noUnixSockets();
       throw new TypeError("Here is no WebSocket: install the package ws, or give a class as the option WebSocket");
     }
   }
 }
 
-/** A browser's sockets send no headers of the page's choice; those of Node do. */
-function sendsHeaders() {
-  return typeof globalThis.process?.versions?.node === "string";
+function noUnixSockets(cause) {
+  return new TypeError(
+    "A Unix socket wants the package ws: install it, or give its class as the option WebSocket", { cause },
+  );
 }
 
+/** A class that has no form for Unix sockets, as Node's own, takes their URL for a wrong one. */
+function makeSocket(Socket, url, ...more) {
+  try {
+    return new Socket(url, ...more);
+  } catch (fault) {
+    throw isUnix(url) ? noUnixSockets(fault) : fault;
+  }
+}
+
+/** A browser's sockets send no headers of the page's choice; those of Node do. */
 function openPlain(Socket, url, token) {
-  if (token === undefined) return new Socket(url);
-  return new Socket(url, { headers: { Authorization: `Bearer ${token}` } });
+  if (token === undefined) return makeSocket(Socket, url);
+  return makeSocket(Socket, url, { headers: { Authorization: `Bearer ${token}` } });
 }
 
 function shakeHands(create, patience, signal) {
@@ -116,13 +139,14 @@ function shakeHands(create, patience, signal) {
       finish();
       resolve(socket);
     };
-    socket.onerror = ({ message }) => fail(faultOfHandshake(message || "its handshake failed"));
+    socket.onerror = ({ message }) => fail(faultOfHandshake(message || "its handshake failed", socket.url));
     socket.onclose = ({ code }) => fail(networkError(`The server closed the connection (close code ${code})`));
   });
 }
 
-function faultOfHandshake(text) {
+function faultOfHandshake(text, url) {
   const message = `No connection to the server: ${text}`;
+  if (REFUSED.test(text)) return securityError(`The server refused the handshake for ${url}: ${text}`);
   return FULL.test(text) ? new Unserved(message) : networkError(message);
 }
 

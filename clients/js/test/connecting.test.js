@@ -12,6 +12,7 @@ import { WebSocket } from "./support/sockets.js";
 
 const run = promisify(execFile);
 const PACKAGE = new URL("../weblocks.js", import.meta.url).href;
+const TARGET = "/?origin=https%3A%2F%2Fa.test";
 
 /** A class of sockets that writes down how each was made. */
 function spySockets() {
@@ -30,14 +31,14 @@ test("pushes are asked for by the subprotocol weblocks.push, and one handshake i
     const server = await startPushing(t);
     const { made, Spied } = spySockets();
     await connectTo(t, server, { WebSocket: Spied });
-    assert.deepEqual(made, [[`${server.url}/`, ["weblocks.push"]]]);
+    assert.deepEqual(made, [[server.url + TARGET, ["weblocks.push"]]]);
   });
 
 test("where that handshake fails, a second one offers no subprotocol, and the server is polled", async (t) => {
   const server = await startPolled(t);
   const { made, Spied } = spySockets();
   const locks = await connectTo(t, server, { WebSocket: Spied, poll: 5 });
-  assert.deepEqual(made, [[`${server.url}/`, ["weblocks.push"]], [`${server.url}/`]]);
+  assert.deepEqual(made, [[server.url + TARGET, ["weblocks.push"]], [server.url + TARGET]]);
   assert.equal(await locks.request("db", () => 1), 1);
 });
 
@@ -134,7 +135,7 @@ test("a server may close a connection for its origin (1008) or for want of room 
 test("an option that is wrong is a TypeError", async () => {
   const good = { url: "ws://127.0.0.1:9", origin: "https://a.test" };
   const wrong = [
-    { url: undefined }, { url: "http://127.0.0.1/" }, { url: "no url" }, { url: "ws://127.0.0.1/#part" },
+    { url: undefined }, { url: "http://127.0.0.1/" }, { url: "no url" }, { url: "unix:" }, { url: "ws://127.0.0.1/#part" },
     { origin: undefined }, { origin: "a".repeat(40_000) },
     { kind: "page" }, { kind: null }, { bucket: "" }, { bucket: "Inbox" }, { bucket: "-a" }, { bucket: "a".repeat(65) },
     { token: "" }, { token: "two words" }, { token: "t\u00e4g" }, { heartbeat: 0 }, { heartbeat: "10" },

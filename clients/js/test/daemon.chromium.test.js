@@ -95,6 +95,11 @@ test("a page that names another origin is refused with SecurityError, unless its
   assert.deepEqual(page.faults, []);
 });
 
+test("a page has no Unix sockets: a TypeError", async () => {
+  const page = await openPage();
+  assert.equal(await tryIn(page, { url: "unix:/run/weblocks/socket" }), "TypeError");
+});
+
 test("a page's token goes beside weblocks.push; a wrong one, and none, is a NetworkError", async (it) => {
   const { url } = await startWithTokens(it, ["se.cr_et-1", `narrow ${used.files.url}`]);
   const page = await openPage();

@@ -18,6 +18,9 @@ from collections.abc import AsyncIterator, Iterator
 from pathlib import Path
 from typing import Any
 
+import websockets
+from websockets.legacy.server import serve, unix_serve
+
 import weblocks
 
 TOP = Path(__file__).resolve().parents[3]
@@ -94,12 +97,12 @@ class Daemon(Server):
         self._close()
 
 
-def daemon_with_tokens(case: unittest.TestCase, *lines: str) -> Daemon:
-    """A daemon for one test, that knows its clients by these lines of a file."""
+def daemon_with_tokens(case: unittest.TestCase, *lines: str, words: tuple[str, ...] = ()) -> Daemon:
+    """A daemon for one test, that knows its clients by these lines of a file; with further options of it."""
     file = Path(case.enterContext(tempfile.TemporaryDirectory()), "tokens")
     file.touch(0o600)
     file.write_text("".join(f"{line}\n" for line in lines))
-    daemon = Daemon("--token-file", str(file))
+    daemon = Daemon("--token-file", str(file), *words)
     case.addCleanup(daemon.kill)
     return daemon
 
@@ -174,6 +177,43 @@ class Proxy:
                     writer.write(data)
         if not self.swallows:
             writer.transport.abort()
+
+
+def serve_own(case: unittest.TestCase, handle: Any, path: Path | None = None, **words: Any) -> str:
+    """A server of the tests' own for one test, on the Unix socket of that path or on a free port. Answers its URL."""
+    thread = LoopThread()
+    case.addCleanup(thread.end)
+
+    async def listen() -> Any:
+        if path is not None:
+            return await unix_serve(handle, str(path), **words)
+        return await serve(handle, "127.0.0.1", 0, **words)
+
+    server = thread.run(listen())
+
+    async def close() -> None:
+        server.close()
+        await server.wait_closed()
+
+    case.addCleanup(lambda: thread.run(close()))
+    return "ws://127.0.0.1:%d" % server.sockets[0].getsockname()[1] if path is None else f"unix:{path}"
+
+
+def hand_on_to(url: str) -> Any:
+    """What such a server does with a connection: it hands messages on to a server, and what comes from there back."""
+
+    async def copy(source: Any, sink: Any) -> None:
+        async for text in source:
+            await sink.send(text)
+        await sink.close()
+
+    async def handle(client: Any, _path: str = "") -> None:
+        selected = [client.subprotocol] if client.subprotocol else None
+        async with websockets.connect(url, subprotocols=selected, compression=None) as service:
+            with contextlib.suppress(websockets.ConnectionClosed):
+                await asyncio.gather(copy(client, service), copy(service, client))
+
+    return handle
 
 
 @contextlib.contextmanager

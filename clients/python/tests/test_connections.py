@@ -13,8 +13,9 @@ import websockets
 from websockets.legacy.server import serve
 
 import weblocks
-from support import SECONDS, LoopThread, ServedCase, free_port, proxied
+from support import SECONDS, ServedCase, free_port, hand_on_to, proxied, serve_own
 from weblocks import transport
+from weblocks.targets import query_of
 
 
 class Handshakes(ServedCase):
@@ -95,41 +96,19 @@ class Handshakes(ServedCase):
                 return websockets.connect(url, subprotocols=subprotocols, compression=compression)
 
         with unittest.mock.patch.dict("sys.modules", {"websockets.asyncio.client": Newer()}):
-            found = transport._find_connect()
-        with unittest.mock.patch.multiple(transport, _library_connect=found[0], _headers_word=found[1]):
+            found = transport._find_library()
+        with unittest.mock.patch.multiple(transport, _library=found[0], _headers_word=found[1]):
             async with self.connect(token="right") as locks, locks.request("db"):
                 pass
-        self.assertEqual([(self.url, {"Authorization": "Bearer right"}, ["weblocks.push"])], calls)
-
-    async def serve(self, handle, process_request=None):
-        """A server of the tests' own, whose URL this answers."""
-        thread = LoopThread()
-        self.addCleanup(thread.end)
-
-        async def listen():
-            return await serve(handle, "127.0.0.1", 0, process_request=process_request)
-
-        server = thread.run(listen())
-
-        async def close():
-            server.close()
-            await server.wait_closed()
-
-        self.addCleanup(lambda: thread.run(close()))
-        return "ws://127.0.0.1:%d" % server.sockets[0].getsockname()[1]
+        url = f"{self.url}/?{query_of(self.origin)}"
+        self.assertEqual([(url, {"Authorization": "Bearer right"}, ["weblocks.push"])], calls)
 
     async def refuse(self, header, status):
         """A server that refuses handshakes with that header, and hands the others on to the program."""
         async def process_request(_path, headers):
             return (HTTPStatus(status), [], b"no\n") if header in headers else None
 
-        async def handle(client, _path=""):
-            async with websockets.connect(self.server.url, compression=None) as service:
-                async for text in client:
-                    await service.send(text)
-                    await client.send(await service.recv())
-
-        return await self.serve(handle, process_request)
+        return serve_own(self, hand_on_to(self.server.url), process_request=process_request)
 
     async def close_with(self, code):
         connections = []
@@ -138,7 +117,7 @@ class Handshakes(ServedCase):
             connections.append(client)
             await client.close(code)
 
-        return connections, await self.serve(handle)
+        return connections, serve_own(self, handle)
 
     async def answer_with(self, text):
         async def handle(client, _path=""):
@@ -146,7 +125,7 @@ class Handshakes(ServedCase):
             await client.send(text)
             await client.wait_closed()
 
-        return await self.serve(handle)
+        return serve_own(self, handle)
 
 
 class Reconnecting:

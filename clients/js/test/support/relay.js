@@ -4,6 +4,7 @@
  */
 
 import { once } from "node:events";
+import { createServer } from "node:http";
 import { WebSocket, WebSocketServer } from "./sockets.js";
 
 const PUSH = "weblocks.push";
@@ -14,12 +15,14 @@ export class Relay {
   #server;
   #backend;
   #token;
+  #path;
+  #http;
   #links = new Set();
 
   /** Each message of a client, in the order in which they came: `{link, message}`, the link being a number. */
   received = [];
 
-  /** What each handshake offered. */
+  /** What each handshake offered, and its target. */
   offers = [];
 
   /** How many connections there were. */
@@ -40,13 +43,17 @@ export class Relay {
   /** What each message is refused with, where it is set. */
   refusal = null;
 
+  /** The only target that is taken, where it is set. */
+  target = null;
+
   /** What adds fencing tokens for the clients that ask for them, where it is set. */
   fences = null;
 
   /**
    * @param {string} backend the URL of the server, which pushes
-   * @param {{token?: string, selects?: boolean, fences?: import("./fences.js").Fences}} [options] what clients are to
-   *   be known by; whether `weblocks.push` is selected: where it isn't, nothing is pushed; what adds fencing tokens
+   * @param {{token?: string, selects?: boolean, fences?: import("./fences.js").Fences, path?: string}} [options] what
+   *   clients are to be known by; whether `weblocks.push` is selected: where it isn't, nothing is pushed; what adds
+   *   fencing tokens; the path of the Unix socket where it listens, in the place of a port
    */
   static async start(backend, options = {}) {
     const server = new Relay(backend, options);
@@ -54,24 +61,26 @@ export class Relay {
     return server;
   }
 
-  constructor(backend, { token, selects = true, fences = null }) {
+  constructor(backend, { token, selects = true, fences = null, path }) {
     this.#backend = backend;
     this.#token = token;
+    this.#path = path;
     this.selects = selects;
     this.fences = fences;
   }
 
   async #listen() {
+    this.#http = createServer();
     this.#server = new WebSocketServer({
-      host: "127.0.0.1",
-      port: 0,
+      server: this.#http,
       handleProtocols: (offered) => this.#select(offered),
-      verifyClient: ({ req }, answer) => answer(this.#admits(req), 401),
+      verifyClient: ({ req }, answer) => this.#verify(req, answer),
     });
     this.#server.on("connection", (socket) => this.#serve(socket));
-    await once(this.#server, "listening");
-    this.port = this.#server.address().port;
-    this.url = `ws://127.0.0.1:${this.port}`;
+    this.#http.listen(this.#path ?? { host: "127.0.0.1", port: 0 });
+    await once(this.#http, "listening");
+    this.port = this.#http.address().port;
+    this.url = this.#path === undefined ? `ws://127.0.0.1:${this.port}` : `unix:${this.#path}`;
   }
 
   /** The messages' words, in the order in which they came. */
@@ -97,7 +106,8 @@ export class Relay {
   async stop() {
     for (const link of this.#links) link.socket.terminate();
     this.#server.close();
-    await once(this.#server, "close");
+    this.#http.close();
+    await once(this.#http, "close");
   }
 
   #select(offered) {
@@ -105,12 +115,13 @@ export class Relay {
     return this.fences !== null && offered.has(FENCE) ? FENCE : PUSH;
   }
 
-  #admits(request) {
+  #verify(request, answer) {
     const offered = (request.headers["sec-websocket-protocol"] ?? "").split(",").map((text) => text.trim());
-    this.offers.push({ protocols: offered.filter(Boolean), authorization: request.headers.authorization });
-    if (this.#token === undefined) return true;
     const { authorization } = request.headers;
-    return offered.includes(BEARER + this.#token) || authorization === `Bearer ${this.#token}`;
+    this.offers.push({ protocols: offered.filter(Boolean), authorization, target: request.url });
+    const isKnown = offered.includes(BEARER + this.#token) || authorization === `Bearer ${this.#token}`;
+    if (this.target !== null && request.url !== this.target) answer(false, 400);
+    else answer(this.#token === undefined || isKnown, 401);
   }
 
   #serve(socket) {

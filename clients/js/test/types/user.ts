@@ -18,6 +18,8 @@ const locks: LockManager = await connect({
   WebSocket,
 });
 
+const local: LockManager = await connect({ url: "unix:/run/weblocks/socket", origin: "https://a.test" });
+
 const worker = new SharedWorker("/wasm/worker.js", { type: "module" });
 const paged: LockManager = await connect({ port: worker.port, heartbeat: 5000 });
 const again: LockManager = await connect({ port: () => worker.port, origin: "https://a.test", bucket: "inbox" });

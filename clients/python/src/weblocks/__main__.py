@@ -30,7 +30,7 @@ exit status: that of the command (128 and the signal's number, where one ended i
   2    the words can't be understood
   69   no server answers, or the connection was lost
   75   the lock was not had in time
-  77   the server refused the token, the origin or the request, or gives no fencing tokens
+  77   the server refused the token, the target, the origin or the request, or gives no fencing tokens
   126  the command can't be run
   127  there is no such command
 """
@@ -111,7 +111,9 @@ def make_parser() -> tuple[argparse.ArgumentParser, dict[str, argparse.ArgumentP
 def add_service(job: argparse.ArgumentParser) -> None:
     """The words that say where the service is and as whom it is asked."""
     job.add_argument(
-        "--url", default=os.environ.get("WEBLOCKS_URL", DEFAULT_URL), help=f"or WEBLOCKS_URL, or {DEFAULT_URL}"
+        "--url",
+        default=os.environ.get("WEBLOCKS_URL", DEFAULT_URL),
+        help=f"a URL, or unix: and the path of a socket; or WEBLOCKS_URL, or {DEFAULT_URL}",
     )
     job.add_argument(
         "--origin",

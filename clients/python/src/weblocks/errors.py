@@ -16,7 +16,7 @@ class Disconnected(Error, ConnectionError):
 
 
 class Forbidden(Disconnected):
-    """The service doesn't let this client in: its token was refused, or it may not open this origin.
+    """The service doesn't let this client in: its token or its target was refused, or it may not open this origin.
 
     No further connection is tried after it.
     """

@@ -139,6 +139,10 @@ async def connect(
 ) -> AsyncIterator[LockManager]:
     """Connects to a service: `async with weblocks.connect("ws://127.0.0.1:8080", origin="https://a.test") as locks:`.
 
+    The server may be named by `unix:` and the path of a socket too, as `"unix:/run/weblocks/socket"`. Where the URL has
+    no path and no query of its own, the target of each handshake is `/?origin=` and the origin (`weblocks.targets` says
+    how that is written), by which servers that share the origins out know theirs.
+
     Programs that name the same `origin` (a URL) and `bucket` share locks. `kind` is what the service takes this
     program for, a window or a worker. `token` is what the server wants to see, if it wants one.
 
@@ -149,7 +153,7 @@ async def connect(
     them. `open_timeout` is how many seconds a connection may take to be made.
 
     Raises ValueError for a bad URL or option, Disconnected where no server answers, Forbidden where it refuses the
-    token, and Refused for a bad origin or bucket.
+    token or the target, and Refused for a bad origin or bucket.
     """
     options = Options(
         url, origin, kind, bucket, token, heartbeat, poll_interval, reconnect, fences, open_timeout, ssl

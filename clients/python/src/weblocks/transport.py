@@ -9,12 +9,17 @@ import re
 import ssl as tls
 from collections.abc import Awaitable, Callable
 from dataclasses import dataclass
+from functools import partial
 from typing import Any, Protocol
 
 from websockets.exceptions import InvalidHandshake, InvalidURI
 
 from .errors import Disconnected, Forbidden
 from .messages import Kind
+from .targets import url_with_target
+
+UNIX = "unix:"
+"""What stands before the path of a Unix socket, in the place of a URL."""
 
 PUSHES = "weblocks.push"
 """The subprotocol of a server that tells news without being asked."""
@@ -70,6 +75,8 @@ class Options:
             value = getattr(self, name)
             if not isinstance(value, str):
                 raise TypeError(f"{name} is a str, not {type(value).__name__}")
+        if self.url == UNIX or self.url.startswith(UNIX) and "\0" in self.url:
+            raise ValueError(f"{self.url!r} names no Unix socket, as unix:/run/weblocks/socket does")
         if self.kind not in ("window", "worker"):
             raise ValueError(f"kind is 'window' or 'worker', not {self.kind!r}")
         if self.token is not None and not re.fullmatch("[!-~]+", self.token):
@@ -83,7 +90,7 @@ async def open_socket(options: Options) -> Socket:
     """Connects, and offers pushes, with fencing tokens if they are wanted; the chosen subprotocol says what there is.
 
     A server that refuses a handshake with subprotocols is tried without. Raises ValueError for a bad URL, Forbidden
-    where the token is refused, and Disconnected where no server answers.
+    where the token or the target is refused, and Disconnected where no server answers.
     """
     if options.opener is not None:
         return await options.opener(options)
@@ -100,15 +107,15 @@ async def open_socket(options: Options) -> Socket:
         raise _explain(options, error) from error
 
 
-def _find_connect() -> tuple[Any, str]:
-    """The library's function that connects, and what it calls the headers that it adds."""
+def _find_library() -> tuple[Any, str]:
+    """The library's module that connects, and what it calls the headers that it adds."""
     try:
-        return importlib.import_module("websockets.asyncio.client").connect, "additional_headers"
+        return importlib.import_module("websockets.asyncio.client"), "additional_headers"
     except ImportError:
-        return importlib.import_module("websockets.client").connect, "extra_headers"
+        return importlib.import_module("websockets.client"), "extra_headers"
 
 
-_library_connect, _headers_word = _find_connect()
+_library, _headers_word = _find_library()
 
 
 async def _connect(options: Options, subprotocols: list[str] | None) -> Socket:
@@ -118,8 +125,7 @@ async def _connect(options: Options, subprotocols: list[str] | None) -> Socket:
     if options.ssl is not None:
         words["ssl"] = options.ssl
     # The heartbeat of a connection stands in for the library's pings: only replies show that the service answers.
-    socket: Socket = await _library_connect(
-        options.url,
+    socket: Socket = await _opening(options)(
         subprotocols=subprotocols,
         compression=None,
         max_size=None,
@@ -129,6 +135,18 @@ async def _connect(options: Options, subprotocols: list[str] | None) -> Socket:
         **words,
     )
     return socket
+
+
+def _opening(options: Options) -> Callable[..., Awaitable[Socket]]:
+    """The library's function that connects, with where the server is."""
+    if options.url.startswith(UNIX):
+        return partial(_library.unix_connect, options.url.removeprefix(UNIX), _url(options))
+    return partial(_library.connect, _url(options))
+
+
+def _url(options: Options) -> str:
+    """The URL of which a handshake has its host and its target."""
+    return url_with_target("ws://localhost/" if options.url.startswith(UNIX) else options.url, options.origin)
 
 
 def _status(error: BaseException) -> int | None:
@@ -148,6 +166,8 @@ def _explain(options: Options, error: Exception) -> Exception:
     if status in (401, 403):
         fault = "wants a token" if options.token is None else "refused the token"
         return Forbidden(f"{server} {fault} (HTTP status {status})")
+    if status == 400:
+        return Forbidden(f"{server} refused the handshake for {_url(options)} (HTTP status 400)")
     if status == 503:
         return Disconnected(f"{server} has no room for a further client (HTTP status 503)")
     if status is not None:
