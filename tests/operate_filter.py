@@ -3,7 +3,8 @@
 usage: operate_filter.py CALLS COMMAND ..
 
 CALLS is a file with the name of an allowed system call on each line. Beside them no memory is both writable and
-executable (MemoryDenyWriteExecute), and sockets are of the families AF_INET and AF_INET6 (RestrictAddressFamilies).
+executable (MemoryDenyWriteExecute), and sockets are of the families AF_UNIX, AF_INET and AF_INET6
+(RestrictAddressFamilies).
 """
 
 import contextlib
@@ -29,11 +30,11 @@ def deny_memory() -> None:
 
 
 def deny_families() -> None:
-    """The families above, and those below and between, which are three ranges but for the two."""
+    """The families above, and those below and between."""
     rules = seccomp.SyscallFilter(seccomp.ALLOW)
     refused = seccomp.ERRNO(errno.EAFNOSUPPORT)
     rules.add_rule(refused, "socket", seccomp.Arg(0, seccomp.GT, int(socket.AF_INET6)))
-    for family in set(range(int(socket.AF_INET6))) - {int(socket.AF_INET)}:
+    for family in set(range(int(socket.AF_INET6))) - {int(socket.AF_UNIX), int(socket.AF_INET)}:
         rules.add_rule(refused, "socket", seccomp.Arg(0, seccomp.EQ, family))
     rules.load()
 

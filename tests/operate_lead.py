@@ -124,9 +124,9 @@ def until(holds: Callable[[], bool], seconds: float, otherwise: str) -> None:
 class Candidate:
     """deploy/lead with a daemon of its own, in a group of processes of its own."""
 
-    def __init__(self, program: Path, etcd: int, ttl: int, *options: str) -> None:
+    def __init__(self, program: Path, etcd: int, ttl: int, *options: str, name: str = "locks") -> None:
         self.listen, self.status = free_port(), free_port()
-        words = [str(TOP / "deploy/lead"), "--ttl", str(ttl), "locks", "--", str(program), "daemon", *options]
+        words = [str(TOP / "deploy/lead"), "--ttl", str(ttl), name, "--", str(program), "daemon", *options]
         words += ["--listen", f"127.0.0.1:{self.listen}", "--status", f"127.0.0.1:{self.status}"]
         there = {**environment(), "ETCDCTL_ENDPOINTS": f"http://127.0.0.1:{etcd}"}
         pipes = {"stdin": subprocess.DEVNULL, "stdout": subprocess.PIPE, "stderr": subprocess.PIPE}
@@ -155,6 +155,11 @@ class Candidate:
             os.killpg(self.child.pid, number)
         except ProcessLookupError:
             pass
+
+    def end(self) -> None:
+        self.kill_all(signal.SIGCONT)
+        self.kill_all(signal.SIGKILL)
+        self.child.communicate()
 
     def ends_within(self, seconds: float) -> None:
         try:
@@ -212,9 +217,7 @@ class Pair:
 
     def end(self) -> None:
         for it in (self.first, self.second):
-            it.kill_all(signal.SIGCONT)
-            it.kill_all(signal.SIGKILL)
-            it.child.communicate()
+            it.end()
         self.client.kill()
         self.client.communicate()
         self.front.cut()

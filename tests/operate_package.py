@@ -29,6 +29,7 @@ FILES = [
     "usr/share/doc/weblocks/changelog.gz",
     "usr/share/doc/weblocks/copyright",
     "usr/share/doc/weblocks/examples/haproxy-pair.cfg",
+    "usr/share/doc/weblocks/examples/haproxy-shards.cfg",
     "usr/share/doc/weblocks/examples/haproxy.cfg",
     "usr/share/doc/weblocks/examples/nginx.conf",
     "usr/share/man/man1/weblocks.1.gz",

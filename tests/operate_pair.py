@@ -4,7 +4,7 @@ import signal
 import socket
 import subprocess
 import time
-from collections.abc import Iterator
+from collections.abc import Iterator, Sequence
 from contextlib import contextmanager
 from functools import partial
 from pathlib import Path
@@ -40,6 +40,27 @@ frontend locks
 """
 
 
+def words_of(room: Path, text: str, candidates: Sequence[Candidate], *more: tuple[str, str]) -> list[str]:
+    """How HAProxy is started with this file, whose servers are these candidates, and in which more is replaced."""
+    pairs = [(f"192.0.2.{n}:8080\n", f"127.0.0.1:{it.listen} check port {it.status}\n")
+             for n, it in enumerate(candidates, 1)]
+    file = room / "haproxy.cfg"
+    file.write_text(replaced(text, [*pairs, ("default-server check port 8081", "default-server check"), *more]))
+    tried = ran(["haproxy", "-c", "-f", str(file)])
+    if tried.returncode or "warn" in text_of(tried).lower():
+        raise Wrong(f"HAProxy says of its file:\n{text_of(tried)}")
+    return ["haproxy", "-db", "-f", str(file)]
+
+
+@contextmanager
+def haproxy_of(words: list[str], port: int, said: Path) -> Iterator[subprocess.Popen[bytes]]:
+    """HAProxy's process, which takes connections there."""
+    with said.open("wb") as out:
+        child = subprocess.Popen(words, stdin=subprocess.DEVNULL, stdout=out, stderr=out, env=environment())
+    with served(child, port, said):
+        yield child
+
+
 class Pair:
     """Two candidates, of which the first leads, and a client that reaches them by HAProxy."""
 
@@ -48,25 +69,15 @@ class Pair:
         first = Candidate(built.program, self.etcd.port, TTL, "--status-host", HOST).lead(3 * SECONDS)
         self.candidates = (first, Candidate(built.program, self.etcd.port, TTL, "--status-host", HOST))
         self.port = free_port()
-        self.said = room / "said"
 
     def words(self, room: Path) -> list[str]:
         """How HAProxy is started with the repository's file."""
-        pairs = [(f"192.0.2.{n}:8080", f"127.0.0.1:{it.listen} check port {it.status}")
-                 for n, it in enumerate(self.candidates, 1)]
-        pairs += [("default-server check port 8081", "default-server check"), ("maxconn 10000", "maxconn 1000")]
-        file = room / "haproxy.cfg"
-        file.write_text(FRONT.format(port=self.port) + replaced((TOP / "deploy/haproxy-pair.cfg").read_text(), pairs))
-        tried = ran(["haproxy", "-c", "-f", str(file)])
-        if tried.returncode:
-            raise Wrong(f"HAProxy says of its file:\n{text_of(tried)}")
-        return ["haproxy", "-db", "-f", str(file)]
+        text = FRONT.format(port=self.port) + (TOP / "deploy/haproxy-pair.cfg").read_text()
+        return words_of(room, text, self.candidates, ("maxconn 10000", "maxconn 1000"))
 
     def end(self) -> None:
         for it in self.candidates:
-            it.kill_all(signal.SIGCONT)
-            it.kill_all(signal.SIGKILL)
-            it.child.communicate()
+            it.end()
         self.etcd.end()
 
 
@@ -99,10 +110,7 @@ def pair_of(built: Built) -> Iterator[tuple[Pair, Candidate, Candidate]]:
         room = Path(name)
         pair = Pair(built, room)
         try:
-            words = pair.words(room)
-            with pair.said.open("wb") as out:
-                child = subprocess.Popen(words, stdin=subprocess.DEVNULL, stdout=out, stderr=out, env=environment())
-            with served(child, pair.port, pair.said):
+            with haproxy_of(pair.words(room), pair.port, room / "said"):
                 yield pair, *pair.candidates
         finally:
             pair.end()

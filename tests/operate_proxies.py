@@ -77,12 +77,12 @@ class Certificate:
 class TlsPeer(Peer):
     """A peer that speaks TLS with the proxy."""
 
-    def __init__(self, port: int, context: ssl.SSLContext, *headers: str) -> None:
+    def __init__(self, port: int, context: ssl.SSLContext, *headers: str, target: str = "/") -> None:
         plain = socket.create_connection(("127.0.0.1", port), timeout=SECONDS)
         plain.setsockopt(socket.IPPROTO_TCP, socket.TCP_NODELAY, 1)
         self.sock = context.wrap_socket(plain, server_hostname="localhost")
         self.buffer, self.pings, self.answers_pings, self.reason = b"", 0, True, ""
-        self.sock.sendall(handshake(*headers))
+        self.sock.sendall(handshake(*headers, path=target))
         self.head = self.until(b"\r\n\r\n").decode()
         self.status = int(self.head.split(" ")[1])
 
@@ -144,6 +144,9 @@ class Nginx:
     def ports(self, port: int, daemon: int) -> list[tuple[str, str]]:
         return [(":443 ssl", f":{port} ssl"), (" 443 ssl", f" {port} ssl"), ("127.0.0.1:8080", f"127.0.0.1:{daemon}")]
 
+    def socket(self, daemon: int, path: Path) -> list[tuple[str, str]]:
+        return [(f"proxy_pass http://127.0.0.1:{daemon};", f"proxy_pass http://unix:{path};")]
+
     def commands(self, text: str) -> tuple[list[str], list[str]]:
         """What checks the file, and what serves by it."""
         (self.room / "weblocks.conf").write_text(text)
@@ -168,6 +171,11 @@ class Haproxy:
 
     def ports(self, port: int, daemon: int) -> list[tuple[str, str]]:
         return [(":443 ", f":{port} "), ("127.0.0.1:8080", f"127.0.0.1:{daemon}")]
+
+    def socket(self, daemon: int, path: Path) -> list[tuple[str, str]]:
+        """Its own user may not reach the socket, which is in a folder of the tests' user alone."""
+        pairs = [(f"server daemon 127.0.0.1:{daemon} ", f"server daemon unix@{path} ")]
+        return pairs + [("    user haproxy\n    group haproxy\n", "")] * (os.geteuid() == 0)
 
     def commands(self, text: str) -> tuple[list[str], list[str]]:
         (self.room / "haproxy.cfg").write_text(text)
@@ -215,6 +223,14 @@ def front_of(
 def hands_over(built: Built, proxy: Proxy, certificate: Certificate) -> None:
     with Daemon(built.program) as daemon, front_of(built, proxy, certificate, daemon.port) as front:
         hand_over(front)
+
+
+def hands_over_a_socket(built: Built, proxy: Proxy, certificate: Certificate) -> None:
+    """The daemon listens on a Unix socket, which the file then names."""
+    path = proxy.room / "socket"
+    with Daemon(built.program, "--listen", f"unix:{path}") as daemon:
+        with front_of(built, proxy, certificate, daemon.port, *proxy.socket(daemon.port, path)) as front:
+            hand_over(front)
 
 
 def passes_headers(built: Built, proxy: Proxy, certificate: Certificate) -> None:
@@ -326,6 +342,8 @@ def checks_of(kind: type[Nginx] | type[Haproxy], built: Built) -> Checks:
         ("a client asks again after a restart", asks_again),
     ):
         yield f"{name}, by {kind.name}", partial(check, built, proxy, certificate)
+    over = partial(hands_over_a_socket, built, proxy, certificate)
+    yield f"a lock goes from hand to hand over a Unix socket, by {kind.name}", over
 
 
 def proxy_checks(built: Built, needs: Needs) -> Checks:

@@ -16,6 +16,8 @@ from running import SECONDS, Ended, Wrong, expect, read_line
 
 # What a service with DynamicUser has as its number, one of systemd's own range.
 USER = 61999
+# A group whose members may come in by a socket, and the number of a program's user.
+GROUP, OTHER = 61998, 61997
 # It lives in a space of mounts of its own, and so is gone with the process that holds it. What is written is in memory.
 MAKE_ROOT = """
 set -eu
@@ -191,6 +193,21 @@ def tokens_change_under_a_lock(root: Root) -> None:
             expect("what the holder says", holder.communicate(b"\n", timeout=SECONDS)[0], b"kept\n")
 
 
+def socket_is_its_groups(root: Root) -> None:
+    """Who is of the service's group reaches the socket in its folder, and nobody else; so after a restart too."""
+    root.shell(f"rm -rf /run/weblocks && install -d -o {USER} -g {GROUP} -m 710 /run/weblocks")
+    before = [*root.inside(f"--userspec={USER}:{GROUP}"), "sh", "-c", 'umask 077; exec "$@"', "sh"]
+    words = ["with", "db", "--url", "unix:/run/weblocks/socket", "--origin", "https://a.test", "--", "echo", "held"]
+    for _ in range(2):
+        with Daemon("/usr/bin/weblocks", "--listen", "unix:/run/weblocks/socket", before=before):
+            expect("the socket's mode", root.shell("stat -c '%u %g %a' /run/weblocks/socket"), f"{USER} {GROUP} 660")
+            for groups, status, said in ((f"{GROUP}", 0, "held"), ("", 69, "Permission denied")):
+                inside = root.inside(f"--userspec={OTHER}:{OTHER}", f"--groups={groups}")
+                ended = ran([*inside, PYTHON, "-m", "weblocks", *words])
+                expect(f"the status of whoever has the groups {groups!r}", ended.returncode, status)
+                expect("whether it says why", said in text_of(ended), True)
+
+
 def stays_as_it_was_set(root: Root) -> None:
     """An upgrade, here to the same version, leaves the administrator's options, tokens and disabled service."""
     root.shell('echo "OPTIONS=\\"--idle 60\\"" >/etc/default/weblocks')
@@ -255,6 +272,7 @@ def root_checks(built: Built, needs: Needs) -> Checks:
             yield "the service's user is lent the tokens", lambda: tokens_are_lent(root)
             yield "links lead root nowhere", lambda: links_lead_nowhere(root)
             yield "tokens change under a lock", lambda: tokens_change_under_a_lock(root)
+            yield "a socket is its group's", lambda: socket_is_its_groups(root)
             yield "an upgrade leaves what was set", lambda: stays_as_it_was_set(root)
             yield "the package is removed", lambda: is_removed(root)
             yield "the package is purged", lambda: is_purged(root)

@@ -1,5 +1,6 @@
 """The unit of systemd: how exposed it leaves the service, and that the daemon serves within what it allows."""
 
+import os
 import re
 from pathlib import Path
 from typing import Any, Protocol
@@ -70,9 +71,19 @@ def daemon_serves_within(built: Built) -> None:
     file = built.place / "calls"
     file.write_text("\n".join(sorted(left)))
     families = settings(built)["RestrictAddressFamilies"]
-    expect("the families", families, ["AF_INET AF_INET6"])
-    with Daemon(built.tree / "usr/bin/weblocks", before=[PYTHON, FILTER, file]) as daemon:
+    expect("the families", families, ["AF_INET AF_INET6 AF_UNIX"])
+    path = built.place / "socket"
+    words = ["--listen", f"unix:{path}"]
+    with Daemon(built.tree / "usr/bin/weblocks", *words, before=[PYTHON, FILTER, file]) as daemon:
         hand_over(daemon)
+        expect("what is held over its socket", hold_over(path, built.modules), "held")
+
+
+def hold_over(path: Path, modules: Path) -> str:
+    """What a command says that runs under a lock, which the clients' command line has over a Unix socket."""
+    words = ["with", "db", "--url", f"unix:{path}", "--origin", "https://a.test", "--", "echo", "held"]
+    there = {**os.environ, "PYTHONPATH": str(modules), "PYTHONDONTWRITEBYTECODE": "1"}
+    return text_of(ran([PYTHON, "-m", "weblocks", *words], env=there)).strip()
 
 
 class Server(Protocol):
@@ -96,7 +107,7 @@ def hand_over(daemon: Server) -> None:
 def filter_bites(built: Built) -> None:
     """What is forbidden is refused, so that the filter of the check before is one."""
     for what, program, why in (
-        ("a UNIX socket", "import socket; socket.socket(socket.AF_UNIX)", "Address family not supported"),
+        ("a socket of the kernel", "from socket import *; socket(AF_NETLINK)", "Address family not supported"),
         ("another root", "import os; os.chroot('/')", "Operation not permitted"),
         ("memory for code", "import mmap; mmap.mmap(-1, 4096, prot=7)", "Operation not permitted"),
     ):

@@ -32,7 +32,7 @@ _weblocks() {
     client) words="--port --help -h" ;;
     daemon)
         words="--listen --connections --per-address --managers --idle --loops --token-file --open --allow-origin"
-        words+=" --status --status-host --epoch --epoch-file --while-input --log --help -h"
+        words+=" --sharded --status --status-host --epoch --epoch-file --while-input --log --help -h"
         ;;
     help) words=$commands ;;
     *) return ;;

@@ -28,7 +28,7 @@ words)
     client) _arguments $help '--port[port of the server]:port' ;;
     daemon)
         _arguments $help \
-            '--listen[where to listen (127.0.0.1:8080)]:address and port' \
+            '*--listen[where to listen (127.0.0.1:8080)]:address and port, or unix\: and a path' \
             '--connections[connections at once (10000)]:number' \
             '--per-address[connections at once from one address]:number' \
             '--managers[buckets at once that have an agent (100000)]:number' \
@@ -37,6 +37,7 @@ words)
             '--token-file[file with a token a line]:file:_files' \
             '--open[listen beyond this machine without a token file]' \
             '*--allow-origin[origin whose pages may open any URL]:origin' \
+            '--sharded[take connections for one origin each, by their target]' \
             '--status[where to show the status]:address and port' \
             '*--status-host[host by which the status may be asked for too]:name' \
             '(--epoch-file)--epoch[epoch of the fencing tokens]:number' \
