@@ -139,24 +139,41 @@ Serve locks over WebSocket until it is stopped, and push grants to those who wan
 Usage: weblocks daemon [OPTIONS]
 
 Options:
-      --listen <ADDRESS:PORT>  Address and port to listen on; port 0 is any that is free [default: 127.0.0.1:8080]
-      --connections <NUMBER>   Connections at once, 1 to 1000000 [default: 10000]
-      --per-address <NUMBER>   Connections at once from one address [default: a quarter of all; all from this machine]
-      --managers <NUMBER>      Buckets at once that have an agent, 1 to 10000000 [default: 100000]
-      --idle <SECONDS>         Seconds of silence after which a peer is pinged, 1 to 86400; it is ended after twice as \
-many [default: 30]
-      --loops <NUMBER>         Event loops, 1 to 64 [default: one a core]
-      --token-file <FILE>      File with a token a line, and the origins that it may open; whoever has none stays out
-      --open                   Listen beyond this machine without a token file
-      --allow-origin <ORIGIN>  Origin whose pages may open any URL; '*' is each origin. May be given again
-      --status <ADDRESS:PORT>  Address and port to show the status at, over HTTP; port 0 is any that is free
-      --status-host <NAME>     Host by which requests for the status may name it too, as behind a proxy. May be given \
-again
-      --epoch <NUMBER>         Epoch of the fencing tokens, 1 to 9223372036854775807: greater than at each start before
-      --epoch-file <FILE>      File that keeps the epoch, which each start makes one greater; 1 where there is none yet
-      --while-input            End when standard input ends
-      --log <LEVEL>            What goes to standard error: off, error, warn, info, debug or trace [default: info]
-  -h, --help                   Print help
+      --listen <ADDRESS:PORT|unix:PATH>
+          Address and port to listen on, port 0 being any that is free, or socket of this machine. May be given again \
+[default: 127.0.0.1:8080]
+      --connections <NUMBER>
+          Connections at once, 1 to 1000000 [default: 10000]
+      --per-address <NUMBER>
+          Connections at once from one address [default: a quarter of all; all from this machine]
+      --managers <NUMBER>
+          Buckets at once that have an agent, 1 to 10000000 [default: 100000]
+      --idle <SECONDS>
+          Seconds of silence after which a peer is pinged, 1 to 86400; it is ended after twice as many [default: 30]
+      --loops <NUMBER>
+          Event loops, 1 to 64 [default: one a core]
+      --token-file <FILE>
+          File with a token a line, and the origins that it may open; whoever has none stays out
+      --open
+          Listen beyond this machine without a token file
+      --sharded
+          Have each connection open URLs of one origin alone, which its target /?origin=ORIGIN names
+      --allow-origin <ORIGIN>
+          Origin whose pages may open any URL; '*' is each origin. May be given again
+      --status <ADDRESS:PORT>
+          Address and port to show the status at, over HTTP; port 0 is any that is free
+      --status-host <NAME>
+          Host by which requests for the status may name it too, as behind a proxy. May be given again
+      --epoch <NUMBER>
+          Epoch of the fencing tokens, 1 to 9223372036854775807: greater than at each start before
+      --epoch-file <FILE>
+          File that keeps the epoch, which each start makes one greater; 1 where there is none yet
+      --while-input
+          End when standard input ends
+      --log <LEVEL>
+          What goes to standard error: off, error, warn, info, debug or trace [default: info]
+  -h, --help
+          Print help
 
 Example:
   weblocks daemon --listen 127.0.0.1:8080
@@ -230,7 +247,7 @@ USAGE = {
     for command, page in [("", HELP), *PAGES.items()]
 }
 # (the option of a tip counts as used)
-USAGE["--listen"] = USAGE["daemon"].replace("[OPTIONS]", "--listen <ADDRESS:PORT>")
+USAGE["--listen"] = USAGE["daemon"].replace("[OPTIONS]", "--listen <ADDRESS:PORT|unix:PATH>")
 USAGE["--version"] = USAGE[""].replace("weblocks", "weblocks --version")
 
 
@@ -266,7 +283,7 @@ def no_value(option, value, why):
 
 
 PORT, CLIENTS = "--port <PORT>", "--clients <NUMBER>"
-LISTEN, LOG, EPOCH = "--listen <ADDRESS:PORT>", "--log <LEVEL>", "--epoch <NUMBER>"
+LISTEN, LOG, EPOCH = "--listen <ADDRESS:PORT|unix:PATH>", "--log <LEVEL>", "--epoch <NUMBER>"
 
 # Words, and what is said of them.
 WRONG = [
@@ -300,8 +317,10 @@ WRONG = [
     ("serve --port 8080 --clients 10001", out_of_range(CLIENTS, 10001, 10000)),
     ("daemon --listn 1", unknown("--listn", "--listen", near_argument("--listen"))),
     ("daemon 8080", unknown("8080", "daemon")),
-    *((f"daemon --listen {value}", no_value(LISTEN, value, "not an address and a port"))
-      for value in ("8080", "localhost:8080", "127.0.0.1", "127.0.0.1:65536", "::1:8080", "1.2.3:80")),
+    *((f"daemon --listen {value}", no_value(LISTEN, value, "neither an address and a port nor a socket's path"))
+      for value in ("8080", "localhost:8080", "127.0.0.1", "127.0.0.1:65536", "::1:8080", "1.2.3:80", "unix:")),
+    ("daemon --listen unix:x --listen y", no_value(LISTEN, "y", "neither an address and a port nor a socket's path")),
+    ("daemon --sharded --sharded", "the argument '--sharded' cannot be used multiple times" + USAGE["daemon"]),
     ("daemon --log loud", no_value(LOG, "loud", "not a level")),
     *((f"daemon --{name} {value}", out_of_range(f"--{name} <{shown}>", value, most))
       for name, shown, most in (

@@ -28,9 +28,9 @@ def protocols(*names):
     return "Sec-WebSocket-Protocol: " + ", ".join(names)
 
 
-def may(daemon, url, *headers):
+def may(daemon, url, *headers, **how):
     """Whether a peer with these headers may open the URL. One that may not is told why, and has opened nothing."""
-    peer = daemon.peer(*headers)
+    peer = daemon.peer(*headers, **how)
     expect("the status", peer.status, 101)
     peer.send(open_of(url))
     try:

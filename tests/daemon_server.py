@@ -14,26 +14,40 @@ PUSH = "Sec-WebSocket-Protocol: weblocks.push"
 TEXT, BYTES, CLOSE, PING, PONG = 1, 2, 8, 9, 10
 FINAL, MASKED = 0x80, 0x80
 LONGEST_MESSAGE = 65536
+# What stands before the path of a socket, where it is an endpoint.
+UNIX = "unix:"
 MEGABYTE = 2**20
 # What a check that measures a time allows a loaded machine beyond it; connections are looked at twice a second.
 SLACK = 10.0
 
 
 class Daemon:
-    """The daemon on a free port of the loopback address, until its input ends."""
+    """The daemon on a free port of the loopback address, or at other endpoints, until its input ends."""
 
     def __init__(self, program, *options, listen="127.0.0.1:0", before=()):
-        words = [*before, program, "daemon", "--listen", listen, "--while-input", *options]
+        endpoints = [listen] if isinstance(listen, str) else listen
+        places = [word for it in endpoints for word in ("--listen", it)]
+        words = [*before, program, "daemon", *places, "--while-input", *options]
         pipes = dict(stdin=subprocess.PIPE, stdout=subprocess.PIPE, stderr=subprocess.PIPE)
         self.child = subprocess.Popen(words, **pipes)
+        self.endpoints = [self.read_place() for _ in endpoints]
+        ports = [it.rpartition(":") for it in self.endpoints if not it.startswith(UNIX)]
+        paths = [it.removeprefix(UNIX) for it in self.endpoints if it.startswith(UNIX)]
+        self.host, self.port = (ports[0][0], int(ports[0][2])) if ports else ("", None)
+        self.path = paths[0] if paths else None
+
+    def read_place(self):
+        """Where it listens, by the next of its lines."""
         line = read_line(self.child.stdout.fileno(), time.monotonic() + SECONDS).decode()
         if not line.startswith("listening "):
             out, err = self.child.communicate(timeout=SECONDS)
             raise Wrong(f"the daemon wrote {line!r}, and then {out!r} and {err!r}")
-        self.host, _, port = line.removeprefix("listening ").strip().rpartition(":")
-        self.port = int(port)
+        return line.removeprefix("listening ").removesuffix("\n")
 
     def peer(self, *headers, **how):
+        """A peer over the socket at the path `unix`, if one is given, or over TCP; over its socket, if it has no port."""
+        if self.port is None:
+            how.setdefault("unix", self.path)
         return Peer(self.port, *headers, host=self.host.strip("[]"), **how)
 
     def opened(self, url="https://a.test/", *headers, **how):
@@ -133,20 +147,25 @@ def framed(body, kind=TEXT, final=FINAL, mask=MASKED):
 
 
 class Peer:
-    """A peer, after its handshake was answered with `status`. It answers pings, unless it is told not to."""
+    """A peer, after its handshake was answered with `status`. It answers pings, unless it is told not to.
 
-    def __init__(self, port, *headers, host="127.0.0.1", source=None, room=None, timeout=SECONDS):
-        family = socket.AF_INET6 if ":" in host else socket.AF_INET
-        self.sock = socket.socket(family)
+    It comes over the socket at the path `unix`, where one is given, and else over TCP."""
+
+    def __init__(
+        self, port, *headers, host="127.0.0.1", unix=None, path="/", before=b"", source=None, room=None, timeout=SECONDS
+    ):
+        over_ip = socket.AF_INET6 if ":" in host else socket.AF_INET
+        self.sock = socket.socket(socket.AF_UNIX if unix else over_ip)
         self.sock.settimeout(timeout)
         if room:
             self.sock.setsockopt(socket.SOL_SOCKET, socket.SO_RCVBUF, room)
         if source:
             self.sock.bind((source, 0))
-        self.sock.connect((host, port))
-        self.sock.setsockopt(socket.IPPROTO_TCP, socket.TCP_NODELAY, 1)
+        self.sock.connect(unix or (host, port))
+        if not unix:
+            self.sock.setsockopt(socket.IPPROTO_TCP, socket.TCP_NODELAY, 1)
         self.buffer, self.pings, self.answers_pings, self.reason = b"", 0, True, ""
-        self.sock.sendall(handshake(*headers))
+        self.sock.sendall(before + handshake(*headers, path=path))
         self.head = self.until(b"\r\n\r\n").decode()
         self.status = int(self.head.split(" ")[1])
 

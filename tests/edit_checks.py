@@ -107,13 +107,13 @@ class Edits:
         if told is not None:
             self.before += f"{crate}/{word}_{name} 0 {told or reason(name, word)}\n"
 
-    def start(self, **more: str) -> tuple[list[str], dict]:
+    def start(self, *options: str, **more: str) -> tuple[list[str], dict]:
         (self.top / "tests/edits/TRIED").write_text(self.before)
         path = f"{self.top / 'kit'}:{os.environ['PATH']}"
-        return ["tests/try_edits", "--jobs", "1"], {"env": self.kit.around(PATH=path, **more)}
+        return ["tests/try_edits", "--jobs", "1", *options], {"env": self.kit.around(PATH=path, **more)}
 
-    def run(self, **more: str) -> Ended:
-        words, how = self.start(**more)
+    def run(self, *options: str, **more: str) -> Ended:
+        words, how = self.start(*options, **more)
         ended = run_in(self.top, words, **how)
         expect("standard error", ended.err, b"")
         expect("what is left of temporary files", [*self.kit.temporary.iterdir()], [])
@@ -130,8 +130,10 @@ class Edits:
 
 
 def edit_checks(made: Checkouts, kit: Kit) -> Checks:
-    def ends(edits: Edits, passed: int, failed: int, checks: list[str], tried: dict[str, str], **more: str) -> Ended:
-        ended = edits.run(**more)
+    def ends(
+        edits: Edits, passed: int, failed: int, checks: list[str], tried: dict[str, str], *options: str, **more: str
+    ) -> Ended:
+        ended = edits.run(*options, **more)
         said = ended.out.decode()
         expect("the last line", said.splitlines()[-1], f"{passed} passed, {failed} failed")
         expect("the status", ended.status, 1 if failed else 0)
@@ -146,6 +148,7 @@ def edit_checks(made: Checkouts, kit: Kit) -> Checks:
         return edits
 
     whole, both = "check low: ", {"wrong_one": reason("one"), "wrong_two": reason("two")}
+    through = [whole, "check low: wrong one, wrong two", whole]
 
     def together() -> None:
         """But neither a second one of a function, nor one of a function that calls another's."""
@@ -222,6 +225,9 @@ def edit_checks(made: Checkouts, kit: Kit) -> Checks:
         told = {"wrong_one": "by the gate", "wrong_two": "by the gate"}
         ends(several(), 2, 0, ["ci low"], told, RT_DOES="names")
 
+    def by_check() -> None:
+        ends(several(), 2, 0, through, both, "--by-check", RT_DOES="names")
+
     yield "edits are tried together, each in a function of its own", together
     yield "an edit that isn't on record is tried by itself", new_one
     yield "so is one that is on record for another goal", lambda: another_reason(reason("four", "returns"), True)
@@ -233,10 +239,10 @@ def edit_checks(made: Checkouts, kit: Kit) -> Checks:
     yield "one that only a proof's names refuse fails", lambda: not_refused("named", not_a_goal)
     yield "several of which one can't be read are parted", unread
     yield "no edit of a crate that isn't proved is tried", lambda: unproved("doubt", [whole], "it isn't proved as it")
-    through = [whole, "check low: wrong one, wrong two", whole]
     yield "none is on record where the crate isn't proved in the end", lambda: unproved(
         "spoil", through, "it isn't proved over what the tries kept"
     )
     yield "an rt ci that takes names is asked", by_names
+    yield "and isn't with --by-check", by_check
     for number in (signal.SIGINT, signal.SIGTERM):
         yield f"a run that {number.name} ends has on record what it confirmed", lambda it=number: interrupted(it)
