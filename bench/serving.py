@@ -40,9 +40,12 @@ def built_client():
         yield f"{folder}/client"
 
 
-def ask(client, *words):
-    """Runs the client, and answers what it found."""
-    ran = subprocess.run([client, *map(str, words)], stdout=subprocess.PIPE, check=False)
+def ask(client, *words, seconds=None):
+    """Runs the client, for so many seconds at most, and answers what it found."""
+    try:
+        ran = subprocess.run([client, *map(str, words)], stdout=subprocess.PIPE, check=False, timeout=seconds)
+    except subprocess.TimeoutExpired:
+        sys.exit(f"the client did not end in {seconds} seconds")
     if ran.returncode:
         sys.exit(f"the client ended with status {ran.returncode}")
     return json.loads(ran.stdout)

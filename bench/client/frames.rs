@@ -80,13 +80,13 @@ pub struct Socket {
 
 impl Socket {
     /// With a subprotocol, the server has to select it.
-    pub fn connect(port: u16, subprotocol: Option<&str>) -> io::Result<Socket> {
+    pub fn connect(port: u16, target: &str, subprotocol: Option<&str>) -> io::Result<Socket> {
         let mut stream = Stream::connect(port)?;
         let asked = subprotocol.map_or(String::new(), |it| {
             format!("Sec-WebSocket-Protocol: {it}\r\n")
         });
         let head = format!(
-            "GET / HTTP/1.1\r\nHost: 127.0.0.1:{port}\r\nConnection: Upgrade\r\nUpgrade: websocket\r\n\
+            "GET {target} HTTP/1.1\r\nHost: 127.0.0.1:{port}\r\nConnection: Upgrade\r\nUpgrade: websocket\r\n\
              Sec-WebSocket-Version: 13\r\nSec-WebSocket-Key: dGhlIHNhbXBsZSBub25jZQ==\r\n{asked}\r\n"
         );
         stream.send(head.as_bytes())?;

@@ -19,11 +19,12 @@ use std::sync::atomic::{AtomicU64, Ordering};
 use weblocks::Telling;
 
 const USAGE: &str =
-    "usage: client cycles SERVER --port P [--connections K] [--cycles N] [--names own|one]
+    "usage: client cycles SERVER --port P [--connections K] [--cycles N] [--names own|one] [--origins own|one]
        client pushes --port P [--connections K] [--rounds N]
        client soak SERVER --port P [--connections K] [--cycles N] [--drops N]
 
-SERVER is polled or pushed, of `weblocks`; or redis, postgres or etcd, which cycles alone knows.";
+SERVER is polled or pushed, of `weblocks`; or redis, postgres or etcd, which cycles alone knows, and which have no
+origins.";
 
 fn usage() -> ! {
     eprintln!("{USAGE}");
@@ -36,6 +37,7 @@ struct Words {
     count: u64,
     drops: u64,
     has_one_name: bool,
+    has_one_origin: bool,
 }
 
 fn number<T: std::str::FromStr>(text: &str) -> T {
@@ -49,6 +51,7 @@ fn options(words: &[String]) -> Words {
         count: 10_000,
         drops: 0,
         has_one_name: false,
+        has_one_origin: true,
     };
     for pair in words.chunks(2) {
         match pair {
@@ -58,6 +61,9 @@ fn options(words: &[String]) -> Words {
                 "--cycles" | "--rounds" => read.count = number(value),
                 "--drops" => read.drops = number(value),
                 "--names" if value == "own" || value == "one" => read.has_one_name = value == "one",
+                "--origins" if value == "own" || value == "one" => {
+                    read.has_one_origin = value == "one"
+                }
                 _ => usage(),
             },
             _ => usage(),
@@ -75,13 +81,22 @@ fn telling(server: &str) -> Telling {
 }
 
 fn locker(server: &str, words: &Words, place: usize) -> io::Result<Box<dyn Locker>> {
+    let host = match words.has_one_origin {
+        true => weblocks::HOST.to_string(),
+        false => format!("a{place}.test"),
+    };
     let place = if words.has_one_name { 0 } else { place };
     let name = format!("name-{place}");
     Ok(match server {
         "redis" => Box::new(redis::Client::open(words.port, &name)?),
         "postgres" => Box::new(postgres::Client::open(words.port, place as u64)?),
         "etcd" => Box::new(etcd::Client::open(words.port, &name)?),
-        _ => Box::new(weblocks::Client::open(words.port, &name, telling(server))?),
+        _ => Box::new(weblocks::Client::open(
+            words.port,
+            &host,
+            &name,
+            telling(server),
+        )?),
     })
 }
 

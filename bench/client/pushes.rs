@@ -1,7 +1,7 @@
 //! How long a push is on its way: from the release that grants a lock to the socket of who waits for it.
 
 use crate::frames::bad;
-use crate::weblocks::{Client, Telling};
+use crate::weblocks::{Client, Telling, HOST};
 use std::io;
 use std::time::{Duration, Instant};
 
@@ -9,7 +9,7 @@ use std::time::{Duration, Instant};
 /// thread's, which reads the push first and the release's reply then. The times are sorted.
 pub fn run(port: u16, connections: usize, rounds: usize) -> io::Result<Vec<Duration>> {
     let mut clients = (0..connections)
-        .map(|_| Client::open(port, "one", Telling::Pushed))
+        .map(|_| Client::open(port, HOST, "one", Telling::Pushed))
         .collect::<io::Result<Vec<_>>>()?;
     let mut holder = 0;
     clients[holder].send_request()?;

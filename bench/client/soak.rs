@@ -1,7 +1,7 @@
 //! Cycles for a long time, by peers some of which go away in the middle of one, and come again.
 
 use crate::cycles::Counts;
-use crate::weblocks::{Client, Telling};
+use crate::weblocks::{Client, Telling, HOST};
 use std::io;
 use std::sync::atomic::{AtomicU64, Ordering};
 use std::thread;
@@ -65,13 +65,13 @@ impl Soak {
         let name = format!("name-{}", number / 2);
         let mut random = Random(0x9E37_79B9_7F4A_7C15 ^ (number + 1));
         let mut counts = Counts::default();
-        let mut client = Client::open(self.port, &name, self.telling)?;
+        let mut client = Client::open(self.port, HOST, &name, self.telling)?;
         while self.begins() {
             let leaves = self.chance(&mut random);
             cycle_until(&mut client, leaves, &mut counts)?;
             if leaves != Leaves::Never {
                 drop(client);
-                client = Client::open(self.port, &name, self.telling)?;
+                client = Client::open(self.port, HOST, &name, self.telling)?;
             }
         }
         Ok(counts)

@@ -4,6 +4,9 @@ use crate::cycles::{Counts, Locker};
 use crate::frames::{bad, Socket};
 use std::io::{self, Write};
 
+/// The host of the origin that all clients have, unless each has its own.
+pub const HOST: &str = "a.test";
+
 /// How a client is told of a grant for which it has to wait.
 #[derive(Clone, Copy, PartialEq)]
 pub enum Telling {
@@ -35,24 +38,25 @@ pub struct Client {
 }
 
 impl Client {
-    pub fn open(port: u16, name: &str, telling: Telling) -> io::Result<Client> {
+    /// The handshake's target is the origin, by which servers share origins out.
+    pub fn open(port: u16, host: &str, name: &str, telling: Telling) -> io::Result<Client> {
         let subprotocol = if telling == Telling::Pushed {
             Some("weblocks.push")
         } else {
             None
         };
         let request = format!(r#"{{"id":1,"name":"{name}","op":"request"}}"#).into_bytes();
+        let target = format!("/?origin=https%3A%2F%2F{host}");
+        let open = format!(r#"{{"id":0,"op":"open","url":"https://{host}/"}}"#);
         let (message, text) = (Vec::new(), Vec::new());
         let mut client = Client {
-            socket: Socket::connect(port, subprotocol)?,
+            socket: Socket::connect(port, &target, subprotocol)?,
             telling,
             request,
             message,
             text,
         };
-        client
-            .socket
-            .send(br#"{"id":0,"op":"open","url":"https://a.test/"}"#)?;
+        client.socket.send(open.as_bytes())?;
         client.receive()?;
         Ok(client)
     }
