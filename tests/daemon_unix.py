@@ -214,7 +214,8 @@ def one_serves(both, path):
     out, err = refused.communicate(timeout=SECONDS)
     expect("the status of the one", (refused.returncode, out), (1, b""))
     reasons = ("another server has its lock", "somebody listens there")
-    expect("whether it says why", err.decode() in [cannot(path, why) for why in reasons], True)
+    if err.decode() not in [cannot(path, why) for why in reasons]:
+        expect("why it was refused", err.decode(), cannot(path, " or ".join(reasons)))
     expect("the line of the other", serving.stdout.readline().decode(), f"listening {at(path)}\n")
     expect("the reply", Peer(None, unix=path).ask(open_of(URL)), OPENED)
     _, err = serving.communicate(timeout=SECONDS)
