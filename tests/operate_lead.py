@@ -22,8 +22,10 @@ from running import SECONDS, Wrong, expect, read_line
 
 # After how many seconds etcd gives the lead to another one, and what may be added to it until that one serves.
 TTL, MORE = 4, 2
-# The most that three health checks take, with the pauses between them.
-HEALTH = 3 * (3 + 1)
+# The most that three health checks take, with the pauses between them, and where each is answered at once.
+HEALTH, REFUSED = 3 * (3 + 1), 3 * 1 + 2
+# After how many seconds at most the daemon has read its file of tokens again.
+READ_AGAIN = 5
 FENCES = "Sec-WebSocket-Protocol: weblocks.fence"
 URL = "https://a.test/"
 
@@ -124,10 +126,12 @@ def until(holds: Callable[[], bool], seconds: float, otherwise: str) -> None:
 class Candidate:
     """deploy/lead with a daemon of its own, in a group of processes of its own."""
 
-    def __init__(self, program: Path, etcd: int, ttl: int, *options: str, name: str = "locks") -> None:
+    def __init__(
+        self, program: Path, etcd: int, ttl: int, *options: str, name: str = "locks", shown_at: str = "127.0.0.1"
+    ) -> None:
         self.listen, self.status = free_port(), free_port()
         words = [str(TOP / "deploy/lead"), "--ttl", str(ttl), name, "--", str(program), "daemon", *options]
-        words += ["--listen", f"127.0.0.1:{self.listen}", "--status", f"127.0.0.1:{self.status}"]
+        words += ["--listen", f"127.0.0.1:{self.listen}", "--status", f"{shown_at}:{self.status}"]
         there = {**environment(), "ETCDCTL_ENDPOINTS": f"http://127.0.0.1:{etcd}"}
         pipes = {"stdin": subprocess.DEVNULL, "stdout": subprocess.PIPE, "stderr": subprocess.PIPE}
         self.child = subprocess.Popen(words, env=there, start_new_session=True, **pipes)
@@ -295,6 +299,28 @@ def etcd_is_away_for_a_moment(built: Built) -> None:
         expect("whether the other one waits", pair.second.child.poll(), None)
 
 
+def status_wants_a_token(built: Built) -> None:
+    """Where other machines reach its status, the leader is asked with a token of its file, also once that changes."""
+    with TemporaryDirectory() as name:
+        room = Path(name)
+        tokens, fresh = room / "tokens", room / "fresh"
+        for file, token in ((tokens, "old"), (fresh, "new")):
+            file.touch(0o600)
+            file.write_text(f"narrow https://b.test\n{token}\n")
+        etcd, options = Etcd(room), ("--token-file", str(tokens))
+        leader = Candidate(built.program, etcd.port, TTL, *options, shown_at="0.0.0.0")
+        try:
+            leader.lead(3 * SECONDS)
+            time.sleep(REFUSED)
+            expect("how the leader ended", leader.child.poll(), None)
+            fresh.replace(tokens)
+            time.sleep(READ_AGAIN + REFUSED)
+            expect("how it ended with other tokens", leader.child.poll(), None)
+        finally:
+            leader.end()
+            etcd.end()
+
+
 def wrong_words() -> None:
     for words in ([], ["locks"], ["locks", "--"], ["--ttl", "x", "locks", "--", "true", "--status", "a:1"],
                   ["locks", "--", "true"], ["locks", "--", "true", "--status", "127.0.0.1:0"], ["--often", "locks"]):
@@ -311,6 +337,7 @@ def lead_checks(built: Built, needs: Needs) -> Checks:
         yield "a leader whose daemon is stopped", partial(daemon_is_stopped, built)
         yield "a leader that loses etcd", partial(etcd_is_lost, built)
         yield "an etcd that is away for a moment", partial(etcd_is_away_for_a_moment, built)
+        yield "a leader whose status wants a token", partial(status_wants_a_token, built)
 
     yield "lead's words", wrong_words
     yield from needs.each("failover by etcd", ["etcd-server", "etcd-client", "curl", "python3-websockets"], checks)
