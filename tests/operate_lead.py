@@ -11,6 +11,7 @@ from collections.abc import Callable, Iterator
 from contextlib import contextmanager
 from functools import partial
 from pathlib import Path
+from shutil import which
 from tempfile import TemporaryDirectory
 
 from checkouts import TOP
@@ -329,6 +330,20 @@ def wrong_words() -> None:
         expect(f"what is said of {words}", ended.stderr.decode().splitlines()[1][:12], "usage: lead ")
 
 
+def missing_commands() -> None:
+    """What it calls is looked for before it is a candidate, and not at the daemon's first check."""
+    with TemporaryDirectory() as name:
+        room = Path(name)
+        for missing, there in (("etcdctl", []), ("curl", ["etcdctl"])):
+            for command in ["bash", "sed", "grep", *there]:
+                if not (room / command).exists():
+                    (room / command).symlink_to(which(command) or "/bin/true")
+            words = [TOP / "deploy/lead", "locks", "--", "true", "--status", "127.0.0.1:8081"]
+            ended = subprocess.run(words, capture_output=True, stdin=subprocess.DEVNULL, env={"PATH": name})
+            expect(f"what is said where {missing} is missing", ended.stderr, f"lead: there is no {missing}\n".encode())
+            expect("the status", ended.returncode, 1)
+
+
 def lead_checks(built: Built, needs: Needs) -> Checks:
     def checks() -> Checks:
         yield "a leader whose daemon is killed", partial(daemon_is_killed, built)
@@ -340,4 +355,5 @@ def lead_checks(built: Built, needs: Needs) -> Checks:
         yield "a leader whose status wants a token", partial(status_wants_a_token, built)
 
     yield "lead's words", wrong_words
+    yield "what lead calls is missing", missing_commands
     yield from needs.each("failover by etcd", ["etcd-server", "etcd-client", "curl", "python3-websockets"], checks)
