@@ -7,7 +7,7 @@ import socket
 import subprocess
 import threading
 import time
-from collections.abc import Callable, Iterator
+from collections.abc import Callable, Iterator, Sequence
 from contextlib import contextmanager
 from functools import partial
 from pathlib import Path
@@ -19,6 +19,7 @@ from daemon_server import Closed, Peer
 from operate_needs import PYTHON, Checks, Needs, environment
 from operate_package import Built
 from operate_proxies import ASKS_AGAIN, free_port
+from operate_service import FILTER, LEAD, calls_left
 from running import SECONDS, Wrong, expect, read_line
 
 # After how many seconds etcd gives the lead to another one, and what may be added to it until that one serves.
@@ -128,10 +129,17 @@ class Candidate:
     """deploy/lead with a daemon of its own, in a group of processes of its own."""
 
     def __init__(
-        self, program: Path, etcd: int, ttl: int, *options: str, name: str = "locks", shown_at: str = "127.0.0.1"
+        self,
+        program: Path,
+        etcd: int,
+        ttl: int,
+        *options: str,
+        name: str = "locks",
+        shown_at: str = "127.0.0.1",
+        before: Sequence[str | Path] = (),
     ) -> None:
         self.listen, self.status = free_port(), free_port()
-        words = [str(TOP / "deploy/lead"), "--ttl", str(ttl), name, "--", str(program), "daemon", *options]
+        words = [*before, TOP / "deploy/lead", "--ttl", str(ttl), name, "--", program, "daemon", *options]
         words += ["--listen", f"127.0.0.1:{self.listen}", "--status", f"{shown_at}:{self.status}"]
         there = {**environment(), "ETCDCTL_ENDPOINTS": f"http://127.0.0.1:{etcd}"}
         pipes = {"stdin": subprocess.DEVNULL, "stdout": subprocess.PIPE, "stderr": subprocess.PIPE}
@@ -322,6 +330,23 @@ def status_wants_a_token(built: Built) -> None:
             etcd.end()
 
 
+def leads_under_the_filter(built: Built) -> None:
+    """Under the unit's filter, with lead.conf beside it, there is a leader, and the daemon's health is asked for."""
+    with TemporaryDirectory() as name:
+        room = Path(name)
+        calls = room / "calls"
+        calls.write_text("\n".join(sorted(calls_left(built, LEAD))))
+        etcd = Etcd(room)
+        leader = Candidate(built.program, etcd.port, TTL, before=[PYTHON, FILTER, calls])
+        try:
+            leader.lead(3 * SECONDS).token()
+            time.sleep(REFUSED)
+            expect("how the leader ended", leader.child.poll(), None)
+        finally:
+            leader.end()
+            etcd.end()
+
+
 def wrong_words() -> None:
     for words in ([], ["locks"], ["locks", "--"], ["--ttl", "x", "locks", "--", "true", "--status", "a:1"],
                   ["locks", "--", "true"], ["locks", "--", "true", "--status", "127.0.0.1:0"], ["--often", "locks"]):
@@ -356,4 +381,8 @@ def lead_checks(built: Built, needs: Needs) -> Checks:
 
     yield "lead's words", wrong_words
     yield "what lead calls is missing", missing_commands
-    yield from needs.each("failover by etcd", ["etcd-server", "etcd-client", "curl", "python3-websockets"], checks)
+    packages = ["etcd-server", "etcd-client", "curl", "python3-websockets"]
+    yield from needs.each("failover by etcd", packages, checks)
+    packages += ["systemd", "python3-seccomp"]
+    filtered = "a leader under the unit's filter"
+    yield from needs.each(filtered, packages, lambda: iter([(filtered, lambda: leads_under_the_filter(built))]))

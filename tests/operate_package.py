@@ -31,6 +31,7 @@ FILES = [
     "usr/share/doc/weblocks/examples/haproxy-pair.cfg",
     "usr/share/doc/weblocks/examples/haproxy-shards.cfg",
     "usr/share/doc/weblocks/examples/haproxy.cfg",
+    "usr/share/doc/weblocks/examples/lead.conf",
     "usr/share/doc/weblocks/examples/nginx.conf",
     "usr/share/man/man1/weblocks.1.gz",
     "usr/share/nodejs/weblocks/package.json",

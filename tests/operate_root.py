@@ -11,7 +11,7 @@ from pathlib import Path
 from daemon_server import Daemon, until_true
 from operate_needs import PYTHON, Checks, Needs, as_root, ran, text_of
 from operate_package import Built
-from operate_service import hand_over
+from operate_service import LEAD, hand_over
 from running import SECONDS, Ended, Wrong, expect, read_line
 
 # What a service with DynamicUser has as its number, one of systemd's own range.
@@ -113,8 +113,13 @@ def is_installed(root: Root) -> None:
 
 
 def unit_is_understood(root: Root) -> None:
-    ended = root.run("systemd-analyze", "verify", "--man=no", "weblocks.service")
-    expect("what systemd says of the unit", [it for it in ended.err.decode().splitlines() if "weblocks" in it], [])
+    """As it is, and with what has it run `lead`."""
+    place = "/etc/systemd/system/weblocks.service.d"
+    for script in ("true", f"install -D -m 644 /{LEAD} {place}/lead.conf"):
+        root.shell(script)
+        ended = root.run("systemd-analyze", "verify", "--man=no", "weblocks.service")
+        expect("what systemd says of the unit", [it for it in ended.err.decode().splitlines() if "weblocks" in it], [])
+    root.shell(f"rm -r {place}")
 
 
 def gives_locks(root: Root) -> None:

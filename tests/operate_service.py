@@ -11,14 +11,16 @@ from operate_package import Built
 from running import Wrong, expect
 
 UNIT = "usr/lib/systemd/system/weblocks.service"
+# What has the service run `lead`, beside the unit.
+LEAD = "usr/share/doc/weblocks/examples/lead.conf"
 MOST_EXPOSED = 2.0
 FILTER = Path(__file__).resolve().parent / "operate_filter.py"
 
 
-def settings(built: Built) -> dict[str, list[str]]:
-    """What the unit sets, by name."""
+def settings(built: Built, *more: str) -> dict[str, list[str]]:
+    """What the unit sets, and further files of it, by name."""
     found: dict[str, list[str]] = {}
-    for line in built.read(UNIT).splitlines():
+    for line in "".join(map(built.read, [UNIT, *more])).splitlines():
         name, equals, value = line.partition("=")
         if equals and not line.startswith("#"):
             found.setdefault(name, []).append(value)
@@ -53,10 +55,10 @@ def members(group: str) -> set[str]:
     return found
 
 
-def calls_left(built: Built) -> set[str]:
-    """The system calls that the unit leaves to the daemon: an allow list, from which others are taken."""
+def calls_left(built: Built, *more: str) -> set[str]:
+    """The system calls that the unit, with further files, leaves: an allow list, from which others are taken."""
     left = members("@default")
-    for line in settings(built)["SystemCallFilter"]:
+    for line in settings(built, *more)["SystemCallFilter"]:
         names = line.removeprefix("~").split()
         group = {call for it in names for call in (members(it) if it.startswith("@") else {it})}
         left = left - group if line.startswith("~") else left | group
