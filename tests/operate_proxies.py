@@ -326,6 +326,18 @@ def asks_again(built: Built, proxy: Proxy, certificate: Certificate) -> None:
                     client.kill()
 
 
+def names_certificate(built: Built, proxy: Proxy, certificate: Certificate) -> None:
+    """A client that doesn't know the certificate says so, and one that does comes in."""
+    with Daemon(built.program) as daemon, front_of(built, proxy, certificate, daemon.port) as front:
+        words = [PYTHON, "-m", "weblocks", "with", "db", "--url", front.url, "--origin", "https://a.test", "--", "true"]
+        there = {**environment(), "PYTHONPATH": str(built.modules), "PYTHONDONTWRITEBYTECODE": "1"}
+        why = f"weblocks: the server at {front.url} has a certificate that isn't trusted"
+        for trusted, status, said in (({}, 69, why), ({"SSL_CERT_FILE": str(certificate.file)}, 0, "")):
+            ended = ran(words, env={**there, **trusted})
+            expect("what the client says", text_of(ended).partition(": self")[0], said)
+            expect("its status", ended.returncode, status)
+
+
 def checks_of(kind: type[Nginx] | type[Haproxy], built: Built) -> Checks:
     room = built.place / kind.name
     room.mkdir()
@@ -340,6 +352,7 @@ def checks_of(kind: type[Nginx] | type[Haproxy], built: Built) -> Checks:
         ("a client has so many connections", bounds_clients),
         ("a reload keeps locks", reload_keeps_locks),
         ("a client asks again after a restart", asks_again),
+        ("a certificate that isn't trusted is named", names_certificate),
     ):
         yield f"{name}, by {kind.name}", partial(check, built, proxy, certificate)
     over = partial(hands_over_a_socket, built, proxy, certificate)

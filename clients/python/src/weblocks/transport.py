@@ -176,6 +176,11 @@ def _explain(options: Options, error: Exception) -> Exception:
         return Disconnected(f"{server} did not answer in {options.open_timeout:g} seconds")
     if isinstance(error, InvalidHandshake):
         return Disconnected(f"{server} does not speak WebSocket: {error}")
+    # Errors of TLS have numbers of their own, which aren't the system's.
+    if isinstance(error, tls.SSLCertVerificationError):
+        return Disconnected(f"{server} has a certificate that isn't trusted: {error.verify_message}")
+    if isinstance(error, tls.SSLError):
+        return Disconnected(f"{server} does not speak TLS as wanted: {error}")
     errno = error.errno if isinstance(error, OSError) else None
     reason = os.strerror(errno) if errno is not None and errno > 0 else str(error)
     return Disconnected(f"no server answers at {options.url}: {reason}")
