@@ -169,7 +169,7 @@ def _explain(options: Options, error: Exception) -> Exception:
     if status == 400:
         return Forbidden(f"{server} refused the handshake for {_url(options)} (HTTP status 400)")
     if status == 503:
-        return Disconnected(f"{server} has no room for a further client (HTTP status 503)")
+        return Disconnected(f"{server} has no room for a further client, or reaches no daemon (HTTP status 503)")
     if status is not None:
         return Disconnected(f"{server} does not speak WebSocket here (HTTP status {status})")
     if isinstance(error, asyncio.TimeoutError):
