@@ -149,8 +149,8 @@ def another_program_is_refused(built: Built) -> None:
 
 def no_time_is_refused(built: Built) -> None:
     """The copy of the checkout has no git, and so no last commit."""
-    why = "here is no git to tell the time of the last commit: set SOURCE_DATE_EPOCH"
-    is_refused(built, built.place / "timeless", why, GIT_DIR="/nowhere")
+    why = "git doesn't tell the time of the last commit, so set SOURCE_DATE_EPOCH: "
+    is_refused(built, built.place / "timeless", why + "fatal: not a git repository: '/nowhere'", GIT_DIR="/nowhere")
 
 
 def lintian_is_silent(built: Built) -> None:
