@@ -288,8 +288,13 @@ def reload_keeps_locks(built: Built, proxy: Proxy, certificate: Certificate) -> 
         wish = '{"id":1,"name":"db","op":"request","options":{"ifAvailable":true}}'
         expect("whether it is granted", '"phase":"granted"' in holder.ask(wish), True)
         before = front.workers()
-        front.child.send_signal(proxy.reload)
-        until_true("another process serves", lambda: front.workers() - before)
+        end = time.monotonic() + SECONDS
+        while not front.workers() - before:
+            if time.monotonic() > end:
+                raise Wrong(f"no other process serves after {SECONDS} seconds")
+            # (HAProxy's first process, while it starts, may lose a signal)
+            front.child.send_signal(proxy.reload)
+            time.sleep(1)
         # An old process that gave up its connections would do so soon.
         time.sleep(1)
         expect("whether it is free", '"phase":"unavailable"' in other.ask(wish), True)
