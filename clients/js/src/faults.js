@@ -63,7 +63,7 @@ export function faultOfClose(code, text) {
   const told = text ? `: ${text}` : "";
   switch (code) {
     case 1008:
-      return securityError(`The server doesn't let this page have locks of that origin${told}`);
+      return securityError(`The server doesn't let this client have locks of that origin${told}`);
     case 1013:
       return quotaExceededError(`The server has as many lock managers as it takes${told}`);
     default:

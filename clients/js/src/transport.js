@@ -14,11 +14,23 @@ const FENCE = "weblocks.fence";
 /** What stands before a token, where it is offered as a subprotocol. */
 const BEARER = "weblocks.bearer.";
 
-/** How the package `ws` tells of a server that has no place for a further connection. */
-const FULL = / response: 503$/;
+/** How the package `ws` tells of a server that answers a handshake by another status than is wanted. */
+const STATUS = / response: (\d{3})$/;
 
-/** And of one that doesn't take a handshake as it is, as of an origin that isn't its own. */
-const REFUSED = / response: 400$/;
+/** The status of a handshake that isn't taken as it is, as of an origin that isn't the server's. */
+const REFUSED = "400";
+
+/** The status of a server that has no place for a further connection. */
+const FULL = "503";
+
+/** What a server means by its status. */
+const MEANINGS = {
+  401: "it wants a token, of those that it knows (status 401)",
+  503: "it has no place for a further connection (status 503)",
+};
+
+/** What is said where the class of sockets says nothing, as a browser's. */
+const NOTHING_SAID = "its handshake failed (a page isn't told why: nobody may listen there, or it wants another token)";
 
 /** A handshake that fails whatever it offers: nobody answers, or the server has no place. */
 class Unserved extends DOMException {
@@ -139,15 +151,16 @@ function shakeHands(create, patience, signal) {
       finish();
       resolve(socket);
     };
-    socket.onerror = ({ message }) => fail(faultOfHandshake(message || "its handshake failed", socket.url));
+    socket.onerror = ({ message }) => fail(faultOfHandshake(message || NOTHING_SAID, socket.url));
     socket.onclose = ({ code }) => fail(networkError(`The server closed the connection (close code ${code})`));
   });
 }
 
 function faultOfHandshake(text, url) {
-  const message = `No connection to the server: ${text}`;
-  if (REFUSED.test(text)) return securityError(`The server refused the handshake for ${url}: ${text}`);
-  return FULL.test(text) ? new Unserved(message) : networkError(message);
+  const status = STATUS.exec(text)?.[1];
+  if (status === REFUSED) return securityError(`The server refused the handshake for ${url}: ${text}`);
+  const message = `No connection to the server: ${MEANINGS[status] ?? text}`;
+  return status === FULL ? new Unserved(message) : networkError(message);
 }
 
 /** A socket of `ws` throws what it has no listener of errors for. */

@@ -124,6 +124,22 @@ test("where there is no server, connect rejects with NetworkError", async (t) =>
   await assertRejects(connectTo(t, server), "NetworkError");
 });
 
+test("where sockets don't say why a handshake failed, as a browser's, connect says so", async () => {
+  class Silent {
+    url = "ws://127.0.0.1:9";
+
+    constructor() {
+      setTimeout(() => this.onerror({}));
+    }
+
+    close() {}
+  }
+  const fault = await assertRejects(
+    connect({ url: "ws://127.0.0.1:9", origin: "https://a.test", WebSocket: Silent }), "NetworkError",
+  );
+  assert.match(fault.message, /a page isn't told why/);
+});
+
 test("a server may close a connection for its origin (1008) or for want of room (1013)", async (t) => {
   const server = await startRelayed(t);
   server.closeCode = 1008;

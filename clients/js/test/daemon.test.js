@@ -40,11 +40,11 @@ test("pushes are selected by the first handshake, with a token beside them too",
   }
 });
 
-test("a wrong token, and none, is a NetworkError that names the status 401", async (t) => {
+test("a wrong token, and none, is a NetworkError that names the token and the status 401", async (t) => {
   const server = await startWithTokens(t, ["right"]);
   for (const token of ["wrong", "righ", "rightt", undefined]) {
     const fault = await assertRejects(connectTo(t, server, { token }), "NetworkError");
-    assert.match(fault.message, /401/);
+    assert.match(fault.message, /wants a token, of those that it knows \(status 401\)$/);
   }
 });
 
@@ -107,7 +107,7 @@ test("a server without a further place is a NetworkError, and has one when anoth
   const locks = await connectTo(t, server);
   const { made, Noted } = noteSockets();
   const fault = await assertRejects(connectTo(t, server, { WebSocket: Noted }), "NetworkError");
-  assert.match(fault.message, /503/);
+  assert.match(fault.message, /no place for a further connection \(status 503\)$/);
   assert.equal(made.length, 1, "it isn't taken for a server that is polled");
   await locks.close();
   let next = null;
