@@ -264,12 +264,16 @@ class Behaviour:
                     async with locks.request("db", **options):
                         pass
                 self.assertEqual(("SecurityError", "opaque-origin"), (caught.exception.name, caught.exception.rule))
+                self.assertRegex(str(caught.exception), r"\(opaque-origin\): an opaque origin, .* no locks$")
             with self.assertRaises(weblocks.Refused):
                 await locks.query()
 
-    async def test_a_bad_origin_or_bucket_raises_Refused(self):
-        for options, name in (({"origin": "no URL"}, "BadUrl"), ({"bucket": "-"}, "BadBucket")):
-            with self.assertRaises(weblocks.Refused) as caught:
+    async def test_a_bad_origin_or_bucket_raises_Refused_which_says_what_is_wanted(self):
+        for options, name, why in (
+            ({"origin": "no URL"}, "BadUrl", "the origin is no URL"),
+            ({"bucket": "-"}, "BadBucket", "the bucket's name isn't 1 to 64 of"),
+        ):
+            with self.assertRaisesRegex(weblocks.Refused, why) as caught:
                 async with self.connect(**options):
                     pass
             self.assertEqual(name, caught.exception.name)

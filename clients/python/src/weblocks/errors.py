@@ -2,6 +2,15 @@
 
 from __future__ import annotations
 
+_WORDS = {
+    "url": "the origin is no URL, such as https://a.test",
+    "bucket": "the bucket's name isn't 1 to 64 of a-z, 0-9, - and _, the first a letter or a digit",
+    "opaque-origin": "an opaque origin, as a file's, has no locks",
+    "requests": "as many requests are live as it takes",
+    "agents": "as many agents are live as it takes",
+}
+"""What a rule says to whoever broke it, where its own word doesn't."""
+
 
 class Error(Exception):
     """The parent of all that this package raises of its own."""
@@ -35,7 +44,8 @@ class Refused(Error):
     """
 
     def __init__(self, name: str, rule: str) -> None:
-        super().__init__(f"the service refused: {name} ({rule})")
+        why = f": {_WORDS[rule]}" if rule in _WORDS else ""
+        super().__init__(f"the service refused: {name} ({rule}){why}")
         self.name = name
         self.rule = rule
 
