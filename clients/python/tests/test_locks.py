@@ -291,6 +291,8 @@ class Behaviour:
             ):
                 with self.subTest(options), self.assertRaises(ValueError):
                     locks.request("db", **options)
+            with self.assertRaisesRegex(TypeError, "timeout is a number of seconds, not str"):
+                locks.request("db", timeout="1")
 
     async def test_bad_options_of_connect_raise_TypeError_or_ValueError(self):
         for options, error in (

@@ -5,6 +5,7 @@ from __future__ import annotations
 import asyncio
 from collections.abc import Callable
 from enum import Enum, auto
+from numbers import Real
 from types import TracebackType
 from typing import Generic, NamedTuple, Protocol, TypeVar, cast
 
@@ -54,7 +55,7 @@ class Wish(NamedTuple):
 
 
 def check_wish(wish: Wish, timeout: float | None) -> None:
-    """Raises ValueError for options that exclude each other, as the standard's do."""
+    """Raises ValueError for options that exclude each other, as the standard's do, and TypeError for no number."""
     if wish.mode not in ("exclusive", "shared"):
         raise ValueError(f"mode is 'exclusive' or 'shared', not {wish.mode!r}")
     if wish.steal and wish.if_available:
@@ -63,6 +64,8 @@ def check_wish(wish: Wish, timeout: float | None) -> None:
         raise ValueError("only an exclusive lock can be stolen: steal excludes mode='shared'")
     if timeout is not None and not wish.waits:
         raise ValueError("a request with steal or if_available doesn't wait, so it has no timeout")
+    if timeout is not None and not isinstance(timeout, Real):
+        raise TypeError(f"timeout is a number of seconds, not {type(timeout).__name__}")
     if timeout is not None and not timeout >= 0:
         raise ValueError("timeout is a number of seconds, 0 or more")
 
