@@ -61,6 +61,12 @@ class Words(CommandLineCase):
             ("invalid choice: 'hold'", ("hold",)),
             ("name the command behind --", ("with", "db")),
             ("name the command behind --", ("with", "db", "--")),
+            ("name the command behind --", ("with", "db", "echo", "-n")),
+            ("unrecognized arguments: echo", ("with", "db", "echo", "--", "true")),
+            ("unrecognized arguments: --exclusive", ("with", "db", "--exclusive")),
+            ("unrecognized arguments: db", ("query", "db")),
+            ("there is no --token, since", ("query", "--token", "secret")),
+            ("there is no --token, since", ("with", "db", "--token=secret", "--", "true")),
             ("the following arguments are required: NAME", ("with", "--", "true")),
             ("--steal and --shared exclude each other", ("with", "db", "--steal", "--shared", "--", "true")),
             ("invalid seconds value: 'soon'", ("with", "db", "--wait", "soon", "--", "true")),
@@ -71,6 +77,7 @@ class Words(CommandLineCase):
                 status, _out, err = self.run_whole(*words)
                 self.assertEqual(2, status)
                 self.assertIn(text, err)
+                self.assertNotIn("secret", err)
         status, _out, err = self.run_whole("query", environment={})
         self.assertEqual(2, status)
         self.assertIn("name the origin by --origin or WEBLOCKS_ORIGIN", err)

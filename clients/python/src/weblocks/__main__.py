@@ -64,8 +64,10 @@ def split_command(words: list[str]) -> tuple[list[str], list[str] | None]:
 def read_words(words: list[str], command: list[str] | None) -> argparse.Namespace:
     """Reads the words, or ends the program with status 2 and the reason on standard error."""
     parser, jobs = make_parser()
-    given = parser.parse_args(words)
+    given, unknown = parser.parse_known_args(words)
     job = jobs[given.job]
+    if unknown and (given.job != "with" or command is not None or unknown[0].startswith("-")):
+        job.error(f"unrecognized arguments: {' '.join(unknown)}")
     if given.job != "with":
         if command is not None:
             parser.error(f"{given.job} runs no command")
@@ -124,6 +126,18 @@ def add_service(job: argparse.ArgumentParser) -> None:
         "--bucket", default=os.environ.get("WEBLOCKS_BUCKET", "default"), help="or WEBLOCKS_BUCKET, or default"
     )
     job.add_argument("--token-file", type=Path, metavar="FILE", help="a file with the token, or WEBLOCKS_TOKEN")
+    # (without it argparse takes the word for the one above, and the token for a file that it names)
+    job.add_argument("--token", nargs="?", action=NoToken, help=argparse.SUPPRESS)
+
+
+class NoToken(argparse.Action):
+    """Refuses a token among the words, and doesn't repeat it."""
+
+    def __call__(self, parser: argparse.ArgumentParser, *_found: Any) -> None:
+        parser.error(
+            "there is no --token, since other users of the machine see it: set WEBLOCKS_TOKEN, or name a file that has "
+            "the token by --token-file"
+        )
 
 
 def seconds(text: str) -> float:
