@@ -39,6 +39,11 @@ class Words(CommandLineCase):
         status, _out, err = self.run_whole("query", "--token-file", str(self.folder / "none"))
         self.assertEqual(2, status)
         self.assertIn("the token file can't be read", err)
+        for text in ("", "right https://a.test\n", "right\nwrong\n"):
+            file.write_text(text)
+            status, _out, err = self.run_whole("query", "--token-file", str(file), environment=place)
+            self.assertEqual(2, status)
+            self.assertIn(f"the token file {file} is to have one token alone", err)
 
     def test_what_fails_is_told_in_one_line_and_without_a_traceback(self):
         nowhere = f"ws://127.0.0.1:{free_port()}"

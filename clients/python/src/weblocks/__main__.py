@@ -153,9 +153,12 @@ def read_token(parser: argparse.ArgumentParser, file: Path | None) -> str | None
     if file is None:
         return os.environ.get("WEBLOCKS_TOKEN") or None
     try:
-        return file.read_text().strip()
+        words = file.read_text().split()
     except (OSError, UnicodeDecodeError) as error:
         parser.error(f"the token file can't be read: {error}")
+    if len(words) != 1:
+        parser.error(f"the token file {file} is to have one token alone, without origins")
+    return words[0]
 
 
 async def run_interruptibly(given: argparse.Namespace) -> int:
