@@ -71,7 +71,7 @@ class Libraries(unittest.TestCase):
 
     def test_a_missing_library_is_told_with_how_to_build_it(self):
         with mock.patch.dict(os.environ, {"WEBLOCKS_LIBRARY": "/there/is/no/libweblocks.so"}):
-            with self.assertRaisesRegex(weblocks.MissingLibrary, "clients/c/build"):
+            with self.assertRaisesRegex(weblocks.MissingLibrary, r"dist/libweblocks-.*\.so, and clients/c/build"):
                 weblocks.local()
 
     def found(self, top, package, named=None):

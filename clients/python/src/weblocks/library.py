@@ -31,7 +31,7 @@ class MissingLibrary(Error, OSError):
 def load(path: str | os.PathLike[str] | None = None) -> ctypes.CDLL:
     """Loads the library: of this path, or from where `find` finds it.
 
-    Raises MissingLibrary, which says how to build it.
+    Raises MissingLibrary, which says where to have it from.
     """
     place = find() if path is None else os.fspath(path)
     try:
@@ -39,8 +39,8 @@ def load(path: str | os.PathLike[str] | None = None) -> ctypes.CDLL:
         return _typed(library)
     except (OSError, AttributeError) as error:
         raise MissingLibrary(
-            f"the library of weblocks can't be loaded ({error}): build it by clients/c/build of the repository, and "
-            f"put {NAME} beside the package, or its path into {VARIABLE}"
+            f"the library of weblocks can't be loaded ({error}): the repository has it as {IN_REPOSITORY[1]}, and "
+            f"clients/c/build there builds it; put it beside the package as {NAME}, or its path into {VARIABLE}"
         ) from error
 
 
