@@ -37,7 +37,7 @@ enum weblocks_code {
     WEBLOCKS_SPENT = 2,
     /* The world keeps no books. */
     WEBLOCKS_NO_BOOKS = 3,
-    /* One of the pointers is null. */
+    /* One of the pointers is null, of weblocks_answer or weblocks_audit: weblocks_new doesn't look. */
     WEBLOCKS_NULL = 4,
     /* The line has more than WEBLOCKS_LONGEST_LINE bytes. */
     WEBLOCKS_TOO_LONG = 5,
@@ -46,7 +46,8 @@ enum weblocks_code {
 };
 
 /* Makes a world in which nobody has opened, and puts it at *out: WEBLOCKS_OK, or WEBLOCKS_MEMORY, which leaves *out as
-   it was. Where keep_books isn't 0, the world keeps its lines, for weblocks_audit. Neither pointer may be null.
+   it was. Where keep_books isn't 0, the world keeps its lines, for weblocks_audit. Neither pointer may be null:
+   that isn't looked for, and the program would crash.
 
    By the seed a world's tables spread names; no reply shows it. Where names come from who isn't trusted, take it from
    the system (getrandom), so that nobody can choose names that fall together; a test may fix it. */
