@@ -111,7 +111,7 @@ export class Service {
       this.#peers.clear();
       for (const peer of peers) {
         this.#life.forget(peer);
-        peer.close(FAILED, fault.message);
+        peer.fail(FAILED, fault.message);
       }
     }
   }

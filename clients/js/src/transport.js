@@ -152,7 +152,7 @@ function shakeHands(create, patience, signal) {
       resolve(socket);
     };
     socket.onerror = ({ message }) => fail(faultOfHandshake(message || NOTHING_SAID, socket.url));
-    socket.onclose = ({ code }) => fail(networkError(`The server closed the connection (close code ${code})`));
+    socket.onclose = ({ code, reason }) => fail(faultOfEnd(code, reason));
   });
 }
 
@@ -161,6 +161,11 @@ function faultOfHandshake(text, url) {
   if (status === REFUSED) return securityError(`The server refused the handshake for ${url}: ${text}`);
   const message = `No connection to the server: ${MEANINGS[status] ?? text}`;
   return status === FULL ? new Unserved(message) : networkError(message);
+}
+
+function faultOfEnd(code, reason) {
+  const told = reason ? `: ${reason}` : "";
+  return networkError(`The server closed the connection (close code ${code})${told}`);
 }
 
 /** A socket of `ws` throws what it has no listener of errors for. */

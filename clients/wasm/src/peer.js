@@ -53,7 +53,24 @@ export class Peer {
     this.#port.close();
   }
 
-  #read({ data, ports }) {
+  /**
+   * Ends it as `close` does, but for what is handed over by its port: a page may have sent that before it hears of the
+   * end, and is to be told by its own connection.
+   */
+  fail(code, reason) {
+    if (this.#isOver) return;
+    this.#isOver = true;
+    this.#port.postMessage({ type: "close", code, reason });
+    this.#port.onmessage = (event) => this.#takeOver(event);
+  }
+
+  #takeOver({ data, ports }) {
+    if (data?.type !== "connect") return;
+    for (const port of ports) this.#listeners.onConnect(port);
+  }
+
+  #read(event) {
+    const { data } = event;
     this.#listeners.onSign(this);
     if (typeof data === "string") {
       this.#listeners.onMessage(this, data);
@@ -61,7 +78,7 @@ export class Peer {
     }
     switch (data?.type) {
       case "connect":
-        for (const port of ports) this.#listeners.onConnect(port);
+        this.#takeOver(event);
         break;
       case "hold":
         this.#listeners.onHold(this, String(data.lock));

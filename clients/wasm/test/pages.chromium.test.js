@@ -166,10 +166,10 @@ const skip = hasModule ? false : "the module isn't built: clients/wasm/build bui
 
 // (only there can it be seen)
 if (!hasModule) {
-  test("the example page says that it has no locks", async () => {
+  test("the example page says that it has no locks, and why", async () => {
     const page = await pages.openAt("/module.html");
     const said = () => page.evaluate('document.getElementById("said").textContent');
-    await until(async () => (await said()).startsWith("has no locks: "));
+    await until(async () => /^has no locks: .*weblocks\.wasm can't be had: status 404$/.test(await said()));
     await page.close();
   });
 }

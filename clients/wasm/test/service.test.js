@@ -150,10 +150,14 @@ for (const [name, make] of Object.entries(ENGINES)) {
   });
 }
 
-test("an engine that can't be made is a NetworkError of connect", async (t) => {
+test("an engine that can't be made is a NetworkError of connect, which says why", async (t) => {
   const { Service } = await import("../service.js");
   const service = new Service(() => {
     throw new Error("the module can't be had");
   });
-  await assertRejects(connectTo(t, () => doorTo(t, service)), "NetworkError");
+  const door = doorTo(t, service);
+  for (const made of [() => doorTo(t, service), door, door]) {
+    const fault = await assertRejects(connectTo(t, made), "NetworkError");
+    assert.match(fault.message, /: the module can't be had$/);
+  }
 });
