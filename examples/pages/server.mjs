@@ -46,8 +46,17 @@ async function answer(request, response) {
   }
 }
 
+const port = process.argv[2] ?? "8000";
+if (!/^\d+$/.test(port) || Number(port) > 65535) {
+  console.error("usage: node examples/pages/server.mjs [PORT]");
+  process.exit(2);
+}
 const server = createServer(answer);
-server.listen(Number(process.argv[2] ?? 8000), "127.0.0.1", () => {
+server.on("error", ({ message }) => {
+  console.error(`${message}: name another port behind server.mjs`);
+  process.exit(1);
+});
+server.listen(Number(port), "127.0.0.1", () => {
   const pages = `http://127.0.0.1:${server.address().port}/examples/pages`;
   console.log(`${pages}/connect.html`);
   console.log(`${pages}/polyfill.html`);
