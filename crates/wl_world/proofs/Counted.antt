@@ -1,9 +1,10 @@
 -- The machine numbers its requests upwards, so an operation keeps the requests in order.
 use Rattle.std.proofs.Common.{◌≡◌, ℕ, ◌≤◌, ◌<◌, List, [], ◌∷◌, refl, ap, sym, subst, ◌∙◌, Bool, true, false, Option, Some, None, not, arith}
-use Rattle.std.specs.Prelude.{if◌then◌else◌, ◌==◌, ◌&&◌, is_some, Result, Ok, Err, is_err, IfOk}
+use Rattle.std.specs.Prelude.{if◌then◌else◌, ◌==◌, ◌&&◌, is_some}
 use Rattle.std.specs.List.{fold, list_any}
 use Rattle.wl_types.specs.declared.refusal.Refusal.{Refusal}
-use Rattle.wl_types.specs.declared.memory.Memory as memory
+use Rattle.wl_types.specs.declared.words.Kind.{Kind}
+use Rattle.wl_types.specs.declared.phases.Change.{Change}
 use Rattle.wl_types.specs.declared.phases.Numbers.{Numbers}
 use Rattle.wl_machine.specs.State.{State}
 use Rattle.wl_machine.specs.Step as machine
@@ -20,8 +21,8 @@ use Rattle.wl_world.specs.declared.requests.Request.{Request}
 use Rattle.wl_types.specs.declared.answers.TakeAnswer.TheVariants as took
 use Rattle.std.proofs.Common.{map}
 use Rattle.wl_world.specs.Requests.{IsRising, listed, told}
-use Rattle.wl_world.specs.Origins.{Core, Origin, Acted, act, after, is_granted, outcome_of, stepped, take_look}
-use Rattle.wl_world.specs.Views.{made}
+use Rattle.wl_world.specs.Origins.{Core, Origin, Acted, act, admitted, after, is_granted, outcome_of, stepped, take_look}
+use Rattle.wl_world.specs.Views.{made_of}
 use Rattle.wl_world.proofs.Rising.{added, filtered, higher, noted_rising, told_rising}
 
 -- a new request has a number from low on, and the next is above it
@@ -61,6 +62,13 @@ step_counted s c = go (refusal s c)
     go : (r : Option Refusal) → IsCounted s (machine.unless_refused r s c)
     go None = accepted_counted s c
     go (Some r) = omega arith
+
+-- a request that was accepted is newer than those that were there
+pub newest : (s new : State) (c : Command) (n : ℕ) (changes : List Change) → machine.Gives s c new (reply.Request n) changes
+    → (requests : List Request) → IsRising 0 s.next.request requests → IsRising 0 n requests
+newest s new c n changes gives requests r =
+    let counted : IsCounted s (record { state = new; reply = reply.Request n; changes = changes }) = subst (IsCounted s) gives (step_counted s c) in
+    higher 0 s.next.request n requests counted.0 r
 
 done_rising : (b : Body) (agent low high : ℕ) (requests : List Request) → low ≤ high → IsRising 0 low requests → IsRising 0 high (listed agent (outcome_of b reply.Done) requests)
 done_rising (body.Enter url kind bucket) agent low high requests le r = higher 0 low high _ le (filtered (λ request. not (request.agent == agent)) 0 low requests r)
@@ -104,19 +112,12 @@ act_in_order o agent body.Query r = stepped_in_order o agent body.Query _ r
 act_in_order o agent body.Poll r = r
 act_in_order o agent body.Close r = stepped_in_order o agent body.Close _ r
 
-result_in_order : (result : Result Outcome memory.Memory) (o : Origin) (a : Acted) → is_err result ≡ false
-    → IfOk result (λ outcome. made o.core o.requests outcome ≡ a) → InOrder a.origin → InOrder o
-result_in_order (Err e) o a ok is r = absurd cc
-result_in_order (Ok outcome) o a ok is r = subst (λ (x : Acted). InOrder x.origin) (sym is) r
-
 -- what was done keeps the order
-pub acted_in_order : (result : Result Outcome memory.Memory) (old new : Origin) (agent : ℕ) (b : Body) → is_err result ≡ false
-    → IfOk result (λ outcome. made new.core new.requests outcome ≡ act old agent b) → InOrder old → InOrder new
-acted_in_order result old new agent b ok is r = result_in_order result new (act old agent b) ok is (act_in_order old agent b r)
+pub acted_in_order : (old new : Origin) (agent : ℕ) (b : Body) (o : Outcome) → made_of new o ≡ act old agent b → InOrder old → InOrder new
+acted_in_order old new agent b o is r = subst (λ (x : Acted). InOrder x.origin) (sym is) (act_in_order old agent b r)
 
-pub entered_in_order : (result : Result Outcome memory.Memory) (old new : Origin) (agent : ℕ) (b : Body) (c : Command) → is_err result ≡ false
-    → IfOk result (λ outcome. made new.core new.requests outcome ≡ stepped old agent b c) → InOrder old → InOrder new
-entered_in_order result old new agent b c ok is r = result_in_order result new (stepped old agent b c) ok is (stepped_in_order old agent b c r)
+pub entered_in_order : (old new : Origin) (kind : Kind) (o : Outcome) → made_of new o ≡ admitted old kind → InOrder old → InOrder new
+entered_in_order old new kind o is r = subst (λ (x : Acted). InOrder x.origin) (sym is) (stepped_in_order old 0 (body.Enter [] kind []) (command.Enter kind) r)
 
 -- a take numbers nothing
 take_next : (core : Core) (look : Look) → (take_look core look).state.next ≡ core.state.next

@@ -35,7 +35,7 @@ equal Less e = absurd cc
 equal Equal e = refl
 equal Greater e = absurd cc
 
-same_key : (k key : ManagerKey) → is_key k key ≡ true → key ≡ k
+pub same_key : (k key : ManagerKey) → is_key k key ≡ true → key ≡ k
 same_key k key e = exact_managers key k (equal (manager_cmp key k) e)
 
 -- the label, if it is an agent of the origin

@@ -1,22 +1,28 @@
 -- What an operation gives, from what the machine gave.
-use Rattle.std.proofs.Common.{◌≡◌, refl, ap, sym, ◌∙◌, Option, Some, None, List, ℕ, false}
+use Rattle.std.proofs.Common.{◌≡◌, refl, ap, ap₂, sym, subst, ◌∙◌, Option, Some, None, List, [], ℕ, false}
 use Rattle.wl_types.specs.Refusals.{refused_or_memory}
 use Rattle.wl_types.specs.declared.refusal.Refusal.{Refusal}
+use Rattle.wl_types.specs.declared.refusal.Refusal.TheVariants.{Memory}
+use Rattle.wl_types.specs.declared.words.Kind.{Kind}
 use Rattle.wl_types.specs.declared.phases.Change.{Change}
 use Rattle.wl_machine.specs.State.{State}
 use Rattle.wl_machine.specs.Step as machine
 use Rattle.wl_machine.specs.Recorded.{is_recorded, with_entry}
 use Rattle.wl_machine.specs.Refusals.{refusal}
 use Rattle.wl_machine.specs.declared.command.Command.{Command}
+use Rattle.wl_machine.specs.declared.command.Command.TheVariants as command
 use Rattle.wl_machine.specs.declared.command.Reply.{Reply}
 use Rattle.wl_machine.specs.declared.command.Reply.TheVariants as reply
 use Rattle.wl_codec.specs.declared.message.Body.{Body}
+use Rattle.wl_codec.specs.declared.message.Body.TheVariants as body
 use Rattle.wl_codec.specs.declared.reply.Outcome.{Outcome}
 use Rattle.wl_codec.specs.declared.reply.Outcome.TheVariants as outcome
+use Rattle.wl_world.specs.declared.requests.Request.{Request}
 use Rattle.wl_world.specs.Requests.{noted, listed}
-use Rattle.wl_world.specs.Origins.{Origin, Acted, stepped, noting, outcome_of}
-use Rattle.wl_world.specs.Views.{Told, core, made}
-use Rattle.std.specs.Prelude.{Result, Ok, Err, IfOk, ◌+◌, if◌then◌else◌}
+use Rattle.wl_world.specs.Origins.{Acted, Core, Origin, act, admitted, stepped, noting, outcome_of}
+use Rattle.wl_world.specs.Views.{IsRefused, Operates, Told, core, made, made_of, origin}
+use Rattle.std.specs.Prelude.{Result, Ok, Err, IfOk, IsErrAnd, ◌+◌, if◌then◌else◌}
+use Rattle.wl_types.specs.declared.infos.Snapshot.{Snapshot}
 use Rattle.wl_types.specs.declared.memory.Memory as memory
 
 -- what is not recorded leaves the number of entries
@@ -25,45 +31,67 @@ unrecorded answer None quiet = refl
 unrecorded answer (Some count) quiet = ap (λ recorded. Some (if recorded then count + 1 else count)) quiet
 
 -- what was accepted, where the outcome is that of the machine's reply
-pub accepted : (old : Origin) (agent : ℕ) (b : Body) (c : Command) (new : State) (entries : Option ℕ) (answer : Reply) (changes : List Change) (after : Acted)
-    → machine.Gives old.core.state c new answer changes → entries ≡ with_entry answer old.core.entries
-    → after ≡ made (core new entries) (noted changes (listed agent (outcome_of b answer) old.requests)) (outcome_of b answer)
-    → after ≡ stepped old agent b c
-accepted old agent b c new entries answer changes after gives recorded is =
-    is ∙ ap (λ e. made (core new e) (noted changes (listed agent (outcome_of b answer) old.requests)) (outcome_of b answer)) recorded ∙ unfold stepped in ap (noting old agent b) (sym gives)
+pub accepted : (old : State) (before : Option ℕ) (agent : ℕ) (b : Body) (c : Command) (new : State) (entries : Option ℕ) (answer : Reply) (changes : List Change)
+    → machine.Gives old c new answer changes → entries ≡ with_entry answer before → (requests : List Request)
+    → made (core new entries) (noted changes (listed agent (outcome_of b answer) requests)) (outcome_of b answer) ≡ stepped (origin (core old before) requests) agent b c
+accepted old before agent b c new entries answer changes gives recorded requests =
+    ap (λ e. made (core new e) (noted changes (listed agent (outcome_of b answer) requests)) (outcome_of b answer)) recorded
+    ∙ unfold stepped in ap (noting (origin (core old before) requests) agent b) (sym gives)
 
 -- what was refused
-pub refuses : (old : Origin) (agent : ℕ) (b : Body) (c : Command) (new : State) (entries : Option ℕ) (r : Refusal) (result : Result Outcome memory.Memory)
-    → r ≡ refused_or_memory (refusal old.core.state c) → new ≡ old.core.state → entries ≡ old.core.entries → Told r result
-    → IfOk result (λ o. made (core new entries) old.requests o ≡ stepped old agent b c)
-refuses old agent b c new entries r (Err e) first same kept told = tt
-refuses old agent b c new entries r (Ok o) first same kept told =
-    unfold stepped in ap (λ o. made (core new entries) old.requests o) told.is
-    ∙ ap (λ s. made (core s entries) old.requests (outcome.Refused r)) same
-    ∙ ap (λ e. made (core old.core.state e) old.requests (outcome.Refused r)) (kept ∙ sym (unrecorded (reply.Refused r) old.core.entries refl))
-    ∙ ap (noting old agent b) (sym (by_refusal (refusal old.core.state c) first))
+pub refused : (old : State) (before : Option ℕ) (agent : ℕ) (b : Body) (c : Command) (new : State) (entries : Option ℕ) (r : Refusal)
+    → r ≡ refused_or_memory (refusal old c) → new ≡ old → entries ≡ before
+    → IsRefused (λ requests. stepped (origin (core old before) requests) agent b c) (core old before) (core new entries) r
+refused old before agent b c new entries r first same kept = record {
+  same = ap₂ core same kept;
+  done = λ not_memory requests. unfold stepped in ap (λ s. made (core s entries) requests (outcome.Refused r)) same
+      ∙ ap (λ e. made (core old e) requests (outcome.Refused r)) (kept ∙ sym (unrecorded (reply.Refused r) before refl))
+      ∙ ap (noting (origin (core old before) requests) agent b) (sym (by_refusal not_memory (refusal old c) first));
+}
   where
-    by_refusal : (found : Option Refusal) → r ≡ refused_or_memory found → machine.unless_refused found old.core.state c ≡ machine.no_changes old.core.state (reply.Refused r)
-    by_refusal (Some other) e = ap (λ r. machine.no_changes old.core.state (reply.Refused r)) (sym e)
-    by_refusal None e = absurd (told.not_memory e)
+    by_refusal : (r ≡ Memory → ⊥) → (found : Option Refusal) → r ≡ refused_or_memory found → machine.unless_refused found old c ≡ machine.no_changes old (reply.Refused r)
+    by_refusal not_memory (Some other) e = ap (λ r. machine.no_changes old (reply.Refused r)) (sym e)
+    by_refusal not_memory None e = absurd (not_memory e)
 
-pub accepts : (old : Origin) (agent : ℕ) (b : Body) (c : Command) (new : State) (entries : Option ℕ) (answer : Reply) (changes : List Change) (result : Result Outcome memory.Memory) (after : Outcome → Acted)
-    → machine.Gives old.core.state c new answer changes → entries ≡ with_entry answer old.core.entries
-    → IfOk result (λ o. after o ≡ made (core new entries) (noted changes (listed agent (outcome_of b answer) old.requests)) (outcome_of b answer))
-    → IfOk result (λ o. after o ≡ stepped old agent b c)
-accepts old agent b c new entries answer changes (Ok o) after gives recorded is = accepted old agent b c new entries answer changes (after o) gives recorded is
-accepts old agent b c new entries answer changes (Err e) after gives recorded is = tt
+-- a refusal that is handed on
+pub handed_on : (old new : Core) (agent : ℕ) (b : Body) (changes : List Change) (result : Result Outcome Refusal) (r : Refusal)
+    → IsErrAnd result (λ e. e ≡ r) → IsRefused (λ requests. act (origin old requests) agent b) old new r → Operates old agent b new changes result
+handed_on old new agent b changes (Ok o) r is refusal = absurd is
+handed_on old new agent b changes (Err e) r is refusal = subst (IsRefused (λ requests. act (origin old requests) agent b) old new) (sym is) refusal
+
+-- the outcome of what was refused
+pub refusal_is : (acts : List Request → Acted) (old new : Core) (r : Refusal) (result : Result Outcome memory.Memory) (requests : List Request)
+    → IsRefused acts old new r → Told r result → IfOk result (λ o. made new requests o ≡ acts requests)
+refusal_is acts old new r (Err e) requests refusal told = tt
+refusal_is acts old new r (Ok o) requests refusal told = ap (made new requests) told.is ∙ refusal.done told.not_memory requests
 
 pub or_memory : (found : Option Refusal) (r : Refusal) → found ≡ Some r → r ≡ refused_or_memory found
 or_memory found r e = sym (ap refused_or_memory e)
 
--- the parts of what was done
-pub outcome_in : (result : Result Outcome memory.Memory) (origin : Origin) (a : Acted)
-    → IfOk result (λ o. made origin.core origin.requests o ≡ a) → IfOk result (λ o. o ≡ a.outcome)
-outcome_in (Ok o) origin a is = ap (λ (x : Acted). x.outcome) is
-outcome_in (Err e) origin a is = tt
+-- the outcome of what was done, with the requests that its changes found
+pub done_is : (acts : List Request → Acted) (new : Core) (changes : List Change) (agent : ℕ) (o : Outcome) (was requests : List Request)
+    → ((requests : List Request) → made new (noted changes (listed agent o requests)) o ≡ acts requests) → requests ≡ noted changes (listed agent o was)
+    → made new requests o ≡ acts was
+done_is acts new changes agent o was requests done is = ap (λ requests. made new requests o) is ∙ done was
 
-pub origin_in : (result : Result Outcome memory.Memory) (origin : Origin) (a : Acted)
-    → IfOk result (λ o. made origin.core origin.requests o ≡ a) → IfOk result (λ o. origin ≡ a.origin)
+-- a query changes nothing
+pub queried : (old : State) (before : Option ℕ) (agent : ℕ) (seen : Snapshot) → machine.Gives old (command.Query agent) old (reply.Seen seen) [] → (requests : List Request)
+    → made (core old before) requests (outcome.Seen seen) ≡ stepped (origin (core old before) requests) agent body.Query (command.Query agent)
+queried old before agent seen gives = accepted old before agent body.Query (command.Query agent) old before (reply.Seen seen) [] gives (sym (unrecorded (reply.Seen seen) before refl))
+
+-- an agent that enters changes no request
+pub entered : (old : State) (before : Option ℕ) (kind : Kind) (new : State) (entries : Option ℕ) (agent : ℕ) (changes : List Change)
+    → machine.Gives old (command.Enter kind) new (reply.Agent agent) changes → entries ≡ with_entry (reply.Agent agent) before → (requests : List Request)
+    → made (core new entries) requests (outcome.Client (Some agent)) ≡ admitted (origin (core old before) requests) kind
+entered old before kind new entries agent changes gives recorded requests =
+    ap (λ changes. made (core new entries) (noted changes requests) (outcome.Client (Some agent))) (sym (by_refusal (refusal old (command.Enter kind))) ∙ ap (λ (o : machine.Outcome). o.changes) gives)
+    ∙ accepted old before 0 (body.Enter [] kind []) (command.Enter kind) new entries (reply.Agent agent) changes gives recorded requests
+  where
+    by_refusal : (found : Option Refusal) → (machine.unless_refused found old (command.Enter kind)).changes ≡ []
+    by_refusal (Some r) = refl
+    by_refusal None = refl
+
+-- the manager that was left
+pub origin_in : (result : Result Outcome memory.Memory) (origin : Origin) (a : Acted) → IfOk result (λ o. made_of origin o ≡ a) → IfOk result (λ o. origin ≡ a.origin)
 origin_in (Ok o) origin a is = ap (λ (x : Acted). x.origin) is
 origin_in (Err e) origin a is = tt

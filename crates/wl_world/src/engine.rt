@@ -5,11 +5,11 @@ ghost use Rattle.wl_world.specs.Cores.{AreCoresOf, listed};
 ghost use Rattle.wl_world.specs.World.{next, opening_with, reply};
 ghost use Rattle.wl_world.specs.Worlds.{world_of};
 
+use crate::answer::plain_text;
 use crate::cores::take_cores;
 use crate::label::Label;
 use crate::labels::serve_named;
 use crate::origin::Origin;
-use crate::serve_label::plain_text;
 use crate::supplies::Supplies;
 use std::alloc::Global;
 use std::collections::HashMap;

@@ -1,6 +1,7 @@
 //! The world of a script: the managers of all buckets of all origins, and what each label is.
 #![tactic(auto)]
 
+mod answer;
 mod cores;
 mod engine;
 mod label;
@@ -12,8 +13,6 @@ mod origin;
 mod realm;
 mod requests;
 mod rolls;
-mod serve;
-mod serve_label;
 mod steps;
 mod supplies;
 

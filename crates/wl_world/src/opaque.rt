@@ -1,11 +1,14 @@
 //! Agents of opaque origins, which have no manager.
 
-ghost use Rattle.std.specs.Prelude.{◌≡◌};
+ghost use Rattle.std.specs.Prelude.{◌≡◌, IfOk, OnOk, Some, string_bytes};
+ghost use Rattle.wl_codec.specs.Replies.{reply_text};
 ghost use Rattle.wl_machine.specs.Refusals.{is_window, no_storage};
-ghost use Rattle.wl_world.specs.Labels.{active_after, opaque_outcome};
+ghost use Rattle.wl_world.specs.Labels.{active_after, closes, opaque_outcome, plain};
 
+use crate::answer::{Answer, closes, plain_text};
+use std::alloc::Global;
 use wl_codec::{Body, Outcome};
-use wl_types::{Kind, Refusal, ReleaseAnswer};
+use wl_types::{Kind, Memory, Refusal, ReleaseAnswer};
 
 fn is_window(kind: Kind) -> bool
     ensures { result ≡ is_window kind }
@@ -24,7 +27,7 @@ fn no_storage(kind: Kind, active: bool) -> Refusal
 }
 
 /// What an opaque agent is answered.
-pub(crate) fn opaque_outcome(kind: Kind, active: bool, body: &Body) -> Outcome
+fn opaque_outcome(kind: Kind, active: bool, body: &Body) -> Outcome
     ensures { result ≡ opaque_outcome kind active body.now }
 {
     match body {
@@ -46,11 +49,31 @@ pub(crate) fn opaque_outcome(kind: Kind, active: bool, body: &Body) -> Outcome
 }
 
 /// Whether the agent is active after this answer.
-pub(crate) fn active_after(active: bool, outcome: &Outcome) -> bool
+fn active_after(active: bool, outcome: &Outcome) -> bool
     ensures { result ≡ active_after active outcome.now }
 {
     match outcome {
         Outcome::Active(now) => *now,
         _ => active,
     }
+}
+
+/// A line of an agent of an opaque origin.
+pub(crate) fn serve_opaque(
+    alloc: Global,
+    kind: Kind,
+    active: &mut bool,
+    id: u64,
+    body: &Body,
+) -> Result<Answer, Memory>
+    ensures text { IfOk result (λ answer. string_bytes answer.text
+        ≡ reply_text (plain (Some id) (opaque_outcome kind active.old body.now))) }
+    ensures closed { IfOk result (λ answer. answer.closed ≡ closes (opaque_outcome kind active.old body.now)) }
+    ensures active { active.new ≡ active_after active.old (opaque_outcome kind active.old body.now) }
+{
+    let outcome = opaque_outcome(kind, *active, body);
+    *active = active_after(*active, &outcome);
+    let closed = closes(&outcome);
+    let text = plain_text(alloc, Some(id), outcome)?;
+    Ok(Answer { text, closed })
 }

@@ -2,14 +2,13 @@
 
 ghost use Rattle.std.specs.Prelude.{◌≡◌, IfOk, OnOk, string_bytes, Some, None};
 ghost use Rattle.wl_codec.specs.Replies.{reply_text};
-ghost use Rattle.wl_origin.specs.Opening.{manager_of};
-ghost use Rattle.wl_world.specs.Labels.{entered, from_unopened, opened, plain};
+ghost use Rattle.wl_world.specs.Labels.{entered, from_unopened, plain};
 ghost use Rattle.wl_world.specs.Realms.{realm_of};
 
+use crate::answer::plain_text;
 use crate::label::Label;
 use crate::origin::Origin;
 use crate::realm::enter_at;
-use crate::serve_label::plain_text;
 use crate::supplies::Supplies;
 use std::alloc::Global;
 use std::collections::HashMap;
@@ -17,13 +16,22 @@ use wl_codec::{Body, Outcome};
 use wl_core::LockCore;
 use wl_origin::{ManagerFault, ManagerKey, manager_of_text};
 use wl_session::{InTime, SessionOf};
-use wl_types::{Kind, Memory, Text};
+use wl_types::Memory;
 
 /// What a line is answered, and the label that it opened.
 #[derive(Drop)]
 pub(crate) struct Opening {
     pub text: String,
     pub label: Option<Label>,
+}
+
+/// A line that opens no label.
+fn refuse(alloc: Global, id: u64, outcome: Outcome) -> Result<Opening, Memory>
+    ensures text { IfOk result (λ opening. string_bytes opening.text ≡ reply_text (plain (Some id) outcome)) }
+    ensures label { IfOk result (λ opening. opening.label ≡ None) }
+{
+    let text = plain_text(alloc, Some(id), outcome)?;
+    Ok(Opening { text, label: None })
 }
 
 /// The label of a new agent.
@@ -33,10 +41,7 @@ fn entered(alloc: Global, key: ManagerKey, id: u64, outcome: Outcome) -> Result<
 {
     let agent = match &outcome {
         Outcome::Client(Some(agent)) => *agent,
-        _ => {
-            let text = plain_text(alloc, Some(id), outcome)?;
-            return Ok(Opening { text, label: None });
-        }
+        _ => return refuse(alloc, id, outcome),
     };
     let mut session = SessionOf::<InTime>::new(alloc);
     let text = session.finish_changed(Some(id), outcome, &[])?;
@@ -44,44 +49,8 @@ fn entered(alloc: Global, key: ManagerKey, id: u64, outcome: Outcome) -> Result<
     Ok(Opening { text, label })
 }
 
-fn open_label<S: Copy + Drop, C: LockCore<Seed = S>>(
-    supplies: &Supplies<S>,
-    realm: &mut HashMap<ManagerKey, Origin<C>>,
-    id: u64,
-    url: &str,
-    kind: Kind,
-    bucket: Text,
-) -> Result<Opening, Memory>
-    ensures text { IfOk result (λ opening. string_bytes opening.text
-        ≡ reply_text (opened (realm_of C.no_entries realm.old) id kind (manager_of url.now bucket)).reply) }
-    ensures label { IfOk result (λ opening. opening.label
-        ≡ (opened (realm_of C.no_entries realm.old) id kind (manager_of url.now bucket)).label) }
-    ensures realm { OnOk result (realm_of C.no_entries realm.new
-        ≡ (opened (realm_of C.no_entries realm.old) id kind (manager_of url.now bucket)).realm) }
-{
-    match manager_of_text(supplies.alloc, url, bucket) {
-        Ok(Some(key)) => {
-            let outcome = enter_at(supplies, realm, &key, kind)?;
-            entered(supplies.alloc, key, id, outcome)
-        }
-        Ok(None) => {
-            let text = plain_text(supplies.alloc, Some(id), Outcome::Client(None))?;
-            let label = Some(Label::Opaque(kind, true));
-            Ok(Opening { text, label })
-        }
-        Err(ManagerFault::BadUrl) => {
-            let text = plain_text(supplies.alloc, Some(id), Outcome::BadUrl)?;
-            Ok(Opening { text, label: None })
-        }
-        Err(ManagerFault::BadBucket) => {
-            let text = plain_text(supplies.alloc, Some(id), Outcome::BadBucket)?;
-            Ok(Opening { text, label: None })
-        }
-        Err(ManagerFault::Memory) => Err(Memory),
-    }
-}
-
-pub(crate) fn serve_unopened<S: Copy + Drop, C: LockCore<Seed = S>>(
+/// A line of an unopened label.
+pub(crate) fn open_label<S: Copy + Drop, C: LockCore<Seed = S>>(
     supplies: &Supplies<S>,
     realm: &mut HashMap<ManagerKey, Origin<C>>,
     id: u64,
@@ -94,13 +63,21 @@ pub(crate) fn serve_unopened<S: Copy + Drop, C: LockCore<Seed = S>>(
     ensures realm { OnOk result (realm_of C.no_entries realm.new
         ≡ (from_unopened (realm_of C.no_entries realm.old) id body).realm) }
 {
-    match body {
-        Body::Enter { url, kind, bucket } => {
-            open_label(supplies, realm, id, url.as_str(), kind, bucket)
+    let Body::Enter { url, kind, bucket } = body else {
+        return refuse(supplies.alloc, id, Outcome::NotOpen);
+    };
+    match manager_of_text(supplies.alloc, url.as_str(), bucket) {
+        Ok(Some(key)) => {
+            let outcome = enter_at(supplies, realm, &key, kind)?;
+            entered(supplies.alloc, key, id, outcome)
         }
-        _ => {
-            let text = plain_text(supplies.alloc, Some(id), Outcome::NotOpen)?;
-            Ok(Opening { text, label: None })
+        Ok(None) => {
+            let text = plain_text(supplies.alloc, Some(id), Outcome::Client(None))?;
+            let label = Some(Label::Opaque(kind, true));
+            Ok(Opening { text, label })
         }
+        Err(ManagerFault::BadUrl) => refuse(supplies.alloc, id, Outcome::BadUrl),
+        Err(ManagerFault::BadBucket) => refuse(supplies.alloc, id, Outcome::BadBucket),
+        Err(ManagerFault::Memory) => Err(Memory),
     }
 }

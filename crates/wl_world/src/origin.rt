@@ -8,7 +8,7 @@ ghost use Rattle.wl_world.specs.Requests.{news_of};
 ghost use Rattle.wl_world.specs.Views.{core as seen, made_of};
 
 use crate::requests::Requests;
-use crate::steps::{act, enter};
+use crate::steps::{accept, operate, refusal_outcome};
 use crate::supplies::Supplies;
 use std::alloc::Global;
 use std::marker::Model;
@@ -63,22 +63,23 @@ impl<C: LockCore> Origin<C> {
     pub(crate) fn enter(&mut self, kind: Kind) -> Result<Outcome, Memory>
         ensures { IfOk result (λ outcome. made_of self.new outcome ≡ admitted self.old kind) }
     {
-        let result = enter(&mut self.core, &mut self.requests, kind);
-        if result.is_err() {
-            self.requests.clear();
-        }
-        result
+        let agent = match self.core.open(kind) {
+            Ok(agent) => agent,
+            Err(refusal) => return refusal_outcome(refusal),
+        };
+        Ok(Outcome::Client(Some(agent)))
     }
 
     /// Does what an agent asks for.
     pub(crate) fn act(&mut self, agent: u64, body: &Body) -> Result<Outcome, Memory>
         ensures { IfOk result (λ outcome. made_of self.new outcome ≡ act self.old agent body.now) }
     {
-        let result = act(&mut self.core, &mut self.requests, agent, body);
-        if result.is_err() {
-            self.requests.clear();
-        }
-        result
+        let outcome = match operate(&mut self.core, agent, body) {
+            Ok(outcome) => outcome,
+            Err(refusal) => return refusal_outcome(refusal),
+        };
+        accept(&self.core, &mut self.requests, agent, &outcome)?;
+        Ok(outcome)
     }
 
     /// Tells the agent its news, by number: takes each granted lock in it.

@@ -1,38 +1,46 @@
 //! The managers of all buckets of all origins.
 
-ghost use Rattle.std.specs.Prelude.{◌≡◌, IfOk, OnOk, string_bytes};
+ghost use Rattle.std.specs.Prelude.{◌≡◌, IfOk, OnOk, Some, string_bytes};
+ghost use Rattle.std.specs.HashMap.{get};
+ghost use Rattle.std.specs.Ordering.{eq_by_cmp};
 ghost use Rattle.wl_codec.specs.Replies.{reply_text};
+ghost use Rattle.wl_origin.specs.Manager.{manager_cmp};
 ghost use Rattle.wl_world.specs.Agents.{served};
 ghost use Rattle.wl_world.specs.Labels.{closes, with_origin};
 ghost use Rattle.wl_world.specs.Origins.{admitted};
 ghost use Rattle.wl_world.specs.Realms.{realm_of};
 
+use crate::answer::{Answer, closes};
 use crate::origin::Origin;
-use crate::serve::{Answer, serve};
 use crate::supplies::Supplies;
 use std::alloc::Global;
 use std::collections::HashMap;
 use wl_codec::{Body, Outcome};
 use wl_core::LockCore;
 use wl_origin::ManagerKey;
-use wl_session::{InTime, SessionOf};
+use wl_session::{InTime, SessionOf, tells};
 use wl_types::{Kind, Memory};
 
-/// Gives a manager to a key that has none.
-fn seat<C: LockCore>(
-    alloc: Global,
+/// Makes the manager of a key that has none. Until it is used it stands for none.
+fn seat<S: Copy + Drop, C: LockCore<Seed = S>>(
+    supplies: &Supplies<S>,
     realm: &mut HashMap<ManagerKey, Origin<C>>,
     key: &ManagerKey,
-    origin: Origin<C>,
 ) -> Result<(), Memory>
-    ensures { OnOk result (realm_of C.no_entries realm.new ≡ with_origin (realm_of C.no_entries realm.old) key.now origin) }
+    ensures there { OnOk result (get (eq_by_cmp manager_cmp) realm.new key.now
+        ≡ Some (realm_of C.no_entries realm.old key.now)) }
+    ensures same { OnOk result (realm_of C.no_entries realm.new ≡ realm_of C.no_entries realm.old) }
 {
-    let key = key.copy(alloc)?;
-    realm.insert(key, origin)?;
+    if realm.contains_key(key) {
+        return Ok(());
+    }
+    let key = key.copy(supplies.alloc)?;
+    realm.insert(key, Origin::new(supplies))?;
     Ok(())
 }
 
 /// A line of an agent of this manager.
+#[tactic(auto, unfolding(crate::specs::Agents::served))]
 pub(crate) fn serve_at<S: Copy + Drop, C: LockCore<Seed = S>>(
     supplies: &Supplies<S>,
     realm: &mut HashMap<ManagerKey, Origin<C>>,
@@ -51,13 +59,19 @@ pub(crate) fn serve_at<S: Copy + Drop, C: LockCore<Seed = S>>(
     ensures session { OnOk result (session.new
         ≡ (served (realm_of C.no_entries realm.old key.now) agent session.old id body.now).session) }
 {
-    if let Some(origin) = realm.get_mut(key) {
-        return serve(supplies.alloc, origin, agent, session, id, body);
+    seat(supplies, realm, key)?;
+    let Some(origin) = realm.get_mut(key) else {
+        unreachable!()
+    };
+    let outcome = origin.act(agent, body)?;
+    let closed = closes(&outcome);
+    if !tells(&outcome) {
+        let text = session.finish_changed(Some(id), outcome, &[])?;
+        return Ok(Answer { text, closed });
     }
-    let mut origin = Origin::new(supplies);
-    let answer = serve(supplies.alloc, &mut origin, agent, session, id, body)?;
-    seat(supplies.alloc, realm, key, origin)?;
-    Ok(answer)
+    let news = origin.tell(supplies.alloc, agent)?;
+    let text = session.finish_changed(Some(id), outcome, &news)?;
+    Ok(Answer { text, closed })
 }
 
 /// A new agent of this manager.
@@ -71,11 +85,9 @@ pub(crate) fn enter_at<S: Copy + Drop, C: LockCore<Seed = S>>(
     ensures realm { OnOk result (realm_of C.no_entries realm.new ≡ with_origin (realm_of C.no_entries realm.old) key.now
         (admitted (realm_of C.no_entries realm.old key.now) kind).origin) }
 {
-    if let Some(origin) = realm.get_mut(key) {
-        return origin.enter(kind);
+    seat(supplies, realm, key)?;
+    match realm.get_mut(key) {
+        Some(origin) => origin.enter(kind),
+        None => unreachable!(),
     }
-    let mut origin = Origin::new(supplies);
-    let outcome = origin.enter(kind)?;
-    seat(supplies.alloc, realm, key, origin)?;
-    Ok(outcome)
 }
