@@ -110,9 +110,9 @@ def ship(top: Path, program: Path, kit: str = KIT) -> None:
 
 def keep_few(top: Path) -> None:
     """Leaves two crates of the program, the library's and one of the tests, without their edits."""
-    lines = ["wl_types:", "wl_samples: wl_types", "wl_c staticlib: wl_types memchr", "weblocks: wl_types clap"]
+    lines = ["wl_types:", "wl_test_support: wl_types", "wl_c staticlib: wl_types memchr", "weblocks: wl_types clap"]
     (top / "crates.txt").write_text("".join(f"{it}\n" for it in lines))
-    kept = ("wl_types", "wl_samples", "wl_c", "weblocks")
+    kept = ("wl_types", "wl_test_support", "wl_c", "weblocks")
     gone = [it for it in (top / "crates").iterdir() if it.name not in kept]
     gone += [top / f"crates/{it}/must-fail" for it in ("wl_types", "wl_c")]
     gone += [top / it for it in ("tests/edits", "tests/scripts", "bench")]

@@ -13,12 +13,12 @@ use std::thread::Threads;
 use std::time::Clock;
 use std::{io, thread};
 use wl_admission::Rules;
+use wl_cli::{DaemonOptions, EpochSource, addresses_of};
 use wl_daemon::{
     EntryFault, Setup, TokenFile, check_address, next_epoch, places_for, read_rules, serve,
 };
 use wl_liveness::Limits;
 use wl_status::StatusServer;
-use wl_words::{DaemonOptions, EpochSource, addresses_of};
 
 /// The event loops at most.
 const MOST_LOOPS: usize = 64;

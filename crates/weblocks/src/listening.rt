@@ -5,10 +5,10 @@ use std::fmt;
 use std::fs::{File, Files};
 use std::net::{Net, SocketAddr};
 use thiserror::Error;
+use wl_cli::Endpoint;
 use wl_daemon::{SocketFault, SocketFile, bind_socket};
 use wl_loops::TransportListener;
 use wl_types::Memory;
-use wl_words::Endpoint;
 
 /// Why the daemon doesn't listen.
 #[derive(Clone, Copy, Debug, PartialEq, Eq, Drop, Error)]

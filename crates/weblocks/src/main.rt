@@ -20,8 +20,8 @@ use std::sync::Wait;
 use std::thread::Threads;
 use std::time::Clock;
 use std::{env, fmt, io};
+use wl_cli::{Job, UsageFault, job_of};
 use wl_script::{Reader, ScriptFault, Writer};
-use wl_words::{Job, UsageFault, job_of};
 
 fn main(rt: HostRuntime) -> ExitCode {
     match env::args(&rt) {

@@ -4,7 +4,7 @@ use Rattle.std.specs.List.{filter_map, cons_option, slice_split}
 use Rattle.std.specs.Prelude.{filter, ◌==◌, if◌then◌else◌}
 use Rattle.std.specs.Str.{bytes_eq, trim}
 use Rattle.std.proofs.lemmas.Grind.{flat_map-append}
-use Rattle.wl_admission.specs.Handshakes.{first, offered}
+use Rattle.wl_admission.specs.Handshakes.{first, offers}
 use Rattle.std.proofs.lemmas.List.{append-nil, at_drop_more, take_more, map-append, length-take, take-append-drop}
 use Rattle.std.proofs.lemmas.List.Elements.{filter-append, filter_map-append}
 
@@ -57,11 +57,11 @@ bytes_eq_more xs ys i d e same lt =
 
 -- what a header more offers
 pub offered_more : {X : Type 0} (v : X → List ℕ) (xs : List X) (i : ℕ) (d : X) → i < length xs
-    → offered (map v (take (i + 1) xs)) ≡ offered (map v (take i xs)) ++ map trim (slice_split (λ byte. byte == 44) (v (get_or xs i d)))
+    → offers (map v (take (i + 1) xs)) ≡ offers (map v (take i xs)) ++ map trim (slice_split (λ byte. byte == 44) (v (get_or xs i d)))
 offered_more v xs i d lt =
-    ap offered (seen_more v xs i d lt)
+    ap offers (seen_more v xs i d lt)
     ∙ flat_map-append (λ header. map trim (slice_split (λ byte. byte == 44) header)) (map v (take i xs)) (v (get_or xs i d) ∷ [])
-    ∙ ap (λ rest. offered (map v (take i xs)) ++ rest) (append-nil (map trim (slice_split (λ byte. byte == 44) (v (get_or xs i d)))))
+    ∙ ap (λ rest. offers (map v (take i xs)) ++ rest) (append-nil (map trim (slice_split (λ byte. byte == 44) (v (get_or xs i d)))))
 
 pub map_seen : {X Y Z : Type 0} (h : Y → Z) (v : X → Y) (xs : List X) → map (λ x. h (v x)) xs ≡ map h (map v xs)
 map_seen h v [] = refl

@@ -34,8 +34,8 @@ sender_reach trusted (origin ∷ []) = Ok (page_reach trusted (tuple_in origin))
 sender_reach trusted (origin ∷ other ∷ more) = Err rejection.SeveralOrigins
 
 -- RFC 6455, section 11.3.4: headers that are lists with commas
-abbrev pub offered : List (List ℕ) → List (List ℕ)
-offered headers = flat_map (λ header. map trim (slice_split (λ byte. byte == 44) header)) headers
+abbrev pub offers : List (List ℕ) → List (List ℕ)
+offers headers = flat_map (λ header. map trim (slice_split (λ byte. byte == 44) header)) headers
 
 abbrev pub name_of : Subprotocol → List ℕ
 name_of subprotocol.Push = codes "weblocks.push"
@@ -108,7 +108,7 @@ terms_by shard rules has_fences header_tokens subprotocols (Ok page) =
 abbrev pub terms_at : Result Reach Rejection → Reach → Option (List Rule) → Bool → List (List ℕ) → List (List ℕ) → List (List ℕ) → Result Terms Rejection
 terms_at (Err reason) trusted rules has_fences origins authorizations headers = Err reason
 terms_at (Ok shard) trusted rules has_fences origins authorizations headers =
-    terms_by shard rules has_fences (filter_map (bearer_of carrier.Header) authorizations) (offered headers) (sender_reach trusted origins)
+    terms_by shard rules has_fences (filter_map (bearer_of carrier.Header) authorizations) (offers headers) (sender_reach trusted origins)
 
 -- what comes of a handshake, by its target and these headers
 abbrev pub terms_of : Bool → Reach → Option (List Rule) → Bool → List ℕ → List (List ℕ) → List (List ℕ) → List (List ℕ) → Result Terms Rejection

@@ -29,5 +29,5 @@ pub record Counts (old new : Places) (number many total : ℕ) : Type 0 where
   pub limits : new.limits ≡ old.limits
 
 -- One place fewer is taken, of an address that has some; else nothing is.
-abbrev pub Leaves : Places → Places → ℕ → Type 0
-Leaves old new number = Counts old new number (count_at old number - 1) (if nat_lt 0 (count_at old number) then old.taken - 1 else old.taken)
+abbrev pub Frees : Places → Places → ℕ → Type 0
+Frees old new number = Counts old new number (count_at old number - 1) (if nat_lt 0 (count_at old number) then old.taken - 1 else old.taken)

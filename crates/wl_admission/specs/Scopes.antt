@@ -33,13 +33,13 @@ tuple_of_standing (Err fault) = None
 abbrev pub tuple_in : List ℕ → Option Tuple
 tuple_in text = tuple_of_standing (standing_of text)
 
-abbrev pub listed : Option Tuple → List Tuple
-listed None = []
-listed (Some origin) = origin ∷ []
+abbrev pub origin_list : Option Tuple → List Tuple
+origin_list None = []
+origin_list (Some origin) = origin ∷ []
 
 -- What a page of this origin may open: all where it is among those that are trusted, else what has its own origin.
 abbrev pub page_reach : Reach → Option Tuple → Reach
 page_reach trusted origin = cases (admits trusted origin) origin where
   cases : Bool → Option Tuple → Reach
   cases true origin = None
-  cases false origin = Some (listed origin)
+  cases false origin = Some (origin_list origin)

@@ -94,11 +94,11 @@ fn admit_at(
     ensures { Answers terms_for (terms_at (Ok (reach_of shard)) (reach_of rules.now.trusted) (option_map rules_of rules.now.tokens) rules.now.has_fences (map (λ h. h.now) hello.now.origins.now) (map (λ h. h.now) hello.now.authorizations.now) (map (λ h. h.now) hello.now.subprotocols.now)) result }
 {
     let page = sender_scope(alloc, hello.origins, &rules.trusted)?;
-    let Ok(offered) = subprotocols(alloc, hello.subprotocols) else {
+    let Ok(offers) = subprotocols(alloc, hello.subprotocols) else {
         return Err(Rejection::Memory);
     };
-    let selected = selected_of(offered.as_slice(), rules.has_fences);
-    let Ok(tokens) = tokens_in(alloc, Carrier::Subprotocol, offered.as_slice()) else {
+    let selected = selected_of(offers.as_slice(), rules.has_fences);
+    let Ok(tokens) = tokens_in(alloc, Carrier::Subprotocol, offers.as_slice()) else {
         return Err(Rejection::Memory);
     };
     if !tokens.is_empty() && selected.is_none() {

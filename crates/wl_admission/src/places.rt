@@ -1,7 +1,7 @@
 //! How many may be connected at once.
 
 ghost use Rattle.std.specs.Prelude.{◌≡◌, ◌+◌, ℕ, true, false, OnOk, OnErr, Err};
-ghost use Rattle.wl_admission.specs.Places.{Counts, Leaves, count_at, has_place, limit_for, unix_peers};
+ghost use Rattle.wl_admission.specs.Places.{Counts, Frees, count_at, has_place, limit_for, unix_peers};
 ghost use Rattle.wl_admission.specs.declared.rejection.Rejection.TheVariants.{NoPlace};
 
 use crate::rejection::Rejection;
@@ -88,7 +88,7 @@ impl Places {
     }
 
     /// How many are taken in all.
-    pub fn taken(&self) -> u32
+    pub fn count_in_use(&self) -> u32
         ensures { result ≡ self.now.taken }
     {
         self.taken
@@ -113,8 +113,8 @@ impl Places {
     }
 
     /// Gives the place of a connection from this address back.
-    pub fn leave(&mut self, source: Source)
-        ensures { Leaves self.old self.new source.number }
+    pub fn free(&mut self, source: Source)
+        ensures { Frees self.old self.new source.number }
     {
         let count = self.count(source.number);
         if count == 0 {

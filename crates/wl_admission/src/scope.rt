@@ -36,12 +36,12 @@ impl Scope {
     {
         match self {
             Scope::All => Ok(Scope::All),
-            Scope::Only(origins) => Ok(Scope::Only(copied(alloc, origins.as_slice())?)),
+            Scope::Only(origins) => Ok(Scope::Only(copy_origins(alloc, origins.as_slice())?)),
         }
     }
 }
 
-fn copied(alloc: Global, origins: &[OriginKey]) -> Result<Vec<OriginKey>, Memory>
+fn copy_origins(alloc: Global, origins: &[OriginKey]) -> Result<Vec<OriginKey>, Memory>
     ensures { IfOk result (λ made. made.items ≡ origins.now) }
 {
     let mut made = Vec::new(alloc);

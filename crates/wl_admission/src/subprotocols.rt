@@ -2,7 +2,7 @@
 
 ghost use Rattle.std.specs.Prelude.{◌≡◌, ◌++◌, IfOk, OnOk, map};
 ghost use Rattle.std.specs.Str.{trim};
-ghost use Rattle.wl_admission.specs.Handshakes.{name_of, offered, selectable, selected_of};
+ghost use Rattle.wl_admission.specs.Handshakes.{name_of, offers, selectable, selected_of};
 
 use crate::pieces::pieces;
 use std::alloc::{AllocError, Global};
@@ -35,7 +35,7 @@ impl Subprotocol {
 /// The subprotocols of these `Sec-WebSocket-Protocol` headers, in their order (RFC 6455, section 11.3.4: each is a list
 /// with commas).
 pub fn subprotocols<'a>(alloc: Global, headers: &[&'a str]) -> Result<Vec<&'a str>, AllocError>
-    ensures { IfOk result (λ found. map (λ p. p.now) found.items ≡ offered (map (λ h. h.now) headers.now)) }
+    ensures { IfOk result (λ found. map (λ p. p.now) found.items ≡ offers (map (λ h. h.now) headers.now)) }
 {
     let mut found = Vec::new(alloc);
     for header in headers {

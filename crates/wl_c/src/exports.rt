@@ -19,7 +19,7 @@ use std::boxed::Box;
 use wl_types::Memory;
 
 /// A world in a box.
-fn boxed(alloc: Global, seed: Seed, keeps_books: bool) -> Result<Box<World>, Memory>
+fn box_world(alloc: Global, seed: Seed, keeps_books: bool) -> Result<Box<World>, Memory>
     ensures { IfOk result (λ b. IsOpening keeps_books b.value.live) }
 {
     let world = World::new(alloc, seed, keeps_books)?;
@@ -36,7 +36,7 @@ fn boxed(alloc: Global, seed: Seed, keeps_books: bool) -> Result<Box<World>, Mem
 pub extern "C" fn weblocks_new(alloc: Global, seed: &Seed, keep_books: i32, out: &mut Handle) -> i32
     ensures { IsNew keep_books out.old.world out.new.world result }
 {
-    match boxed(alloc, *seed, keep_books != 0) {
+    match box_world(alloc, *seed, keep_books != 0) {
         Ok(world) => {
             *out = Handle::of(world);
             0
@@ -118,15 +118,15 @@ pub unsafe extern "C" fn weblocks_audit(
     code_of_null()
 }
 
-/// Lets a world go.
-fn let_go(_world: Box<World>) {}
+/// Drops a world.
+fn drop_world(_world: Box<World>) {}
 
-/// Takes a handle back, and lets its world go.
+/// Takes a handle back, and drops its world.
 unsafe fn end(alloc: Global, world: *mut World)
     ghost w: { code.World }
     requires* { sem 𝓛 (handle alloc world w) }
 {
-    let_go(Box::from_raw(alloc, world))
+    drop_world(Box::from_raw(alloc, world))
 }
 
 /// Ends a world. Null is none.

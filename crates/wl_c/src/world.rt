@@ -103,7 +103,7 @@ impl World {
         })
     }
 
-    /// Lets go of what the world has, since a growth was refused.
+    /// Drops what the world has, since a growth was refused.
     fn spend(&mut self) -> Result<(), Fault>
         ensures spent { self.new.live ≡ None }
         ensures fault { result ≡ Err FaultMemory }

@@ -18,7 +18,7 @@ use Rattle.serde_json.specs.Written.{compact_text, items_text}
 use Rattle.serde_json.proofs.OnLiterals.{serde_json_on_literals}
 use Rattle.wl_types.specs.declared.infos.LockInfo.{LockInfo}
 use Rattle.wl_types.specs.Words.{mode_word}
-use Rattle.wl_codec.specs.Replies.{info_value, infos_value, seen_value, notices_value, whole_value, outcome_value, framed, reply_value, reply_text}
+use Rattle.wl_codec.specs.Replies.{info_value, infos_value, snapshot_data, notices_value, whole_value, outcome_value, reply_object, reply_value, reply_text}
 use Rattle.wl_codec.specs.Pieces.{id_and_notices}
 use Rattle.wl_codec.specs.declared.reply.WireReply.{WireReply}
 use Rattle.wl_types.specs.declared.infos.Snapshot.{Snapshot}
@@ -80,28 +80,28 @@ pub info_text : (i : LockInfo) (mode name : List ℕ) → mode ≡ mode_word i.m
 unfolding on_literals
 info_text i mode name m n = rw (m, n) refl
 
-pub snapshot_text : (s : Snapshot) (held pending : List LockInfo) → held ≡ s.held → pending ≡ s.pending → compact_text (seen_value s)
+pub snapshot_text : (s : Snapshot) (held pending : List LockInfo) → held ≡ s.held → pending ≡ s.pending → compact_text (snapshot_data s)
     ≡ codes "{\"held\":" ++ (compact_text (infos_value held) ++ (codes ",\"pending\":" ++ (compact_text (infos_value pending) ++ codes "}")))
 unfolding on_literals
 snapshot_text s held pending h p = rw (h, p) refl
 
 -- ---- replies
 
-framed_answer : (r : WireReply) (value : Data) → compact_text (framed (whole_value r.id) (notices_value r.notices) (Ok value)) ≡ codes "{" ++ (id_and_notices r ++ (codes ",\"ok\":" ++ (compact_text value ++ codes "}")))
+framed_answer : (r : WireReply) (value : Data) → compact_text (reply_object (whole_value r.id) (notices_value r.notices) (Ok value)) ≡ codes "{" ++ (id_and_notices r ++ (codes ",\"ok\":" ++ (compact_text value ++ codes "}")))
 unfolding on_literals
 framed_answer r value = simp append_assoc
 
-framed_error : (r : WireReply) (value : Data) → compact_text (framed (whole_value r.id) (notices_value r.notices) (Err value)) ≡ codes "{\"error\":" ++ (compact_text value ++ (codes "," ++ (id_and_notices r ++ codes "}")))
+framed_error : (r : WireReply) (value : Data) → compact_text (reply_object (whole_value r.id) (notices_value r.notices) (Err value)) ≡ codes "{\"error\":" ++ (compact_text value ++ (codes "," ++ (id_and_notices r ++ codes "}")))
 unfolding on_literals
 framed_error r value = simp append_assoc
 
 answer_text : (r : WireReply) (value : Data) → outcome_value r.outcome ≡ Ok value → reply_text r ≡ codes "{" ++ (id_and_notices r ++ (codes ",\"ok\":" ++ (compact_text value ++ codes "}")))
 unfolding reply_text reply_value
-answer_text r value e = ap (λ o. compact_text (framed (whole_value r.id) (notices_value r.notices) o)) e ∙ framed_answer r value
+answer_text r value e = ap (λ o. compact_text (reply_object (whole_value r.id) (notices_value r.notices) o)) e ∙ framed_answer r value
 
 pub error_text : (r : WireReply) (value : Data) → outcome_value r.outcome ≡ Err value → reply_text r ≡ codes "{\"error\":" ++ (compact_text value ++ (codes "," ++ (id_and_notices r ++ codes "}")))
 unfolding reply_text reply_value
-error_text r value e = ap (λ o. compact_text (framed (whole_value r.id) (notices_value r.notices) o)) e ∙ framed_error r value
+error_text r value e = ap (λ o. compact_text (reply_object (whole_value r.id) (notices_value r.notices) o)) e ∙ framed_error r value
 
 pub answer_made : {E : Type 0} (r : Result ⊤ E) (old n₁ n₂ n₃ n₄ n₅ : List ℕ) (reply : WireReply) (o : Result Data Data) → outcome_value reply.outcome ≡ o → IsOk o
     → n₁ ≡ old ++ codes "{" → n₂ ≡ n₁ ++ id_and_notices reply → n₃ ≡ n₂ ++ codes ",\"ok\":" → IfOk o (λ value. n₄ ≡ n₃ ++ compact_text value)

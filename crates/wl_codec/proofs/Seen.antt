@@ -10,7 +10,7 @@ use Rattle.serde_json.specs.Data.{Num, Data, number, array, object, item, Member
 use Rattle.serde_json.specs.Find.{get, get_member}
 use Rattle.serde_json.specs.Read.{number_of, of_json, of_items, of_members}
 use Rattle.serde_json.proofs.Views.{get_member-put, get_member-put_other}
-use Rattle.wl_codec.specs.Seen.{num_of, data_of, items_of, members_of, fits, items_fit, members_fit, seen}
+use Rattle.wl_codec.specs.Seen.{num_of, data_of, items_of, members_of, fits, items_fit, members_fit, json_data}
 
 -- ---- what `serde_json` reads
 
@@ -88,10 +88,10 @@ get-data_of q (json.string s) = refl
 get-data_of q (json.array js) = refl
 get-data_of q (json.object ms) = last_is_found q ms no_members ∙ later_none (option_map data_of (find.get_member q ms))
 
-data_of_found : (r : Option (Bor (Value Global))) → option_map (λ v. seen v.now) r ≡ option_map data_of (option_map (λ v. value_view v.now) r)
+data_of_found : (r : Option (Bor (Value Global))) → option_map (λ v. json_data v.now) r ≡ option_map data_of (option_map (λ v. value_view v.now) r)
 data_of_found None = refl
 data_of_found (Some v) = refl
 
 -- what is found in a tree is what is found in its data
-pub get-seen : (q : List ℕ) (r : Option (Bor (Value Global))) (v : Value Global) → option_map (λ x. value_view x.now) r ≡ find.get q (value_view v) → option_map (λ x. seen x.now) r ≡ get q (seen v)
-get-seen q r v e = data_of_found r ∙ ap (option_map data_of) e ∙ sym (get-data_of q (value_view v))
+pub get-json_data : (q : List ℕ) (r : Option (Bor (Value Global))) (v : Value Global) → option_map (λ x. value_view x.now) r ≡ find.get q (value_view v) → option_map (λ x. json_data x.now) r ≡ get q (json_data v)
+get-json_data q r v e = data_of_found r ∙ ap (option_map data_of) e ∙ sym (get-data_of q (value_view v))

@@ -47,5 +47,5 @@ abbrev mutual
   members_fit json.no_members = true
   members_fit (json.member k j ms) = fits j && members_fit ms
 
-abbrev pub seen : Value Global → Data
-seen v = data_of (value_view v)
+abbrev pub json_data : Value Global → Data
+json_data v = data_of (value_view v)

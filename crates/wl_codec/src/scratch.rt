@@ -21,7 +21,7 @@ impl Scratch {
 
     pub(crate) fn room(&mut self) -> Result<&mut json::Scratch, Memory> {
         if self.room.is_none() {
-            self.room = Some(boxed(self.alloc)?);
+            self.room = Some(box_scratch(self.alloc)?);
         }
         match &mut self.room {
             Some(room) => Ok(room),
@@ -33,6 +33,6 @@ impl Scratch {
 /// Not inlined, since a call pays for the size of what stands on its stack.
 #[cold]
 #[inline(never)]
-fn boxed(alloc: Global) -> Result<Box<json::Scratch>, Memory> {
+fn box_scratch(alloc: Global) -> Result<Box<json::Scratch>, Memory> {
     Ok(Box::new(alloc, json::Scratch::new(alloc))?)
 }

@@ -9,7 +9,7 @@ ghost use Rattle.json.specs.Lex.{tokens};
 ghost use Rattle.json.specs.Value.{value_view, items_view, members_view};
 ghost use Rattle.serde_json.specs.Find.{get, as_str, as_bool, as_number, as_u64};
 ghost use Rattle.serde_json.specs.Read.{max_depth};
-ghost use Rattle.wl_codec.specs.Seen.{fits, items_fit, members_fit, seen};
+ghost use Rattle.wl_codec.specs.Seen.{fits, items_fit, members_fit, json_data};
 ghost use Rattle.wl_codec.specs.Value.{json_value};
 
 use crate::number::{number_fits, unsigned_of};
@@ -86,7 +86,7 @@ pub(crate) fn value_of<'a>(
     bytes: &'a [u8],
     scratch: &'a mut Scratch,
 ) -> Result<Option<Value<'a>>, Memory>
-    ensures { IfOk result (λ found. option_map seen found ≡ json_value bytes.now) }
+    ensures { IfOk result (λ found. option_map json_data found ≡ json_value bytes.now) }
 {
     let Ok(text) = simdutf8::compat::from_utf8(bytes) else {
         return Ok(None);
@@ -106,13 +106,13 @@ pub(crate) fn value_of<'a>(
 // ---- looking into a value
 
 pub(crate) fn found_at<'v, 'a>(value: &'v Value<'a>, name: &str) -> Option<&'v Value<'a>>
-    ensures { option_map (λ v. seen v.now) result ≡ get name.now (seen value.now) }
+    ensures { option_map (λ v. json_data v.now) result ≡ get name.now (json_data value.now) }
 {
     value.get(name)
 }
 
 pub(crate) fn text_of<'a>(value: &Value<'a>) -> Option<&'a str>
-    ensures { option_map (λ s. s.now) result ≡ as_str (seen value.now) }
+    ensures { option_map (λ s. s.now) result ≡ as_str (json_data value.now) }
 {
     match value {
         Value::String(text) => Some(*text),
@@ -121,7 +121,7 @@ pub(crate) fn text_of<'a>(value: &Value<'a>) -> Option<&'a str>
 }
 
 pub(crate) fn bool_of(value: &Value<'_>) -> Option<bool>
-    ensures { result ≡ as_bool (seen value.now) }
+    ensures { result ≡ as_bool (json_data value.now) }
 {
     match value {
         Value::Bool(b) => Some(*b),
@@ -130,7 +130,7 @@ pub(crate) fn bool_of(value: &Value<'_>) -> Option<bool>
 }
 
 pub(crate) fn u64_of(value: &Value<'_>) -> Option<u64>
-    ensures { result ≡ option_and_then as_u64 (as_number (seen value.now)) }
+    ensures { result ≡ option_and_then as_u64 (as_number (json_data value.now)) }
 {
     match value {
         Value::Number(text) => unsigned_of(text),

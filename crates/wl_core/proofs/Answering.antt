@@ -10,7 +10,7 @@ use Rattle.wl_machine.specs.declared.command.Reply.{Reply}
 use Rattle.wl_machine.specs.declared.command.Reply.TheVariants.{Refused}
 use Rattle.wl_machine.specs.State.{State, Content}
 use Rattle.wl_machine.specs.Refusals.{refusal}
-use Rattle.wl_machine.specs.Step.{Outcome, Gives, step, no_changes, unless_refused, state_after, replies_of}
+use Rattle.wl_machine.specs.Step.{StepResult, Gives, step, no_changes, unless_refused, state_after, replies_of}
 use Rattle.wl_core.specs.Answers.{Answers, is_memory, is_memory_refusal, recent_after}
 use Rattle.wl_core.proofs.Ordinary.{for_memory, ordinary}
 
@@ -21,9 +21,9 @@ content state recent = record { state = state; recent = recent }
 pub gives_answers : (old : Content) (command : Command) (new : State) (reply : Reply) (changes recent : List Change) → is_memory reply ≡ false → Gives old.state command new reply changes
     → recent ≡ recent_after command old.recent changes → Answers old command (content new recent) reply
 gives_answers old command new reply changes recent other gives told = record {
-  reply_is = rw other (sym (ap (λ (o : Outcome). o.reply) gives));
-  state_is = rw other (sym (ap (λ (o : Outcome). o.state) gives));
-  recent_is = told ∙ rw other (ap (recent_after command old.recent) (sym (ap (λ (o : Outcome). o.changes) gives)));
+  reply_is = rw other (sym (ap (λ (o : StepResult). o.reply) gives));
+  state_is = rw other (sym (ap (λ (o : StepResult). o.state) gives));
+  recent_is = told ∙ rw other (ap (recent_after command old.recent) (sym (ap (λ (o : StepResult). o.changes) gives)));
   last = λ memory. cc;
 }
 

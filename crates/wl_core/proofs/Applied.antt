@@ -12,7 +12,7 @@ use Rattle.wl_machine.specs.declared.command.Command.{Command}
 use Rattle.wl_machine.specs.declared.command.Reply.{Reply}
 use Rattle.wl_machine.specs.State.{State, opening}
 use Rattle.wl_machine.specs.Step.{step}
-use Rattle.wl_core.specs.Answers.{is_memory, outcome}
+use Rattle.wl_core.specs.Answers.{is_memory, step_result}
 use Rattle.wl_core.specs.Realm.{at_key, with_at, all_ones, realm_of, stepped}
 
 lookup_same : {K X : Type 0} (p q : K → Bool) → ((k : K) → p k ≡ q k) → (es : List (K × X)) → lookup p es ≡ lookup q es
@@ -46,7 +46,7 @@ stepped_at cmp realm key other command here is = ap (λ b. if b then (step (real
 
 -- what a command of the core at a key does to the realm
 pub applied : {K C : Type 0} (cmp : K → K → Ordering) → IsTotalOrder cmp → (state : C → State) (cores after : List (K × C)) (key : K) (old new : C) (command : Command) (reply : Reply)
-    → at_key cmp cores key ≡ Some old → after ≡ with_at cmp cores key new → state new ≡ (outcome reply (state old) command).state
+    → at_key cmp cores key ≡ Some old → after ≡ with_at cmp cores key new → state new ≡ (step_result reply (state old) command).state
     → realm_of cmp state after ≡ (if is_memory reply then realm_of cmp state cores else stepped cmp (realm_of cmp state cores) key command)
 applied cmp total state cores after key old new command reply there written done =
     fun_ext (λ other. ap (λ r. realm_of cmp state r other) written ∙ replaced cmp total state cores key old new there other ∙ by_key other (is_at (cmp key) other) refl (is_memory reply) refl)

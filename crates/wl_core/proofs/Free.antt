@@ -6,7 +6,7 @@ use Rattle.wl_types.specs.declared.ask.Ask.{Ask}
 use Rattle.wl_types.specs.Refusals.{refuse_if, first_refusal}
 use Rattle.wl_machine.specs.declared.command.Command.TheVariants.{Request}
 use Rattle.wl_machine.specs.State.{State}
-use Rattle.wl_machine.specs.Refusals.{refusal, has_agent, is_inactive, unknown_signal, aborted_signal, live_count, spent}
+use Rattle.wl_machine.specs.Refusals.{refusal, has_agent, is_inactive, unknown_signal, aborted_signal, live_count, is_spent}
 use Rattle.wl_types.specs.Names.{is_long}
 use Rattle.wl_types.specs.Asks.{ask_refusal}
 use Rattle.wl_types.specs.declared.refusal.Refusal.TheVariants.{NoSuchAgent, InvalidState, NameTooLong, TooManyRequests, NumbersSpent}
@@ -24,7 +24,7 @@ last_free a b c d e f g true r free =
 last_free a b c d e f g false r free = refl
 
 -- a request that nothing refuses has a number
-pub request_unspent : (s : State) (agent : ℕ) (ask : Ask) → refusal s (Request agent ask) ≡ None → spent s.next.request ≡ false
+pub request_unspent : (s : State) (agent : ℕ) (ask : Ask) → refusal s (Request agent ask) ≡ None → is_spent s.next.request ≡ false
 request_unspent s agent ask free =
     last_free (refuse_if (not (has_agent s agent)) NoSuchAgent) (refuse_if (is_inactive s agent) InvalidState) (ask_refusal ask) (unknown_signal s agent ask.signal) (aborted_signal s agent ask.signal)
-    (refuse_if (is_long ask.name) NameTooLong) (refuse_if (nat_le 65536 (live_count s)) TooManyRequests) (spent s.next.request) NumbersSpent free
+    (refuse_if (is_long ask.name) NameTooLong) (refuse_if (nat_le 65536 (live_count s)) TooManyRequests) (is_spent s.next.request) NumbersSpent free

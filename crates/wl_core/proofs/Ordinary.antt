@@ -11,7 +11,7 @@ use Rattle.wl_types.specs.Refusals.{refuse_if, first_refusal}
 use Rattle.wl_machine.specs.declared.command.Command.{Command}
 use Rattle.wl_machine.specs.declared.command.Command.TheVariants.{Enter, SetActive, NewSignal, Request, Take, Release, Abort, Terminate, Query}
 use Rattle.wl_machine.specs.State.{State}
-use Rattle.wl_machine.specs.Refusals.{refusal, refusals, has_agent, is_inactive, is_worker, has_signal, signals_of, spent, live_count, unknown_signal, aborted_signal, aborted_refusal, reason_in}
+use Rattle.wl_machine.specs.Refusals.{refusal, refusals, has_agent, is_inactive, is_worker, has_signal, signals_of, is_spent, live_count, unknown_signal, aborted_signal, aborted_refusal, reason_in}
 use Rattle.wl_core.specs.Answers.{is_memory_refusal}
 
 -- whether it is a refusal for want of memory
@@ -53,10 +53,10 @@ aborted_ordinary s agent (Some signal) = reasons_ordinary (reason_in s.signals a
 
 pub ordinary : (s : State) (command : Command) → for_memory (refusal s command) ≡ false
 unfolding AreOrdinary
-ordinary s (Enter kind) = first_ordinary (refusals s (Enter kind)) (if_ordinary (nat_le 4096 (length s.agents)) TooManyAgents refl, (if_ordinary (spent s.next.agent) NumbersSpent refl, tt))
+ordinary s (Enter kind) = first_ordinary (refusals s (Enter kind)) (if_ordinary (nat_le 4096 (length s.agents)) TooManyAgents refl, (if_ordinary (is_spent s.next.agent) NumbersSpent refl, tt))
 ordinary s (SetActive agent active) = first_ordinary (refusals s (SetActive agent active)) (if_ordinary (not (has_agent s agent)) NoSuchAgent refl, (if_ordinary (is_worker s agent) NotAWindow refl, tt))
 ordinary s (NewSignal agent) =
-    first_ordinary (refusals s (NewSignal agent)) (if_ordinary (not (has_agent s agent)) NoSuchAgent refl, (if_ordinary (nat_le 1024 (length (signals_of agent s.signals))) TooManySignals refl, (if_ordinary (spent s.next.signal) NumbersSpent refl, tt)))
+    first_ordinary (refusals s (NewSignal agent)) (if_ordinary (not (has_agent s agent)) NoSuchAgent refl, (if_ordinary (nat_le 1024 (length (signals_of agent s.signals))) TooManySignals refl, (if_ordinary (is_spent s.next.signal) NumbersSpent refl, tt)))
 ordinary s (Request agent ask) =
     first_ordinary (refusals s (Request agent ask)) (
       if_ordinary (not (has_agent s agent)) NoSuchAgent refl,
@@ -68,7 +68,7 @@ ordinary s (Request agent ask) =
             unknown_ordinary s agent ask.signal,
             (
               aborted_ordinary s agent ask.signal,
-              (if_ordinary (is_long ask.name) NameTooLong refl, (if_ordinary (nat_le 65536 (live_count s)) TooManyRequests refl, (if_ordinary (spent s.next.request) NumbersSpent refl, tt))),
+              (if_ordinary (is_long ask.name) NameTooLong refl, (if_ordinary (nat_le 65536 (live_count s)) TooManyRequests refl, (if_ordinary (is_spent s.next.request) NumbersSpent refl, tt))),
             ),
           ),
         ),

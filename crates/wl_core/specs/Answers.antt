@@ -9,7 +9,7 @@ use Rattle.wl_machine.specs.declared.command.Reply.{Reply}
 use Rattle.wl_machine.specs.declared.command.Reply.TheVariants.{Refused}
 use Rattle.wl_machine.specs.State.{State, Content}
 use Rattle.wl_machine.specs.Refusals.{refusal}
-use Rattle.wl_machine.specs.Step.{Outcome, step, no_changes}
+use Rattle.wl_machine.specs.Step.{StepResult, step, no_changes}
 
 abbrev pub is_memory_refusal : Refusal → Bool
 is_memory_refusal refusals.Memory = true
@@ -25,8 +25,8 @@ is_memory (Refused refusal) = is_memory_refusal refusal
 is_memory _ = false
 
 -- what is done: nothing where memory was refused, else the machine's step
-abbrev pub outcome : Reply → State → Command → Outcome
-outcome reply s command = if is_memory reply then no_changes s reply else step s command
+abbrev pub step_result : Reply → State → Command → StepResult
+step_result reply s command = if is_memory reply then no_changes s reply else step s command
 
 -- the changes that a core tells after a command: a query leaves those of the call before
 abbrev pub recent_after : Command → List Change → List Change → List Change
@@ -35,7 +35,7 @@ recent_after command before changes = changes
 
 -- from the old content the command gives this reply and the new content; memory is refused only where the machine refuses nothing
 pub record Answers (old : Content) (command : Command) (new : Content) (reply : Reply) : Type 0 where
-  pub reply_is : reply ≡ (outcome reply old.state command).reply
-  pub state_is : new.state ≡ (outcome reply old.state command).state
-  pub recent_is : new.recent ≡ recent_after command old.recent (outcome reply old.state command).changes
+  pub reply_is : reply ≡ (step_result reply old.state command).reply
+  pub state_is : new.state ≡ (step_result reply old.state command).state
+  pub recent_is : new.recent ≡ recent_after command old.recent (step_result reply old.state command).changes
   pub last : is_memory reply ≡ true → refusal old.state command ≡ None

@@ -9,18 +9,18 @@ use wl_types::{Memory, Name};
 
 /// A row with a name in it, so that a copy takes memory.
 pub(crate) trait Row: Drop {
-    fn copied(&self, alloc: Global) -> Result<Self, Memory>
+    fn copy_row(&self, alloc: Global) -> Result<Self, Memory>
         ensures { IfOk result (λ copy. copy ≡ self.now) };
 }
 
 impl Row for Name {
-    fn copied(&self, alloc: Global) -> Result<Name, Memory> {
+    fn copy_row(&self, alloc: Global) -> Result<Name, Memory> {
         self.copy(alloc)
     }
 }
 
 impl Row for HeldRow {
-    fn copied(&self, alloc: Global) -> Result<HeldRow, Memory> {
+    fn copy_row(&self, alloc: Global) -> Result<HeldRow, Memory> {
         Ok(HeldRow {
             number: self.number,
             agent: self.agent,
@@ -33,7 +33,7 @@ impl Row for HeldRow {
 }
 
 impl Row for PendingRow {
-    fn copied(&self, alloc: Global) -> Result<PendingRow, Memory> {
+    fn copy_row(&self, alloc: Global) -> Result<PendingRow, Memory> {
         Ok(PendingRow {
             number: self.number,
             agent: self.agent,
@@ -53,7 +53,7 @@ pub(crate) fn copy_rows<T: Row>(alloc: Global, rows: &[T], room: usize) -> Resul
 {
     let mut copy = Vec::with_capacity(alloc, room)?;
     for row in rows {
-        push_in_room(&mut copy, row.copied(alloc)?);
+        push_in_room(&mut copy, row.copy_row(alloc)?);
     }
     Ok(copy)
 }

@@ -11,10 +11,10 @@ pub mod lock_core;
 mod names;
 mod owners;
 pub mod plain;
+mod processing;
 mod queues;
 mod realms;
 mod room;
-mod settling;
 mod snapshots;
 
 pub use commands::{apply, run_commands};

@@ -28,7 +28,7 @@ pub(crate) fn is_used(held: &[HeldRow], pending: &[PendingRow], name: &Name) -> 
     has_lock_of(held, name) || has_request_of(pending, name)
 }
 
-/// Lets the names go that have neither lock nor request.
+/// Removes the names that have neither lock nor request.
 pub(crate) fn keep_used(names: &mut Vec<Name>, held: &[HeldRow], pending: &[PendingRow])
     ensures { names.new.items ≡ filter (in_use held.now pending.now) names.old.items }
 {

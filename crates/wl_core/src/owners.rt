@@ -50,7 +50,7 @@ pub(crate) fn set_active_in(agents: &mut Vec<AgentRow>, agent: u64, active: bool
     }
 }
 
-/// Lets an agent go.
+/// Removes an agent.
 pub(crate) fn remove_agent(agents: &mut Vec<AgentRow>, agent: u64)
     ensures { agents.new.items ≡ filter (λ row. not (row.number == agent)) agents.old.items }
 {
@@ -95,7 +95,7 @@ pub(crate) fn set_reason(signals: &mut Vec<SignalRow>, agent: u64, signal: u64, 
     }
 }
 
-/// Lets an agent's signals go.
+/// Removes an agent's signals.
 pub(crate) fn remove_signals(signals: &mut Vec<SignalRow>, agent: u64)
     ensures { signals.new.items ≡ filter (λ row. not (row.agent == agent)) signals.old.items }
 {

@@ -13,10 +13,10 @@ use crate::limits::unless_refused;
 use crate::lock_core::LockCore;
 use crate::names::add_name;
 use crate::owners::{reason_of, remove_agent, remove_signals, set_active_in, set_reason};
-use crate::queues::{enter, is_unavailable};
+use crate::processing::process_queues;
+use crate::queues::{enqueue, is_unavailable};
 use crate::room::{make_room, push_in_room};
-use crate::settling::settle;
-use crate::snapshots::shown;
+use crate::snapshots::make_snapshot;
 use std::alloc::Global;
 use std::marker::Model;
 use wl_machine::{AgentRow, Command, HeldRow, PendingRow, Reply, SignalRow};
@@ -88,14 +88,14 @@ impl PlainCore {
             return Ok(number);
         }
         add_name(self.alloc, &mut self.names, &row.name)?;
-        enter(
+        enqueue(
             &mut self.held,
             &mut self.pending,
             &mut self.changes,
             row,
             ask.steal,
         );
-        settle(
+        process_queues(
             &mut self.held,
             &mut self.pending,
             &mut self.changes,
@@ -203,7 +203,7 @@ impl LockCore for PlainCore {
         }
         let lock = LocksToEnd::Number(agent, id);
         end_locks(&mut self.held, &mut self.changes, &lock, Phase::Released);
-        settle(
+        process_queues(
             &mut self.held,
             &mut self.pending,
             &mut self.changes,
@@ -226,7 +226,7 @@ impl LockCore for PlainCore {
         end_requests(&mut self.pending, &mut self.changes, &requests, phase);
         let locks = LocksToEnd::Signal(agent, signal);
         end_locks(&mut self.held, &mut self.changes, &locks, phase);
-        settle(
+        process_queues(
             &mut self.held,
             &mut self.pending,
             &mut self.changes,
@@ -247,7 +247,7 @@ impl LockCore for PlainCore {
         end_locks(&mut self.held, &mut self.changes, &locks, Phase::Released);
         remove_signals(&mut self.signals, agent);
         remove_agent(&mut self.agents, agent);
-        settle(
+        process_queues(
             &mut self.held,
             &mut self.pending,
             &mut self.changes,
@@ -264,7 +264,7 @@ impl LockCore for PlainCore {
         if let Some(refusal) = self.query_refusal(agent) {
             return Err(refusal);
         }
-        match shown(self.alloc, &self.held, &self.pending, &self.names) {
+        match make_snapshot(self.alloc, &self.held, &self.pending, &self.names) {
             Ok(snapshot) => Ok(snapshot),
             Err(_) => Err(Refusal::Memory),
         }

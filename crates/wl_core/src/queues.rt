@@ -70,7 +70,7 @@ pub(crate) fn is_unavailable(
 }
 
 /// A request comes to the end of its queue; one that steals ends the locks of its name and comes to the front.
-pub(crate) fn enter(
+pub(crate) fn enqueue(
     held: &mut Vec<HeldRow>,
     pending: &mut Vec<PendingRow>,
     changes: &mut Vec<Change>,

@@ -62,7 +62,7 @@ pub(crate) fn pending_infos(
 }
 
 /// What is held and what waits.
-pub(crate) fn shown(
+pub(crate) fn make_snapshot(
     alloc: Global,
     held: &[HeldRow],
     pending: &[PendingRow],

@@ -7,7 +7,7 @@ use std::alloc::Global;
 use std::test::Fail;
 use wl_core::{Command, LockCore, PlainCore, ReleaseAnswer, Reply, TakeAnswer};
 use wl_journal::{AuditFault, Book, Entry, audit};
-use wl_samples::{done, opening, told};
+use wl_test_support::{done, opening, show};
 use wl_types::{Kind, Memory};
 
 #[test]
@@ -22,7 +22,7 @@ fn a_book_does_the_lists(rt: HostRuntime) -> Result<(), Fail> {
 }
 
 /// A word for each entry, and then how many there are.
-fn shown(alloc: Global, entries: &[Entry]) -> Result<String, Memory> {
+fn show_entries(alloc: Global, entries: &[Entry]) -> Result<String, Memory> {
     let mut text = String::new(alloc);
     for entry in entries {
         write!(text, "{} ", word(entry))?;
@@ -64,8 +64,12 @@ fn add_call(
     match call {
         "count" => write!(came, "count -> {} of {}\n", book.len(), book.total())?,
         "audit" => write!(came, "audit -> {:?}\n", audit(book.base(), book.entries()))?,
-        "entries" => write!(came, "entries -> {}\n", shown(alloc, book.entries())?)?,
-        "cut" => write!(came, "cut -> {}\n", shown(alloc, &book.cut()?)?)?,
+        "entries" => write!(
+            came,
+            "entries -> {}\n",
+            show_entries(alloc, book.entries())?
+        )?,
+        "cut" => write!(came, "cut -> {}\n", show_entries(alloc, &book.cut()?)?)?,
         "base" => write!(came, "base -> {}\n", book.copy_plain()? == *book.base())?,
         "sight" => write!(came, "sight -> {}\n", sight(alloc, book)?)?,
         _ => came.push_str(done(alloc, book, call)?.as_str())?,
@@ -76,10 +80,10 @@ fn add_call(
 fn sight(alloc: Global, book: &Book<PlainCore>) -> Result<String, Memory> {
     match book.sight(1) {
         Ok(sight) => {
-            let seen = told(alloc, &Reply::Seen(sight.snapshot))?;
+            let seen = show(alloc, &Reply::Seen(sight.snapshot))?;
             Ok(format!(in alloc; "{} entries, {seen}", sight.seen)?)
         }
-        Err(refusal) => told(alloc, &Reply::Refused(refusal)),
+        Err(refusal) => show(alloc, &Reply::Refused(refusal)),
     }
 }
 

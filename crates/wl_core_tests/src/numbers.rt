@@ -3,7 +3,7 @@
 use std::alloc::Global;
 use std::test::Fail;
 use wl_number_map::NumberMap;
-use wl_samples::refused;
+use wl_test_support::fail_refused;
 use wl_types::Memory;
 
 /// Does the calls of a list on a new map, a call a line, and gives the list as it came out. A line is a call, an arrow
@@ -28,15 +28,15 @@ fn do_call(alloc: Global, map: &mut NumberMap<u64>, call: &str) -> Result<String
     match word {
         "rows" => rows(alloc, map),
         "has" => Ok(format!(in alloc; "{}", map.contains(number))?),
-        "insert" => found(alloc, map.insert(number, value)?),
-        "set" => found(alloc, set(map, number, value)),
-        "remove" => found(alloc, map.remove(number)),
-        "get" => found(alloc, map.get(number).copied()),
+        "insert" => show_value(alloc, map.insert(number, value)?),
+        "set" => show_value(alloc, set(map, number, value)),
+        "remove" => show_value(alloc, map.remove(number)),
+        "get" => show_value(alloc, map.get(number).copied()),
         _ => length(alloc, map, word == "clear"),
     }
 }
 
-fn found(alloc: Global, value: Option<u64>) -> Result<String, Memory> {
+fn show_value(alloc: Global, value: Option<u64>) -> Result<String, Memory> {
     match value {
         Some(value) => Ok(format!(in alloc; "{value}")?),
         None => Ok("none".to_string(alloc)?),
@@ -162,7 +162,7 @@ fn try_insert(map: &mut NumberMap<u64>, number: u64) -> Result<(), Fail> {
         return Ok(());
     }
     let is_as_before = map.len() == count && !map.contains(number) && map.contains(2);
-    refused(is_as_before && map.insert(number, number)? == None)
+    fail_refused(is_as_before && map.insert(number, number)? == None)
 }
 
 fn try_inserts(map: &mut NumberMap<u64>) -> Result<(), Fail> {

@@ -2,7 +2,7 @@
 
 use std::alloc::Global;
 use std::test::Fail;
-use wl_samples::{ask, refused};
+use wl_test_support::{ask, fail_refused};
 use wl_types::{
     Infos, Kind, LockInfo, Memory, Mode, Name, Phase, Reason, Refusal, Text, client_text,
 };
@@ -66,7 +66,7 @@ fn names_are_equal_by_their_bytes(rt: HostRuntime) -> Result<(), Fail> {
 }
 
 /// What the check says of a request of this name.
-fn checked(alloc: Global, name: &str, options: Options) -> Result<Result<(), Refusal>, Memory> {
+fn check_ask(alloc: Global, name: &str, options: Options) -> Result<Result<(), Refusal>, Memory> {
     let mut asked = ask(alloc, name, options.mode)?;
     asked.if_available = options.if_available;
     asked.steal = options.steal;
@@ -93,14 +93,14 @@ const WORST: Options = Options {
 #[test]
 fn the_first_check_that_fails_is_answered(rt: HostRuntime) -> Result<(), Fail> {
     let mut options = WORST;
-    assert!(rt; checked(rt.alloc(), "-x", options)? == Err(Refusal::ReservedName));
-    assert!(rt; checked(rt.alloc(), "x", options)? == Err(Refusal::StealIfAvailable));
+    assert!(rt; check_ask(rt.alloc(), "-x", options)? == Err(Refusal::ReservedName));
+    assert!(rt; check_ask(rt.alloc(), "x", options)? == Err(Refusal::StealIfAvailable));
     options.if_available = false;
-    assert!(rt; checked(rt.alloc(), "x", options)? == Err(Refusal::StealShared));
+    assert!(rt; check_ask(rt.alloc(), "x", options)? == Err(Refusal::StealShared));
     options.mode = Mode::Exclusive;
-    assert!(rt; checked(rt.alloc(), "x", options)? == Err(Refusal::SignalCombined));
+    assert!(rt; check_ask(rt.alloc(), "x", options)? == Err(Refusal::SignalCombined));
     options.signal = None;
-    assert!(rt; checked(rt.alloc(), "x", options)? == Ok(()));
+    assert!(rt; check_ask(rt.alloc(), "x", options)? == Ok(()));
     Ok(())
 }
 
@@ -207,7 +207,7 @@ fn a_want_of_memory_has_its_text(rt: HostRuntime) -> Result<(), Fail> {
 }
 
 /// The locks of two clients, in the order in which they were put in.
-fn listed(alloc: Global) -> Result<String, Fail> {
+fn list_locks(alloc: Global) -> Result<String, Fail> {
     let mut infos = Infos::new(alloc);
     for client in [2, 1] {
         infos.push(LockInfo {
@@ -231,7 +231,10 @@ fn listed(alloc: Global) -> Result<String, Fail> {
 
 #[test]
 fn a_list_keeps_its_order(rt: HostRuntime) -> Result<(), Fail> {
-    assert_eq!(rt; listed(rt.alloc())?.as_str(), "db shared 2,db shared 1,");
+    assert_eq!(rt;
+        list_locks(rt.alloc())?.as_str(),
+        "db shared 2,db shared 1,"
+    );
     assert_eq!(rt; client_text(rt.alloc(), 12)?.as_str(), "client-12");
     Ok(())
 }
@@ -262,15 +265,15 @@ fn try_words(alloc: Global) -> Result<(), Fail> {
     match Name::of(alloc, "db") {
         Ok(_) => {}
         Err(refusal) => {
-            return refused(refusal == Refusal::Memory && Name::of(alloc, "db").is_ok());
+            return fail_refused(refusal == Refusal::Memory && Name::of(alloc, "db").is_ok());
         }
     }
     if Text::of(alloc, "db").is_err() {
-        return refused(Text::of(alloc, "db").is_ok());
+        return fail_refused(Text::of(alloc, "db").is_ok());
     }
     match client_text(alloc, 12) {
         Ok(_) => Ok(()),
-        Err(Memory) => refused(client_text(alloc, 12)?.as_str() == "client-12"),
+        Err(Memory) => fail_refused(client_text(alloc, 12)?.as_str() == "client-12"),
     }
 }
 
@@ -281,7 +284,7 @@ fn try_list(alloc: Global) -> Result<(), Fail> {
     }
     let is_as_before = infos.as_slice().is_empty();
     infos.push(info(alloc)?)?;
-    refused(is_as_before && infos.as_slice().len() == 1)
+    fail_refused(is_as_before && infos.as_slice().len() == 1)
 }
 
 fn info(alloc: Global) -> Result<LockInfo, Fail> {

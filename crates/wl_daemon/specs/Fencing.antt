@@ -3,7 +3,7 @@ use Rattle.std.specs.Prelude.{◌≡◌, ℕ, List, Bool, true, false, Option, S
 use Rattle.wl_admission.specs.declared.subprotocols.Subprotocol.{Subprotocol}
 use Rattle.wl_admission.specs.declared.subprotocols.Subprotocol.TheVariants as subprotocol
 use Rattle.wl_server.specs.Fences.{fenced}
-use Rattle.wl_server.specs.Peers.{Answers, Tells}
+use Rattle.wl_server.specs.Peers.{Answers, PushesText}
 use Rattle.wl_server.specs.declared.fences.Fence.{Fence}
 use Rattle.wl_daemon.specs.declared.member.Member.{Member}
 
@@ -24,4 +24,4 @@ Replies old message told new = (text : List ℕ) × Answers old.peer message tex
 
 -- what changed for the agent
 abbrev pub Pushes : Member → List ℕ → Member → Type 0
-Pushes old told new = (text : List ℕ) × Tells old.peer text new.peer × IsFenced old.epoch text told
+Pushes old told new = (text : List ℕ) × PushesText old.peer text new.peer × IsFenced old.epoch text told

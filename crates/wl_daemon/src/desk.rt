@@ -71,7 +71,7 @@ impl<'a> Desk<'a> {
 
     /// From now on the connection is that of this key, of this loop. Where memory is refused it stays that of the one
     /// before.
-    pub fn settle<R: Wait>(
+    pub fn set_place<R: Wait>(
         &mut self,
         rt: &R,
         event_loop: &'a LoopState,

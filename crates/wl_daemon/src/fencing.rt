@@ -35,7 +35,7 @@ pub fn wants_fences(admitted: &Admitted) -> bool
 }
 
 /// What a peer made, as its connection is told it: with the tokens of what it grants, where there is an epoch.
-pub fn told_text(
+pub fn text_with_tokens(
     alloc: Global,
     epoch: Option<u64>,
     peer: &Peer,

@@ -3,9 +3,9 @@
 use crate::counts::Refused;
 use crate::desk::Desk;
 use crate::fencing::Fencing;
+use crate::log_lines::tell_log;
 use crate::loop_state::LoopState;
 use crate::member::Member;
-use crate::news::tell_log;
 use crate::ring::LoopRing;
 use log::Log;
 use std::alloc::Global;
@@ -78,11 +78,16 @@ impl<'a, L: Log> Host for Hall<'a, L> {
         Member::new(desk, self.fencing.as_ref())
     }
 
-    fn settle<R: Wait>(&self, rt: &R, peer: &mut Member<'a>, place: Place) -> Result<(), Memory> {
+    fn set_place<R: Wait>(
+        &self,
+        rt: &R,
+        peer: &mut Member<'a>,
+        place: Place,
+    ) -> Result<(), Memory> {
         let loops: &'a Vec<LoopState> = self.loops;
         let Some(event_loop) = loops.get(place.event_loop) else {
             return Err(Memory);
         };
-        peer.desk.settle(rt, event_loop, place.key as u64)
+        peer.desk.set_place(rt, event_loop, place.key as u64)
     }
 }

@@ -4,7 +4,7 @@ ghost use Rattle.std.specs.Prelude.{◌≡◌, IfOk, IfSome, None, true};
 ghost use Rattle.wl_daemon.specs.Fencing.{wants_fences};
 
 use crate::desk::Desk;
-use crate::fencing::{Fencing, told_text, wants_fences};
+use crate::fencing::{Fencing, text_with_tokens, wants_fences};
 use std::sync::Wait;
 use wl_loops::Listener;
 use wl_server::{NoAnswer, Peer};
@@ -43,7 +43,7 @@ impl<'a> Speaker for Member<'a> {
         match answered {
             Ok((peer, text)) => {
                 event_loop.counts.reply(text.as_str());
-                match told_text(desk.alloc, epoch, &peer, text) {
+                match text_with_tokens(desk.alloc, epoch, &peer, text) {
                     Ok(text) => Ok((Member { peer, desk, epoch }, Answer::Text(text))),
                     Err(Memory) => {
                         peer.end_by(rt, &desk);
@@ -53,11 +53,11 @@ impl<'a> Speaker for Member<'a> {
             }
             Err(NoAnswer::Memory) => Err(Memory),
             Err(NoAnswer::Forbidden) => Ok((
-                Member::closed(desk),
+                Member::with_closed_peer(desk),
                 Answer::End(Ending::Forbidden(FORBIDDEN)),
             )),
             Err(NoAnswer::TooManyManagers) => Ok((
-                Member::closed(desk),
+                Member::with_closed_peer(desk),
                 Answer::End(Ending::Busy(BUSY)),
             )),
         }
@@ -65,12 +65,12 @@ impl<'a> Speaker for Member<'a> {
 
     fn push<R: Wait>(self, rt: &R) -> Result<(Member<'a>, Option<String>), Memory> {
         let Member { peer, desk, epoch } = self;
-        let (peer, text) = peer.tell(rt, &desk)?;
+        let (peer, text) = peer.push(rt, &desk)?;
         let Some(text) = text else {
             return Ok((Member { peer, desk, epoch }, None));
         };
         desk.event_loop.counts.push(text.as_str());
-        match told_text(desk.alloc, epoch, &peer, text) {
+        match text_with_tokens(desk.alloc, epoch, &peer, text) {
             Ok(text) => Ok((Member { peer, desk, epoch }, Some(text))),
             Err(Memory) => {
                 peer.end_by(rt, &desk);
@@ -97,16 +97,16 @@ impl<'a> Member<'a> {
         match fencing {
             Some(fencing) if wants_fences(&desk.admitted) => {
                 let counter = fencing.counter.share()?;
-                let peer = Peer::fenced(desk.alloc, counter);
+                let peer = Peer::with_fences(desk.alloc, counter);
                 let epoch = Some(fencing.epoch);
                 Ok(Member { peer, desk, epoch })
             }
-            _ => Ok(Member::closed(desk)),
+            _ => Ok(Member::with_closed_peer(desk)),
         }
     }
 
     /// A member whose agent, if it had one, was terminated.
-    fn closed(desk: Desk<'a>) -> Member<'a>
+    fn with_closed_peer(desk: Desk<'a>) -> Member<'a>
         ensures { result.epoch ≡ None }
     {
         let peer = Peer::new(desk.alloc);

@@ -15,20 +15,20 @@ const PERIOD: u64 = 5;
 #[derive(Drop)]
 pub struct Over {
     is_over: Mutex<bool>,
-    told: Condvar,
+    ended: Condvar,
 }
 
 impl Over {
     pub fn new() -> Over {
         Over {
             is_over: Mutex::new(false),
-            told: Condvar::new(),
+            ended: Condvar::new(),
         }
     }
 
     pub fn tell<R: Wait>(&self, rt: &R) {
         *self.is_over.lock(rt) = true;
-        self.told.notify_all();
+        self.ended.notify_all();
     }
 
     /// Waits for so long, and answers whether the server has ended.
@@ -37,7 +37,7 @@ impl Over {
         if *is_over {
             return true;
         }
-        let (is_over, _) = self.told.wait_timeout(rt, is_over, time);
+        let (is_over, _) = self.ended.wait_timeout(rt, is_over, time);
         *is_over
     }
 }

@@ -20,12 +20,12 @@ use Rattle.wl_index.specs.declared.request.Owner.{Owner}
 use Rattle.wl_index.specs.declared.request.Standing.TheVariants.{Holds}
 use Rattle.wl_index.specs.declared.request.Place.{Place}
 use Rattle.wl_index.specs.declared.request.Request.{Request}
-use Rattle.wl_index.specs.Stamps.{by_stamp}
-use Rattle.wl_index.specs.Rows.{Entry, holding, stamp_of, lock_row, held_of}
+use Rattle.wl_index.specs.GrantOrder.{by_grant_seq}
+use Rattle.wl_index.specs.Rows.{Entry, holding, grant_seq_of, lock_row, held_of}
 use Rattle.wl_index.specs.Order.{place_of}
 use Rattle.wl_index.specs.Ends.{IsOwners, ends_entry, ends_lock, place_if, numbers_of}
 use Rattle.wl_index.specs.Untaken.{finds_untaken}
-use Rattle.wl_index.proofs.Lists.{any_by_stamp, filter_whole}
+use Rattle.wl_index.proofs.Lists.{any_by_grant_seq, filter_whole}
 use Rattle.wl_index.proofs.Rows.{held_filter}
 use Rattle.wl_index.proofs.Picks.{pick, picked, all_picked}
 use Rattle.wl_index.proofs.Owned.{both_filters}
@@ -66,8 +66,8 @@ module _ (owner : Owner) (es : List Entry) where
       let q : Entry → Bool = λ e. ends_lock owner (lock_row e) in
       ap (λ locks. is_in n (map (λ (lock : HeldRow). lock.number) locks)) (sym (held_filter (ends_lock owner) es))
       ∙ any_map (λ m. m == n) (λ (lock : HeldRow). lock.number) (held_of (filter q es))
-      ∙ any_map (λ (lock : HeldRow). lock.number == n) lock_row (by_stamp stamp_of (filter holding (filter q es)))
-      ∙ any_by_stamp stamp_of (λ (e : Entry). e.0 == n) (filter holding (filter q es))
+      ∙ any_map (λ (lock : HeldRow). lock.number == n) lock_row (by_grant_seq grant_seq_of (filter holding (filter q es)))
+      ∙ any_by_grant_seq grant_seq_of (λ (e : Entry). e.0 == n) (filter holding (filter q es))
       ∙ ap (list_any (λ (e : Entry). e.0 == n)) (filters_commute holding q es ∙ sym (both_filters holding q es))
       ∙ sym (any_map (λ m. m == n) (λ (p : Place). p.number) (map place_of (filter ends es)) ∙ any_map (λ (p : Place). p.number == n) place_of (filter ends es))
       ∙ ap (is_in n) (ap numbers_of (sym (all_picked owner Holds es sorted ns rising all)) ∙ numbers_picked ns)

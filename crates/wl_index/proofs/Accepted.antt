@@ -8,7 +8,7 @@ use Rattle.wl_types.specs.declared.ask.Ask.{Ask}
 use Rattle.wl_types.specs.declared.refusal.Refusal.{Refusal}
 use Rattle.wl_types.specs.declared.refusal.Refusal.TheVariants.{InvalidState, NameTooLong, NoSuchSignal, NumbersSpent, TooManyRequests}
 use Rattle.wl_machine.specs.State.{State}
-use Rattle.wl_machine.specs.Refusals.{refusal, has_agent, has_signal, is_inactive, known_agent, unknown_signal, aborted_signal, live_count, spent}
+use Rattle.wl_machine.specs.Refusals.{refusal, has_agent, has_signal, is_inactive, known_agent, unknown_signal, aborted_signal, live_count, is_spent}
 use Rattle.wl_machine.specs.declared.command.Command.TheVariants as command
 
 -- where the first of a list of refusals is none, it is none, and so is the first of the rest
@@ -29,11 +29,11 @@ pub record Accepted (s : State) (agent : ℕ) (ask : Ask) : Type 0 where
   pub allowed : ask_refusal ask ≡ None
   pub made : (signal : ℕ) → ask.signal ≡ Some signal → has_signal s agent signal ≡ true
   pub few : nat_le 65536 (live_count s) ≡ false
-  pub low : spent s.next.request ≡ false
+  pub low : is_spent s.next.request ≡ false
 
 pub request_accepted : (s : State) (agent : ℕ) (ask : Ask) → refusal s (command.Request agent ask) ≡ None → Accepted s agent ask
 request_accepted s agent ask accepted =
-    let eighth = refuse_if (spent s.next.request) NumbersSpent ∷ [] in
+    let eighth = refuse_if (is_spent s.next.request) NumbersSpent ∷ [] in
     let seventh = refuse_if (nat_le 65536 (live_count s)) TooManyRequests ∷ eighth in
     let sixth = refuse_if (is_long ask.name) NameTooLong ∷ seventh in
     let fifth = aborted_signal s agent ask.signal ∷ sixth in
@@ -46,11 +46,11 @@ request_accepted s agent ask accepted =
     let e = first_none (aborted_signal s agent ask.signal) sixth d.1 in
     let f = first_none (refuse_if (is_long ask.name) NameTooLong) seventh e.1 in
     let g = first_none (refuse_if (nat_le 65536 (live_count s)) TooManyRequests) eighth f.1 in
-    let h = first_none (refuse_if (spent s.next.request) NumbersSpent) [] g.1 in
+    let h = first_none (refuse_if (is_spent s.next.request) NumbersSpent) [] g.1 in
     record {
       live = not_not (has_agent s agent) (not_refused (not (has_agent s agent)) _ a.0);
       allowed = c.0;
       made = λ signal is. not_not (has_signal s agent signal) (not_refused (not (has_signal s agent signal)) NoSuchSignal (subst (λ o. unknown_signal s agent o ≡ None) is d.0));
       few = not_refused (nat_le 65536 (live_count s)) TooManyRequests g.0;
-      low = not_refused (spent s.next.request) NumbersSpent h.0;
+      low = not_refused (is_spent s.next.request) NumbersSpent h.0;
     }

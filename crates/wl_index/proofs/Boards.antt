@@ -9,15 +9,15 @@ use Rattle.std.proofs.lemmas.List.{length-append}
 use Rattle.wl_types.specs.declared.phases.Change.{Change}
 use Rattle.wl_types.specs.declared.phases.Phase.{Phase}
 use Rattle.wl_types.specs.declared.words.Mode.{Mode}
-use Rattle.wl_index.specs.Queue.{with_one_more}
-use Rattle.wl_index.specs.Queues.{Placed, joined, joined_at, place_of}
+use Rattle.wl_index.specs.NameQueue.{with_one_more}
+use Rattle.wl_index.specs.Queues.{Placed, with_joined, with_joined_at, place_of}
 use Rattle.wl_index.proofs.Lists.{all_append, all_weaker}
 use Rattle.wl_index.proofs.Processing.{below_updated}
 use Rattle.wl_index.specs.declared.request.Request.{Request}
 use Rattle.wl_index.specs.declared.request.Stage.TheVariants.{Pending}
 use Rattle.wl_index.specs.declared.request.Place.{Place}
 use Rattle.wl_index.specs.Ends.{numbers_of, place_ends}
-use Rattle.wl_index.specs.Lists.{spared}
+use Rattle.wl_index.specs.Lists.{is_spared}
 use Rattle.wl_index.specs.Locks.{Board}
 use Rattle.wl_machine.specs.declared.rows.HeldRow.{HeldRow}
 use Rattle.wl_machine.specs.declared.rows.PendingRow.{PendingRow}
@@ -33,8 +33,8 @@ pub board_as : (b : Board) (es : List Entry) (next : ℕ) (names : List (List �
 board_as b es next names changes one two three four = rw (one, two, three, four) refl
 
 -- what has these places has ended
-pub ended_as : (before after : Board) (ps qs : List Place) (phase : Phase) (left : List Entry) (told : List Change) → after ≡ record before { entries = filter (spared (numbers_of ps)) before.entries; changes = before.changes ++ place_ends phase ps } → ps ≡ qs
-    → filter (spared (numbers_of qs)) before.entries ≡ left → place_ends phase qs ≡ told → after ≡ record before { entries = left; changes = before.changes ++ told }
+pub ended_as : (before after : Board) (ps qs : List Place) (phase : Phase) (left : List Entry) (told : List Change) → after ≡ record before { entries = filter (is_spared (numbers_of ps)) before.entries; changes = before.changes ++ place_ends phase ps } → ps ≡ qs
+    → filter (is_spared (numbers_of qs)) before.entries ≡ left → place_ends phase qs ≡ told → after ≡ record before { entries = left; changes = before.changes ++ told }
 ended_as before after ps qs phase left told is same gone telling = is ∙ rw (same, gone, telling) refl
 
 -- an end takes one change at least of those that are left
@@ -50,20 +50,20 @@ ended_room number r es f =
     omega (arith, fewer, before, after, h, p, held, pending)
 
 -- one that comes may change twice
-pub entered_room : (es : List Entry) (number : ℕ) (r : Request) → r.stage ≡ Pending → length (held_of (es ++ (number, r) ∷ [])) + 2 * length (pending_of (es ++ (number, r) ∷ [])) ≡ (length (held_of es) + 2 * length (pending_of es)) + 2
-entered_room es number r waits =
+pub enqueued_room : (es : List Entry) (number : ℕ) (r : Request) → r.stage ≡ Pending → length (held_of (es ++ (number, r) ∷ [])) + 2 * length (pending_of (es ++ (number, r) ∷ [])) ≡ (length (held_of es) + 2 * length (pending_of es)) + 2
+enqueued_room es number r waits =
     let held = ap length (held_more es number r (rw waits refl)) in
     let pending = ap length (pending_more es number r (rw waits refl)) ∙ length-append (pending_of es) (request_row (number, r) ∷ []) in
     omega (arith, held, pending)
 
 -- places stay below the next number
-pub below_joined : (name : List ℕ) (number : ℕ) (mode : Mode) (queues : List Placed) → AllByRecursion (λ (e : Placed). e.0 < number) queues → AllByRecursion (λ (e : Placed). e.0 < number + 1) (joined name number mode queues)
+pub below_joined : (name : List ℕ) (number : ℕ) (mode : Mode) (queues : List Placed) → AllByRecursion (λ (e : Placed). e.0 < number) queues → AllByRecursion (λ (e : Placed). e.0 < number + 1) (with_joined name number mode queues)
 below_joined name number mode queues below = by (place_of name queues)
   where
     more : AllByRecursion (λ (e : Placed). e.0 < number + 1) queues
     more = all_weaker (λ (e : Placed). e.0 < number) (λ (e : Placed). e.0 < number + 1) queues (λ e less. omega (arith, less)) below
 
-    by : (o : Option ℕ) → AllByRecursion (λ (e : Placed). e.0 < number + 1) (joined_at o name number mode queues)
+    by : (o : Option ℕ) → AllByRecursion (λ (e : Placed). e.0 < number + 1) (with_joined_at o name number mode queues)
     by None = all_append (λ (e : Placed). e.0 < number + 1) queues ((number, record { name = name; waits = (number, mode) ∷ []; holders = [] }) ∷ []) more (omega arith, tt)
     by (Some place) = below_updated (number + 1) place (λ w. with_one_more w number mode) queues more
 

@@ -24,8 +24,8 @@ use Rattle.wl_index.specs.declared.request.Standing.TheVariants.{Holds, Waits}
 use Rattle.wl_index.specs.Core.{IsCore, machine_state}
 use Rattle.wl_index.specs.Ends.{HasNone, ends_entry, without_ends}
 use Rattle.wl_index.specs.Lists.{IsGrouped, SameLists}
-use Rattle.wl_index.specs.Locks.{Board, IsQuiet, asked}
-use Rattle.wl_index.specs.Roll.{Register, Roll}
+use Rattle.wl_index.specs.Locks.{Board, IsQuiet, request_for}
+use Rattle.wl_index.specs.AgentRows.{Register, AgentRows}
 use Rattle.wl_index.specs.Rows.{Entry, held_of, pending_of, tags_of}
 use Rattle.wl_index.proofs.Accepted.{request_accepted}
 use Rattle.wl_index.proofs.Asked.{Ousted, plain_asked, steal_asked, with_asked}
@@ -50,7 +50,7 @@ processed_core agents before after room quiet tags grouped fits = record {
 pub begun_core : (agents : Register) (before begun : Board) (room : ℕ) → begun ≡ record before { changes = [] } → IsCore agents before room → IsCore agents begun room
 begun_core agents before begun room is core = rw is (record { quiet = core.quiet; grouped = core.grouped; ending_room = core.ending_room })
 
-pub begun_gives : (rows : Roll) (before begun : Board) (command : Command) (new : State) (reply : Reply) (changes : List Change) → begun ≡ record before { changes = [] } → Gives (machine_state rows begun) command new reply changes → Gives (machine_state rows before) command new reply changes
+pub begun_gives : (rows : AgentRows) (before begun : Board) (command : Command) (new : State) (reply : Reply) (changes : List Change) → begun ≡ record before { changes = [] } → Gives (machine_state rows begun) command new reply changes → Gives (machine_state rows before) command new reply changes
 begun_gives rows before begun command new reply changes is gives = subst (λ s. Gives s command new reply changes) (ap (machine_state rows) is) gives
 
 -- what is seen is refused as the machine refuses
@@ -60,7 +60,7 @@ as_seen state changes v command is accepted = ap (λ (w : Content). refusal w.st
 -- ---- the steps
 
 -- a request that is unavailable uses up a number
-pub unavailable_asked : (r : Result ℕ Memory) (v : Content) (rows : Roll) (before after : Board) (agent : ℕ) (ask : Ask) → record { state = machine_state rows before; recent = before.changes } ≡ v → refusal v.state (command.Request agent ask) ≡ None → ask.steal ≡ false
+pub unavailable_asked : (r : Result ℕ Memory) (v : Content) (rows : AgentRows) (before after : Board) (agent : ℕ) (ask : Ask) → record { state = machine_state rows before; recent = before.changes } ≡ v → refusal v.state (command.Request agent ask) ≡ None → ask.steal ≡ false
     → (ask.if_available && not (available v.state (new_request v.state agent ask))) ≡ true → v.recent ≡ [] → IfOk r (λ n. n ≡ before.next) → OnOk r (after ≡ record before { next = before.next + 1; changes = before.changes ++ record { id = before.next; phase = Unavailable } ∷ [] })
     → IfOk r (λ n. Gives v.state (command.Request agent ask) (machine_state rows after) (reply.Request n) after.changes)
 unavailable_asked (Ok n) v rows before after agent ask seen accepted plain busy none number is =
@@ -69,20 +69,20 @@ unavailable_asked (Ok n) v rows before after agent ask seen accepted plain busy 
 unavailable_asked (Err e) v rows before after agent ask seen accepted plain busy none number is = tt
 
 -- a request came to the end of its queue, and the queues were processed
-pub plain_seen : (v : Content) (rows rows' : Roll) (before entered after : Board) (agent : ℕ) (ask : Ask) (n : ℕ) → record { state = machine_state rows before; recent = before.changes } ≡ v → refusal v.state (command.Request agent ask) ≡ None → ask.steal ≡ false
-    → (ask.if_available && not (available v.state (new_request v.state agent ask))) ≡ false → v.recent ≡ [] → entered ≡ with_asked before agent ask → Processed entered after → rows' ≡ rows → n ≡ before.next → Gives v.state (command.Request agent ask) (machine_state rows' after) (reply.Request n) after.changes
-plain_seen v rows rows' before entered after agent ask n seen accepted plain free none came p same number =
+pub plain_seen : (v : Content) (rows rows' : AgentRows) (before enqueued after : Board) (agent : ℕ) (ask : Ask) (n : ℕ) → record { state = machine_state rows before; recent = before.changes } ≡ v → refusal v.state (command.Request agent ask) ≡ None → ask.steal ≡ false
+    → (ask.if_available && not (available v.state (new_request v.state agent ask))) ≡ false → v.recent ≡ [] → enqueued ≡ with_asked before agent ask → Processed enqueued after → rows' ≡ rows → n ≡ before.next → Gives v.state (command.Request agent ask) (machine_state rows' after) (reply.Request n) after.changes
+plain_seen v rows rows' before enqueued after agent ask n seen accepted plain free none came p same number =
     subst (λ (w : Content). refusal w.state (command.Request agent ask) ≡ None → (ask.if_available && not (available w.state (new_request w.state agent ask))) ≡ false → w.recent ≡ [] → Gives w.state (command.Request agent ask) (machine_state rows' after) (reply.Request n) after.changes) seen
-    (λ a b e. rw (same, number) (plain_asked rows before entered after agent ask a plain b e came p)) accepted free none
+    (λ a b e. rw (same, number) (plain_asked rows before enqueued after agent ask a plain b e came p)) accepted free none
 
 -- a request took its name
-pub steal_seen : (v : Content) (rows rows' : Roll) (before ousted seized after : Board) (agent : ℕ) (ask : Ask) (n : ℕ) → record { state = machine_state rows before; recent = before.changes } ≡ v → refusal v.state (command.Request agent ask) ≡ None → ask.steal ≡ true → IsQuiet (held_of before.entries) (pending_of before.entries)
-    → AllByRecursion (λ (e : Entry). e.0 < before.next) before.entries → Ousted rows before ousted agent ask → held_of seized.entries ≡ held_of ousted.entries ++ map granted_lock (filter (λ (request : PendingRow). request.number == n) (pending_of ousted.entries))
-    → pending_of seized.entries ≡ filter (λ (request : PendingRow). not (request.number == n)) (pending_of ousted.entries) → seized.changes ≡ ousted.changes ++ record { id = n; phase = Granted } ∷ [] → seized.names ≡ ousted.names → seized.next ≡ ousted.next → Processed seized after → rows' ≡ rows → n ≡ before.next
+pub steal_seen : (v : Content) (rows rows' : AgentRows) (before ousted after_seize after : Board) (agent : ℕ) (ask : Ask) (n : ℕ) → record { state = machine_state rows before; recent = before.changes } ≡ v → refusal v.state (command.Request agent ask) ≡ None → ask.steal ≡ true → IsQuiet (held_of before.entries) (pending_of before.entries)
+    → AllByRecursion (λ (e : Entry). e.0 < before.next) before.entries → Ousted rows before ousted agent ask → held_of after_seize.entries ≡ held_of ousted.entries ++ map granted_lock (filter (λ (request : PendingRow). request.number == n) (pending_of ousted.entries))
+    → pending_of after_seize.entries ≡ filter (λ (request : PendingRow). not (request.number == n)) (pending_of ousted.entries) → after_seize.changes ≡ ousted.changes ++ record { id = n; phase = Granted } ∷ [] → after_seize.names ≡ ousted.names → after_seize.next ≡ ousted.next → Processed after_seize after → rows' ≡ rows → n ≡ before.next
     → Gives v.state (command.Request agent ask) (machine_state rows' after) (reply.Request n) after.changes
-steal_seen v rows rows' before ousted seized after agent ask n seen accepted steals quiet below o held pending told names next p same number =
+steal_seen v rows rows' before ousted after_seize after agent ask n seen accepted steals quiet below o held pending told names next p same number =
     subst (λ (w : Content). refusal w.state (command.Request agent ask) ≡ None → Gives w.state (command.Request agent ask) (machine_state rows' after) (reply.Request n) after.changes) seen
-    (λ a. rw (same, number) (steal_asked rows before ousted seized after agent ask a steals quiet below o (rw number at held) (rw number at pending) (rw number at told) names next p)) accepted
+    (λ a. rw (same, number) (steal_asked rows before ousted after_seize after agent ask a steals quiet below o (rw number at held) (rw number at pending) (rw number at told) names next p)) accepted
 
 pub refused_core : (r : Result ℕ Memory) (agents : Register) (before after : Board) (room : ℕ) → OnOk r (after ≡ record before { next = before.next + 1; changes = before.changes ++ record { id = before.next; phase = Unavailable } ∷ [] }) → OnErr r (after ≡ before) → IsCore agents before room → IsCore agents after room
 refused_core (Ok n) agents before after room is same core = rw is (record { quiet = core.quiet; grouped = core.grouped; ending_room = core.ending_room })
@@ -92,7 +92,7 @@ refused_core (Err e) agents before after room is same core = rw same core
 pub taken_core : (agents : Register) (before after : Board) (id room : ℕ) → IsCore agents before room → held_of after.entries ≡ map (with_taken id) (held_of before.entries) → pending_of after.entries ≡ pending_of before.entries → tags_of after.entries ≡ tags_of before.entries → IsCore agents after room
 taken_core agents before after id room is held pending tags = processed_core agents before after room (rw (held, pending) (quiet_taken id _ _ is.quiet)) tags is.grouped is.ending_room
 
-pub untaken_none : (rows : Roll) (before after : Board) (id : ℕ) → before.changes ≡ [] → list_any (is_untaken id) (held_of before.entries) ≡ false → held_of after.entries ≡ map (with_taken id) (held_of before.entries) → pending_of after.entries ≡ pending_of before.entries → after.next ≡ before.next → after.names ≡ before.names
+pub untaken_none : (rows : AgentRows) (before after : Board) (id : ℕ) → before.changes ≡ [] → list_any (is_untaken id) (held_of before.entries) ≡ false → held_of after.entries ≡ map (with_taken id) (held_of before.entries) → pending_of after.entries ≡ pending_of before.entries → after.next ≡ before.next → after.names ≡ before.names
     → after.changes ≡ before.changes → Gives (machine_state rows before) (command.Take id) (machine_state rows after) (reply.Took took.NotGranted) after.changes
 untaken_none rows before after id none absent held pending next names changes = rw (held, taken_none id (held_of before.entries) absent, pending, next, names, changes, none, absent) refl
 
@@ -102,19 +102,19 @@ fewer_left : (p : Entry → Bool) (es : List Entry) → length (filter p es) ≤
 fewer_left p es = let both = length-filter-not p es in omega (arith, both)
 
 -- a request came, and the queues were processed
-pub asked_core : (agents : Register) (before entered after : Board) (agent : ℕ) (ask : Ask) (room : ℕ) → entered ≡ with_asked before agent ask → length before.entries + 1 ≤ room → IsGrouped (tags_of entered.entries) agents.members → IsQuiet (held_of after.entries) (pending_of after.entries) → tags_of after.entries ≡ tags_of entered.entries → IsCore agents after room
-asked_core agents before entered after agent ask room is fits grouped quiet tags =
-    let more = ap (λ (b : Board). length b.entries) is ∙ length-append before.entries ((before.next, asked agent ask) ∷ []) in
-    processed_core agents entered after room quiet tags grouped (omega (arith, more, fits))
+pub asked_core : (agents : Register) (before enqueued after : Board) (agent : ℕ) (ask : Ask) (room : ℕ) → enqueued ≡ with_asked before agent ask → length before.entries + 1 ≤ room → IsGrouped (tags_of enqueued.entries) agents.members → IsQuiet (held_of after.entries) (pending_of after.entries) → tags_of after.entries ≡ tags_of enqueued.entries → IsCore agents after room
+asked_core agents before enqueued after agent ask room is fits grouped quiet tags =
+    let more = ap (λ (b : Board). length b.entries) is ∙ length-append before.entries ((before.next, request_for agent ask) ∷ []) in
+    processed_core agents enqueued after room quiet tags grouped (omega (arith, more, fits))
 
 -- a request came, and locks ended for it
-pub ousted_core : (agents : Register) (before entered ousted after : Board) (p : Entry → Bool) (agent : ℕ) (ask : Ask) (room : ℕ) → entered ≡ with_asked before agent ask → ousted.entries ≡ filter p entered.entries → length before.entries + 1 ≤ room → IsGrouped (tags_of entered.entries) agents.members
+pub ousted_core : (agents : Register) (before enqueued ousted after : Board) (p : Entry → Bool) (agent : ℕ) (ask : Ask) (room : ℕ) → enqueued ≡ with_asked before agent ask → ousted.entries ≡ filter p enqueued.entries → length before.entries + 1 ≤ room → IsGrouped (tags_of enqueued.entries) agents.members
     → IsQuiet (held_of after.entries) (pending_of after.entries) → tags_of after.entries ≡ tags_of ousted.entries → IsCore agents after room
-ousted_core agents before entered ousted after p agent ask room is left fits grouped quiet tags =
-    let more = ap (λ (b : Board). length b.entries) is ∙ length-append before.entries ((before.next, asked agent ask) ∷ []) in
-    let fewer = fewer_left p entered.entries in
+ousted_core agents before enqueued ousted after p agent ask room is left fits grouped quiet tags =
+    let more = ap (λ (b : Board). length b.entries) is ∙ length-append before.entries ((before.next, request_for agent ask) ∷ []) in
+    let fewer = fewer_left p enqueued.entries in
     let all = ap length left in
-    processed_core agents ousted after room quiet tags (rw left (grouped_fewer p entered.entries agents.members grouped)) (omega (arith, more, fewer, all, fits))
+    processed_core agents ousted after room quiet tags (rw left (grouped_fewer p enqueued.entries agents.members grouped)) (omega (arith, more, fewer, all, fits))
 
 -- some have ended, and the queues were processed
 pub fewer_core : (agents : Register) (before ended after : Board) (p : Entry → Bool) (room : ℕ) → IsCore agents before room → ended.entries ≡ filter p before.entries → IsQuiet (held_of after.entries) (pending_of after.entries) → tags_of after.entries ≡ tags_of ended.entries → IsCore agents after room
@@ -147,7 +147,7 @@ ended_core agents agents' before ended after owner room room' is left regroup qu
     processed_core agents' ended after room' quiet tags (regroup (rw left (grouped_fewer holding (filter waiting before.entries) agents.members (grouped_fewer waiting before.entries agents.members is.grouped)))) (omega (arith, one, two, all, fits, wide))
 
 -- there are numbers and requests left for a request that nothing refuses
-pub room_for_one : (rows : Roll) (board : Board) (agent : ℕ) (ask : Ask) → refusal (machine_state rows board) (command.Request agent ask) ≡ None → (length board.entries < 65536) × (board.next < 9007199254740992)
+pub room_for_one : (rows : AgentRows) (board : Board) (agent : ℕ) (ask : Ask) → refusal (machine_state rows board) (command.Request agent ask) ≡ None → (length board.entries < 65536) × (board.next < 9007199254740992)
 room_for_one rows board agent ask accepted =
     let a = request_accepted (machine_state rows board) agent ask accepted in
     let few = a.few in

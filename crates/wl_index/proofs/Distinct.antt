@@ -1,7 +1,7 @@
--- Lists whose stamps differ, and a list sorted by stamp.
+-- Lists whose grant sequences differ, and a list sorted by grant sequence.
 use Rattle.std.proofs.Common.{◌≡◌, ℕ, ◌<◌, Bool, true, false, cond, List, [], ◌∷◌, ◌++◌, sym, ◌∙◌, map, filter, arith}
 use Rattle.std.specs.List.{AllByRecursion}
-use Rattle.wl_index.specs.Stamps.{Distinct}
+use Rattle.wl_index.specs.GrantOrder.{Distinct}
 use Rattle.wl_index.proofs.Lists.{all_filter, all_weaker, all_append, all_front, all_back}
 
 module _ {X : Type 0} (f : X → ℕ) where
@@ -16,7 +16,7 @@ module _ {X : Type 0} (f : X → ℕ) where
       by true rest = (all_filter (λ y. f x ≡ f y → ⊥) p l distinct.0, rest)
       by false rest = rest
 
-  -- a map that keeps the stamps
+  -- a map that keeps the grant sequences
   pub distinct_map : {Y : Type 0} (h : Y → ℕ) (g : X → Y) → ((x : X) → h (g x) ≡ f x) → (l : List X) → Distinct f l → Distinct h (map g l)
   distinct_map h g keeps [] distinct = tt
   distinct_map h g keeps (x ∷ l) distinct = (others l distinct.0, distinct_map h g keeps l distinct.1)
@@ -32,7 +32,7 @@ module _ {X : Type 0} (f : X → ℕ) where
       let first : f y ≡ f x → ⊥ = λ same. low.0 (sym same) in
       (all_append P front (x ∷ back) (all_front P front back distinct.0) (first, all_back P front back distinct.0), distinct_middle x front back low.1 high distinct.1)
 
-  -- one more, whose stamp is above all
+  -- one more, whose grant sequence is above all
   pub distinct_last_come : (x : X) (front back : List X) → AllByRecursion (λ y. f y < f x) front → AllByRecursion (λ y. f y < f x) back → Distinct f (front ++ back) → Distinct f (front ++ x ∷ back)
   distinct_last_come x front back low high distinct =
       let apart : (y : X) → f y < f x → f x ≡ f y → ⊥ = λ y less same. omega (arith, less, same) in

@@ -12,34 +12,34 @@ use Rattle.wl_machine.specs.declared.command.Reply.{Reply}
 use Rattle.wl_machine.specs.declared.command.Reply.TheVariants as reply
 use Rattle.wl_machine.specs.State.{State}
 use Rattle.wl_machine.specs.Refusals.{refusal, reason_in}
-use Rattle.wl_machine.specs.Grants.{in_use, lists_of, settle_names}
-use Rattle.wl_machine.specs.Step.{Gives, lock_ends, request_ends, settled, with_reason}
+use Rattle.wl_machine.specs.Grants.{in_use, lists_of, process_queues}
+use Rattle.wl_machine.specs.Step.{Gives, lock_ends, request_ends, after_processing, with_reason}
 use Rattle.wl_index.specs.declared.request.Owner.{Owner}
 use Rattle.wl_index.specs.declared.request.Owner.TheVariants.{Signal, Agent}
 use Rattle.wl_index.specs.declared.request.Standing.TheVariants.{Holds, Waits}
 use Rattle.wl_index.specs.Core.{machine_state}
 use Rattle.wl_index.specs.Ends.{ends_lock, ends_request, owned_ends, without_ends, without_owned}
 use Rattle.wl_index.specs.Locks.{Board}
-use Rattle.wl_index.specs.Roll.{Roll}
+use Rattle.wl_index.specs.AgentRows.{AgentRows}
 use Rattle.wl_index.specs.Rows.{held_of, pending_of}
-use Rattle.wl_index.proofs.Events.{settled_is}
+use Rattle.wl_index.proofs.Events.{processed_is}
 use Rattle.wl_index.proofs.Owned.{locks_held, locks_pending, requests_held, requests_pending}
 
 -- what an owner has ended, from this state, and the queues were processed
 abbrev pub EndsOwned : Owner → Phase → Phase → State → Reply → State → List Change → Type 0
-EndsOwned owner waiting held s reply new changes = settled (without_owned owner s) (owned_ends owner waiting held s) reply ≡ record { state = new; reply = reply; changes = changes }
+EndsOwned owner waiting held s reply new changes = after_processing (without_owned owner s) (owned_ends owner waiting held s) reply ≡ record { state = new; reply = reply; changes = changes }
 
 -- what processing the queues makes of the locks and requests
 pub record Processed (before after : Board) : Type 0 where
-  pub lists : lists_of (held_of after.entries) (pending_of after.entries) after.changes ≡ settle_names (lists_of (held_of before.entries) (pending_of before.entries) before.changes) before.names
+  pub lists : lists_of (held_of after.entries) (pending_of after.entries) after.changes ≡ process_queues (lists_of (held_of before.entries) (pending_of before.entries) before.changes) before.names
   pub names : after.names ≡ filter (in_use (held_of after.entries) (pending_of after.entries)) before.names
   pub next : after.next ≡ before.next
 
 -- an owner's requests and locks end, and the queues are processed
-pub owned_settled : (rows : Roll) (before ended after : Board) (owner : Owner) (waiting held : Phase) (reply : Reply) → before.changes ≡ []
+pub owned_processed : (rows : AgentRows) (before ended after : Board) (owner : Owner) (waiting held : Phase) (reply : Reply) → before.changes ≡ []
     → ended ≡ record before { entries = without_ends owner Holds (without_ends owner Waits before.entries); changes = (before.changes ++ request_ends waiting (filter (ends_request owner) (pending_of before.entries))) ++ lock_ends held (filter (ends_lock owner) (held_of before.entries)) }
     → Processed ended after → EndsOwned owner waiting held (machine_state rows before) reply (machine_state rows after) after.changes
-owned_settled rows before ended after owner waiting held reply none is p =
+owned_processed rows before ended after owner waiting held reply none is p =
     let s = machine_state rows before in
     let left = without_ends owner Waits before.entries in
     let h = ap (λ (b : Board). held_of b.entries) is ∙ locks_held owner left ∙ ap (filter (λ lock. not (ends_lock owner lock))) (requests_held owner before.entries) in
@@ -47,7 +47,7 @@ owned_settled rows before ended after owner waiting held reply none is p =
     let told = ap (λ (b : Board). b.changes) is ∙ ap (λ cs. (cs ++ request_ends waiting (filter (ends_request owner) s.pending)) ++ lock_ends held (filter (ends_lock owner) s.held)) none in
     let names = ap (λ (b : Board). b.names) is in
     let next = ap (λ (b : Board). b.next) is in
-    rw (p.names, names, p.next, next) (settled_is (without_owned owner s) (owned_ends owner waiting held s) reply _ (p.lists ∙ rw (h, q, told, names) refl))
+    rw (p.names, names, p.next, next) (processed_is (without_owned owner s) (owned_ends owner waiting held s) reply _ (p.lists ∙ rw (h, q, told, names) refl))
 
 pub abort_gives : (s s1 new : State) (agent signal : ℕ) (reason : Reason) (changes : List Change) → refusal s (command.Abort agent signal reason) ≡ None → is_some (reason_in s.signals agent signal) ≡ false
     → s1 ≡ record s { signals = map (with_reason agent signal reason) s.signals } → EndsOwned (Signal agent signal) (Aborted reason) (Aborted reason) s1 (reply.Aborted answer.Done) new changes

@@ -17,10 +17,10 @@ use Rattle.wl_machine.specs.Grants.{granted_lock, locks, queue}
 use Rattle.wl_machine.proofs.Lists.{same_bytes, filters_commute, filter_map}
 use Rattle.wl_number_map.proofs.Keyed.{Found, found, number_same}
 use Rattle.wl_index.specs.declared.request.Request.{Request}
-use Rattle.wl_index.specs.Stamps.{by_stamp, by_stamp_all}
-use Rattle.wl_index.specs.Rows.{Entry, other, waiting, holding, stamp_of, request_row, lock_row, held_of, pending_of}
-use Rattle.wl_index.specs.Queue.{Waiting, Matches, without, other_than, number_and_mode, lock_and_mode, seized}
-use Rattle.wl_index.specs.Queues.{Placed, place_of, updated}
+use Rattle.wl_index.specs.GrantOrder.{by_grant_seq, by_grant_seq_all}
+use Rattle.wl_index.specs.Rows.{Entry, other, waiting, holding, grant_seq_of, request_row, lock_row, held_of, pending_of}
+use Rattle.wl_index.specs.NameQueue.{Waiting, Matches, without, other_than, number_and_mode, lock_and_mode, after_seize}
+use Rattle.wl_index.specs.Queues.{Placed, place_of, with_updated}
 use Rattle.wl_index.specs.Locks.{Stands, WaitsAlone}
 use Rattle.wl_index.proofs.Lists.{filter_whole, all_weaker, all_append, all_filter, all_map}
 use Rattle.wl_index.proofs.Rows.{is_request, pending_filter, held_filter, pending_there, live_count}
@@ -43,8 +43,8 @@ one_name number r es f =
 
 held_one_name : (number : ℕ) (r : Request) (es : List Entry) → Found number es r → AllByRecursion (λ (lock : HeldRow). (lock.number == number) ≡ true → lock.name ≡ r.name) (held_of es)
 held_one_name number r es f =
-    all_map (λ (lock : HeldRow). (lock.number == number) ≡ true → lock.name ≡ r.name) lock_row (by_stamp stamp_of (filter holding es))
-    (by_stamp_all stamp_of (λ (e : Entry). (e.0 == number) ≡ true → e.1.name ≡ r.name) (filter holding es) (all_filter (λ (e : Entry). (e.0 == number) ≡ true → e.1.name ≡ r.name) holding es (one_name number r es f)))
+    all_map (λ (lock : HeldRow). (lock.number == number) ≡ true → lock.name ≡ r.name) lock_row (by_grant_seq grant_seq_of (filter holding es))
+    (by_grant_seq_all grant_seq_of (λ (e : Entry). (e.0 == number) ≡ true → e.1.name ≡ r.name) (filter holding es) (all_filter (λ (e : Entry). (e.0 == number) ≡ true → e.1.name ≡ r.name) holding es (one_name number r es f)))
 
 pending_one_name : (number : ℕ) (r : Request) (es : List Entry) → Found number es r → AllByRecursion (λ (request : PendingRow). (request.number == number) ≡ true → request.name ≡ r.name) (pending_of es)
 pending_one_name number r es f =
@@ -106,7 +106,7 @@ without_keeps number w = refl
 
 -- the request or the lock of this number ends
 pub one_ended : (number : ℕ) (r : Request) (place : ℕ) (es : List Entry) (queues : List Placed) (touched : List ℕ) → Found number es r → place_of r.name queues ≡ Some place → Stands queues (held_of es) (pending_of es) touched
-    → Stands (updated place (without number) queues) (held_of (filter (other number) es)) (pending_of (filter (other number) es)) (place ∷ touched)
+    → Stands (with_updated place (without number) queues) (held_of (filter (other number) es)) (pending_of (filter (other number) es)) (place ∷ touched)
 one_ended number r place es queues touched f at stands =
     rw (held_without number es, pending_without number es)
     (one_touched r.name place (without number) queues (held_of es) (filter (other_lock number) (held_of es)) (pending_of es) (filter (other_request number) (pending_of es)) touched (without_keeps number)
@@ -147,18 +147,18 @@ waiter number name es sorted w =
     first_same : (x y : PendingRow) → x ∷ [] ≡ y ∷ [] → x ≡ y
     first_same x y e = cc (e)
 
-pub seized_keeps : (number : ℕ) (w : Waiting) → (seized number w).name ≡ w.name
+pub seized_keeps : (number : ℕ) (w : Waiting) → (after_seize number w).name ≡ w.name
 seized_keeps number w = refl
 
 pub one_seized : (number place : ℕ) (name : List ℕ) (es es' : List Entry) (queues : List Placed) (touched : List ℕ) → IsStrictlySortedBy nat_cmp (keys_of es) → Waiter number name es → place_of name queues ≡ Some place → locks name (held_of es) ≡ []
     → held_of es' ≡ held_of es ++ map granted_lock (filter (is_request number) (pending_of es)) → pending_of es' ≡ filter (other_request number) (pending_of es) → Stands queues (held_of es) (pending_of es) touched
-    → Stands (updated place (seized number) queues) (held_of es') (pending_of es') (place ∷ touched)
+    → Stands (with_updated place (after_seize number) queues) (held_of es') (pending_of es') (place ∷ touched)
 one_seized number place name es es' queues touched sorted w at gone held pending stands =
     let f = found number es w.request sorted w.there in
     let row = request_row (number, w.request) in
     let held_is : held_of es' ≡ held_of es ++ granted_lock row ∷ [] = held ∙ ap (λ l. held_of es ++ map granted_lock l) w.only in
     let one : locks name (held_of es') ≡ granted_lock row ∷ [] = ap (locks name) held_is ∙ filter-append (λ (l : HeldRow). bytes_eq l.name name) (held_of es) (granted_lock row ∷ []) ∙ ap (λ l. l ++ locks name (granted_lock row ∷ [])) gone ∙ ap (λ b. cond b (granted_lock row ∷ []) []) (ap (λ n. bytes_eq n name) w.named ∙ same_bytes name) in
-    one_touched name place (seized number) queues (held_of es) (held_of es') (pending_of es) (pending_of es') touched (seized_keeps number)
+    one_touched name place (after_seize number) queues (held_of es) (held_of es') (pending_of es) (pending_of es') touched (seized_keeps number)
     (λ m differs. (
       ap (locks m) held_is ∙ filter-append (λ (l : HeldRow). bytes_eq l.name m) (held_of es) (granted_lock row ∷ []) ∙ ap (λ b. locks m (held_of es) ++ cond b (granted_lock row ∷ []) []) (ap (λ n. bytes_eq n m) w.named ∙ differs) ∙ append-nil (locks m (held_of es)),
       ap (queue m) pending ∙ queue_apart number w.request es m f (ap (λ n. bytes_eq n m) w.named ∙ differs),

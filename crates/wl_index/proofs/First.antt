@@ -1,10 +1,10 @@
--- The first by stamp, and those after it.
+-- The first by grant sequence, and those after it.
 use Rattle.std.proofs.Common.{◌≡◌, ℕ, suc, ◌<◌, ◌≤◌, ◌+◌, ◌-◌, Bool, true, false, cond, List, [], ◌∷◌, ◌++◌, refl, sym, ap, ◌∙◌, filter, nat_lt, nat_le, if◌then◌else◌, arith, Option, Some, None, subst}
 use Rattle.std.specs.List.{AllByRecursion, slice_get}
 use Rattle.std.specs.Option.{option_to_list, unwrap_or}
 use Rattle.std.proofs.lemmas.Bool.Decides.{nat_tests}
 use Rattle.std.proofs.lemmas.Option.{none-some}
-use Rattle.wl_index.specs.Stamps.{place, by_stamp}
+use Rattle.wl_index.specs.GrantOrder.{place, by_grant_seq}
 use Rattle.wl_index.proofs.Lists.{filter_whole, all_weaker}
 use Rattle.wl_index.proofs.Sorted.{Climbing}
 
@@ -20,7 +20,7 @@ first_all P (y ∷ l) x all there = subst P (ap (λ o. unwrap_or o y) there) all
 
 module _ {X : Type 0} (f : X → ℕ) where
   abbrev pub first : List X → Option X
-  first l = slice_get (by_stamp f l) 0
+  first l = slice_get (by_grant_seq f l) 0
 
   -- ---- the first of two lists
 
@@ -58,8 +58,8 @@ module _ {X : Type 0} (f : X → ℕ) where
   first_append : (l r : List X) → first (l ++ r) ≡ pick (first l) (first r)
   first_append [] r = refl
   first_append (x ∷ l) r =
-      first_place x (by_stamp f (l ++ r)) ∙ ap (pick (Some x)) (first_append l r)
-      ∙ pick_assoc (Some x) (first l) (first r) ∙ ap (λ o. pick o (first r)) (sym (first_place x (by_stamp f l)))
+      first_place x (by_grant_seq f (l ++ r)) ∙ ap (pick (Some x)) (first_append l r)
+      ∙ pick_assoc (Some x) (first l) (first r) ∙ ap (λ o. pick o (first r)) (sym (first_place x (by_grant_seq f l)))
 
   first_self : (o : Option X) → first (option_to_list o) ≡ o
   first_self None = refl
@@ -74,7 +74,7 @@ module _ {X : Type 0} (f : X → ℕ) where
   abbrev pub from : ℕ → List X → List X
   from low l = filter (λ x. nat_le low (f x)) l
 
-  -- a list that climbs, from a stamp on
+  -- a list that climbs, from a grant sequence on
   pub record After (low : ℕ) (l : List X) (x : X) : Type 0 where
     pub high : low ≤ f x
     pub rest : from low l ≡ x ∷ from (f x + 1) l
@@ -117,7 +117,7 @@ module _ {X : Type 0} (f : X → ℕ) where
       all [] = tt
       all (y ∷ l) = (grind (arith, nat_tests), all l)
 
-  -- the first from a stamp on is passed
+  -- the first from a grant sequence on is passed
   pub passed : (low i done : ℕ) (l : List X) (x : X) → Climbing f l → done < i → slice_get (from low l) 0 ≡ Some x → slice_get l i ≡ slice_get (from low l) (i - done) → slice_get l i ≡ slice_get (from (f x + 1) l) (i - (done + 1))
   passed low i done l x climbing less there before =
       let one : i - done ≡ suc (i - (done + 1)) = omega (arith, less) in

@@ -43,8 +43,8 @@ longer_rises l n s = rising_more (filter (λ x. nat_lt x n) l) n (trimmed_rises 
 
 -- ---- what stands in a map of which one place was written
 
-pub updated : {X : Type 0} (P : ℕ → Option X → Type 0) (k : ℕ) (w : Option X) (old new : List (ℕ × X)) → ((q : ℕ) → at q new ≡ cond (is_at (nat_cmp k) q) w (at q old)) → P k w → ((q : ℕ) → P q (at q old)) → (q : ℕ) → P q (at q new)
-updated {X} P k w old new is here others q = subst (P q) (sym (is q)) (by (q == k) refl)
+pub with_updated : {X : Type 0} (P : ℕ → Option X → Type 0) (k : ℕ) (w : Option X) (old new : List (ℕ × X)) → ((q : ℕ) → at q new ≡ cond (is_at (nat_cmp k) q) w (at q old)) → P k w → ((q : ℕ) → P q (at q old)) → (q : ℕ) → P q (at q new)
+with_updated {X} P k w old new is here others q = subst (P q) (sym (is q)) (by (q == k) refl)
   where
     by : (b : Bool) → (q == k) ≡ b → P q (cond (is_at (nat_cmp k) q) w (at q old))
     by true h = rw (same_number k q, h) (subst (λ n. P n w) (sym (alike q k h)) here)
@@ -54,8 +54,8 @@ updated {X} P k w old new is here others q = subst (P q) (sym (is q)) (by (q == 
 pub one_list : {Z : Type 0} (live : List Entry) (k : ℕ) (was list : Vec ℕ Z) (old new : List (ℕ × Vec ℕ Z)) → at k old ≡ Some was → ((q : ℕ) → at q new ≡ cond (is_at (nat_cmp k) q) (Some list) (at q old)) → IsStrictlySortedBy nat_cmp list.items → KeepsLive live was.items list.items
     → ((q : ℕ) → IsStrictlySortedBy nat_cmp (list_at q old)) → ((q : ℕ) → IsStrictlySortedBy nat_cmp (list_at q new)) × ((q : ℕ) → KeepsLive live (list_at q old) (list_at q new))
 one_list live k was list old new there is rises keeps rising = (
-  updated (λ q o. IsStrictlySortedBy nat_cmp (numbers_on o)) k (Some list) old new is rises rising,
-  updated (λ q o. KeepsLive live (list_at q old) (numbers_on o)) k (Some list) old new is (λ n live has. keeps n live (subst (λ o. Contains (numbers_on o) n) there has)) (λ q n live has. has),
+  with_updated (λ q o. IsStrictlySortedBy nat_cmp (numbers_on o)) k (Some list) old new is rises rising,
+  with_updated (λ q o. KeepsLive live (list_at q old) (numbers_on o)) k (Some list) old new is (λ n live has. keeps n live (subst (λ o. Contains (numbers_on o) n) there has)) (λ q n live has. has),
 )
 
 -- ---- no lists

@@ -17,8 +17,8 @@ use Rattle.std.proofs.lemmas.List.{map-append}
 use Rattle.std.proofs.lemmas.Option.{none-some}
 use Rattle.wl_machine.proofs.Lists.{other_bytes, same_bytes}
 use Rattle.wl_number_map.proofs.Keyed.{found, number_same, same_number, set_same}
-use Rattle.wl_index.specs.Queue.{Numbered, Waiting, admits, after_grant, if_admitted, is_busy, next_grant, without_admitted}
-use Rattle.wl_index.specs.Queues.{Placed, names_of, place_of, queue_of, at_place, changed, updated, stays, without_idle, Differs, Apart, AreQueues, IsNames}
+use Rattle.wl_index.specs.NameQueue.{Numbered, Waiting, admits, after_grant, if_admitted, is_busy, next_grant, without_admitted}
+use Rattle.wl_index.specs.Queues.{Placed, names_of, place_of, queue_of, at_place, changed, with_updated, stays, without_idle, Differs, Apart, AreQueues, IsNames}
 use Rattle.wl_index.proofs.Lists.{all_append, all_back, all_filter, all_map, all_weaker, filter_whole}
 
 -- ---- one place is one name
@@ -114,42 +114,42 @@ module _ (place : ℕ) (f : Waiting → Waiting) (keeps : (w : Waiting) → (f w
       by true = keeps e.1
       by false = refl
 
-  pub names_updated : (l : List Placed) → names_of (updated place f l) ≡ names_of l
+  pub names_updated : (l : List Placed) → names_of (with_updated place f l) ≡ names_of l
   names_updated [] = refl
-  names_updated (e ∷ l) = ap (λ n. n ∷ names_of (updated place f l)) (name_changed e) ∙ ap (λ t. e.1.name ∷ t) (names_updated l)
+  names_updated (e ∷ l) = ap (λ n. n ∷ names_of (with_updated place f l)) (name_changed e) ∙ ap (λ t. e.1.name ∷ t) (names_updated l)
 
-  pub place_updated : (name : List ℕ) (l : List Placed) → place_of name (updated place f l) ≡ place_of name l
+  pub place_updated : (name : List ℕ) (l : List Placed) → place_of name (with_updated place f l) ≡ place_of name l
   place_updated name [] = refl
-  place_updated name (e ∷ l) = ap (λ n. cond (bytes_eq n name) (Some e.0) (place_of name (updated place f l))) (name_changed e) ∙ ap (λ o. cond (bytes_eq e.1.name name) (Some e.0) o) (place_updated name l)
+  place_updated name (e ∷ l) = ap (λ n. cond (bytes_eq n name) (Some e.0) (place_of name (with_updated place f l))) (name_changed e) ∙ ap (λ o. cond (bytes_eq e.1.name name) (Some e.0) o) (place_updated name l)
 
-  keys_updated : (l : List Placed) → keys_of (updated place f l) ≡ keys_of l
+  keys_updated : (l : List Placed) → keys_of (with_updated place f l) ≡ keys_of l
   keys_updated [] = refl
   keys_updated (e ∷ l) = ap (λ t. e.0 ∷ t) (keys_updated l)
 
-  apart_updated : (l : List Placed) → Apart l → Apart (updated place f l)
+  apart_updated : (l : List Placed) → Apart l → Apart (with_updated place f l)
   apart_updated [] apart = tt
   apart_updated (e ∷ l) apart =
       (all_map (Differs (changed place f e)) (changed place f) l (all_weaker (Differs e) (λ x. Differs (changed place f e) (changed place f x)) l (λ x d. (d.0, ap (λ n. bytes_eq n (changed place f e).1.name) (name_changed x) ∙ ap (bytes_eq x.1.name) (name_changed e) ∙ d.1)) apart.0), apart_updated l apart.1)
 
-  pub are_updated : (l : List Placed) → AreQueues l → AreQueues (updated place f l)
+  pub are_updated : (l : List Placed) → AreQueues l → AreQueues (with_updated place f l)
   are_updated l are = record { ordered = subst (IsStrictlySortedBy nat_cmp) (sym (keys_updated l)) are.ordered; apart = apart_updated l are.apart }
 
-  pub is_updated : (l : List Placed) (find : List ℕ → Option ℕ) → IsNames l find → IsNames (updated place f l) find
+  pub is_updated : (l : List Placed) (find : List ℕ → Option ℕ) → IsNames l find → IsNames (with_updated place f l) find
   is_updated l find is = record { are = are_updated l is.are; found = λ name. is.found name ∙ sym (place_updated name l) }
 
 -- ---- a queue written where it was found
 
-untouched : (place : ℕ) (f : Waiting → Waiting) (l : List Placed) → AllByRecursion (λ (e : Placed). (e.0 == place) ≡ false) l → updated place f l ≡ l
+untouched : (place : ℕ) (f : Waiting → Waiting) (l : List Placed) → AllByRecursion (λ (e : Placed). (e.0 == place) ≡ false) l → with_updated place f l ≡ l
 untouched place f [] apart = refl
-untouched place f (e ∷ l) apart = ap (λ b. (e.0, cond b (f e.1) e.1) ∷ updated place f l) apart.0 ∙ ap (λ t. e ∷ t) (untouched place f l apart.1)
+untouched place f (e ∷ l) apart = ap (λ b. (e.0, cond b (f e.1) e.1) ∷ with_updated place f l) apart.0 ∙ ap (λ t. e ∷ t) (untouched place f l apart.1)
 
-pub set_updated : (place : ℕ) (f : Waiting → Waiting) (l : List Placed) (w : Waiting) → IsStrictlySortedBy nat_cmp (keys_of l) → at_place place l ≡ Some w → set_value (is_at (nat_cmp place)) l (f w) ≡ updated place f l
+pub set_updated : (place : ℕ) (f : Waiting → Waiting) (l : List Placed) (w : Waiting) → IsStrictlySortedBy nat_cmp (keys_of l) → at_place place l ≡ Some w → set_value (is_at (nat_cmp place)) l (f w) ≡ with_updated place f l
 set_updated place f l w sorted at =
     let o = found place l w sorted at in
     o.set (f w) ∙ sym (
-    ap (updated place f) o.whole ∙ map-append (changed place f) o.front ((place, w) ∷ o.back)
-    ∙ ap (λ front. front ++ updated place f ((place, w) ∷ o.back)) (untouched place f o.front o.low)
-    ∙ ap (λ b. o.front ++ (place, cond b (f w) w) ∷ updated place f o.back) (number_same place)
+    ap (with_updated place f) o.whole ∙ map-append (changed place f) o.front ((place, w) ∷ o.back)
+    ∙ ap (λ front. front ++ with_updated place f ((place, w) ∷ o.back)) (untouched place f o.front o.low)
+    ∙ ap (λ b. o.front ++ (place, cond b (f w) w) ∷ with_updated place f o.back) (number_same place)
     ∙ ap (λ back. o.front ++ (place, f w) ∷ back) (untouched place f o.back o.high))
 
 pub none_at : (place : ℕ) (l : List Placed) → at_place place l ≡ None → AllByRecursion (λ (e : Placed). (e.0 == place) ≡ false) l
@@ -163,7 +163,7 @@ none_at place (e ∷ l) none = by (e.0 == place) refl (none_at place l)
     by true h rest = absurd (none-some e.1 (sym (here true h)))
     by false h rest = (h, rest (here false h))
 
-pub none_updated : (place : ℕ) (f : Waiting → Waiting) (l : List Placed) → at_place place l ≡ None → updated place f l ≡ l
+pub none_updated : (place : ℕ) (f : Waiting → Waiting) (l : List Placed) → at_place place l ≡ None → with_updated place f l ≡ l
 none_updated place f l none = untouched place f l (none_at place l none)
 
 -- what holds of each queue holds of that at a place
@@ -171,9 +171,9 @@ pub queue_at : (P : Placed → Type 0) (place : ℕ) (w : Waiting) (l : List Pla
 queue_at P place w l sorted at all = let o = found place l w sorted at in (all_back P o.front ((place, w) ∷ o.back) (subst (AllByRecursion P) o.whole all)).0
 
 -- a queue that took no request is written over itself
-pub unless_pushed : {T E X : Type 0} (p : ℕ → Bool) (old new : List (ℕ × X)) (w line : X) (result : Result T E) → lookup p old ≡ Some w → new ≡ set_value p old line → OnErr result (line ≡ w) → OnErr result (new ≡ old)
-unless_pushed p old new w line (Ok u) there set err = err
-unless_pushed p old new w line (Err e) there set err = set ∙ ap (set_value p old) err ∙ set_same p old w there
+pub unless_pushed : {T E X : Type 0} (p : ℕ → Bool) (old new : List (ℕ × X)) (w name_queue : X) (result : Result T E) → lookup p old ≡ Some w → new ≡ set_value p old name_queue → OnErr result (name_queue ≡ w) → OnErr result (new ≡ old)
+unless_pushed p old new w name_queue (Ok u) there set err = err
+unless_pushed p old new w name_queue (Err e) there set err = set ∙ ap (set_value p old) err ∙ set_same p old w there
 
 -- ---- a name that comes into use
 

@@ -14,10 +14,10 @@ use Rattle.wl_machine.proofs.Lists.{filter_map, any_map}
 use Rattle.wl_index.specs.declared.request.Request.{Request}
 use Rattle.wl_index.specs.declared.request.Stage.{Stage}
 use Rattle.wl_index.specs.declared.request.Stage.TheVariants.{Pending, Held}
-use Rattle.wl_index.specs.Stamps.{by_stamp, by_stamp_all}
-use Rattle.wl_index.specs.Rows.{Entry, tag, tags_of, is_fresh, taken_stage, waits, holds, stamp, waiting, holding, stamp_of, request_row, lock_row, pending_of, held_of, IsTable}
+use Rattle.wl_index.specs.GrantOrder.{by_grant_seq, by_grant_seq_all}
+use Rattle.wl_index.specs.Rows.{Entry, tag, tags_of, is_fresh, taken_stage, waits, holds, grant_seq, waiting, holding, grant_seq_of, request_row, lock_row, pending_of, held_of, IsTable}
 use Rattle.wl_index.proofs.Distinct.{distinct_map}
-use Rattle.wl_index.proofs.Lists.{filter_like, filter_passed, any_by_stamp, map_by_stamp}
+use Rattle.wl_index.proofs.Lists.{filter_like, filter_passed, any_by_grant_seq, map_by_grant_seq}
 use Rattle.std.proofs.Math.Bool.{and-false}
 use Rattle.wl_number_map.proofs.Keyed.{same_number, number_same, above_apart, found}
 
@@ -66,11 +66,11 @@ marked_same P id e all = by (e.0 == id) all
     by true all = all true
     by false all = all false
 
-stamp_marked : (s : Stage) (b : Bool) → stamp (cond b (taken_stage s) s) ≡ stamp s
-stamp_marked Pending true = refl
-stamp_marked Pending false = refl
-stamp_marked (Held at taken) true = refl
-stamp_marked (Held at taken) false = refl
+grant_seq_marked : (s : Stage) (b : Bool) → grant_seq (cond b (taken_stage s) s) ≡ grant_seq s
+grant_seq_marked Pending true = refl
+grant_seq_marked Pending false = refl
+grant_seq_marked (Held at taken) true = refl
+grant_seq_marked (Held at taken) false = refl
 
 waits_marked : (s : Stage) (b : Bool) → waits (cond b (taken_stage s) s) ≡ waits s
 waits_marked Pending true = refl
@@ -78,8 +78,8 @@ waits_marked Pending false = refl
 waits_marked (Held at taken) true = refl
 waits_marked (Held at taken) false = refl
 
-same_stamp : (id : ℕ) (e : Entry) → stamp_of (mark id e) ≡ stamp_of e
-same_stamp id e = marked_same (λ s. stamp s ≡ stamp e.1.stage) id e (stamp_marked e.1.stage)
+same_grant_seq : (id : ℕ) (e : Entry) → grant_seq_of (mark id e) ≡ grant_seq_of e
+same_grant_seq id e = marked_same (λ s. grant_seq s ≡ grant_seq e.1.stage) id e (grant_seq_marked e.1.stage)
 
 same_holding : (id : ℕ) (e : Entry) → holding (mark id e) ≡ holding e
 same_holding id e = marked_same (λ s. holds s ≡ holds e.1.stage) id e (holds_marked id e.0 e.1.stage)
@@ -100,9 +100,9 @@ marked_rows id (e ∷ l) all = rw (marked_row id e.0 e.1 e.1.stage (e.0 == id) r
 
 pub held_marked : (id : ℕ) (es : List Entry) → held_of (map (mark id) es) ≡ map (with_taken id) (held_of es)
 held_marked id es =
-    ap (λ l. map lock_row (by_stamp stamp_of l)) (filter_map holding (mark id) es ∙ ap (map (mark id)) (filter_like (λ e. holding (mark id e)) holding (same_holding id) es))
-    ∙ ap (map lock_row) (sym (map_by_stamp stamp_of stamp_of (mark id) (same_stamp id) (filter holding es)))
-    ∙ marked_rows id (by_stamp stamp_of (filter holding es)) (by_stamp_all stamp_of (λ (e : Entry). holding e ≡ true) (filter holding es) (filter_passed holding es))
+    ap (λ l. map lock_row (by_grant_seq grant_seq_of l)) (filter_map holding (mark id) es ∙ ap (map (mark id)) (filter_like (λ e. holding (mark id e)) holding (same_holding id) es))
+    ∙ ap (map lock_row) (sym (map_by_grant_seq grant_seq_of grant_seq_of (mark id) (same_grant_seq id) (filter holding es)))
+    ∙ marked_rows id (by_grant_seq grant_seq_of (filter holding es)) (by_grant_seq_all grant_seq_of (λ (e : Entry). holding e ≡ true) (filter holding es) (filter_passed holding es))
 
 marked_request : (id : ℕ) (e : Entry) (b : Bool) → request_row (e.0, cond b (marked e.1) e.1) ≡ request_row e
 marked_request id e true = refl
@@ -117,13 +117,13 @@ pending_marked id es =
     ap (map request_row) (filter_map waiting (mark id) es ∙ ap (map (mark id)) (filter_like (λ e. waiting (mark id e)) waiting (same_waiting id) es))
     ∙ marked_requests id (filter waiting es)
 
-pub marked_table : (id : ℕ) (es : List Entry) (next_stamp next : ℕ) → IsTable es next_stamp next → IsTable (map (mark id) es) next_stamp next
-marked_table id es next_stamp next table =
+pub marked_table : (id : ℕ) (es : List Entry) (next_grant_seq next : ℕ) → IsTable es next_grant_seq next → IsTable (map (mark id) es) next_grant_seq next
+marked_table id es next_grant_seq next table =
     record {
       ordered = rw (keys_marked es) table.ordered;
       below = below_marked es table.below;
-      stamped = stamped_marked es table.stamped;
-      distinct = rw (filter_map holding (mark id) es, filter_like (λ e. holding (mark id e)) holding (same_holding id) es) (distinct_map stamp_of stamp_of (mark id) (same_stamp id) (filter holding es) table.distinct);
+      below_next = below_next_marked es table.below_next;
+      distinct = rw (filter_map holding (mark id) es, filter_like (λ e. holding (mark id e)) holding (same_holding id) es) (distinct_map grant_seq_of grant_seq_of (mark id) (same_grant_seq id) (filter holding es) table.distinct);
       first = table.first;
       room = rw (ap length (filter_map waiting (mark id) es ∙ ap (map (mark id)) (filter_like (λ e. waiting (mark id e)) waiting (same_waiting id) es)) ∙ marked_length (filter waiting es)) table.room;
       high = table.high;
@@ -141,9 +141,9 @@ marked_table id es next_stamp next table =
     below_marked [] all = tt
     below_marked (e ∷ es) all = (all.0, below_marked es all.1)
 
-    stamped_marked : (es : List Entry) → AllByRecursion (λ (e : Entry). stamp_of e < next_stamp) es → AllByRecursion (λ (e : Entry). stamp_of e < next_stamp) (map (mark id) es)
-    stamped_marked [] all = tt
-    stamped_marked (e ∷ es) all = (rw (same_stamp id e) all.0, stamped_marked es all.1)
+    below_next_marked : (es : List Entry) → AllByRecursion (λ (e : Entry). grant_seq_of e < next_grant_seq) es → AllByRecursion (λ (e : Entry). grant_seq_of e < next_grant_seq) (map (mark id) es)
+    below_next_marked [] all = tt
+    below_next_marked (e ∷ es) all = (rw (same_grant_seq id e) all.0, below_next_marked es all.1)
 
 tags_marked_one : (id : ℕ) (e : Entry) (b : Bool) → tag (e.0, cond b (marked e.1) e.1) ≡ tag e
 tags_marked_one id e true = refl
@@ -186,6 +186,6 @@ fresh_found id (e ∷ es) sorted = by (e.0 == id) refl (fresh_found id es (sorte
 
 pub untaken : (id : ℕ) (es : List Entry) → IsStrictlySortedBy nat_cmp (keys_of es) → list_any (is_untaken id) (held_of es) ≡ fresh_at (lookup (is_at (nat_cmp id)) es)
 untaken id es sorted =
-    any_map (is_untaken id) lock_row (by_stamp stamp_of (filter holding es))
-    ∙ any_by_stamp stamp_of (λ e. is_untaken id (lock_row e)) (filter holding es)
+    any_map (is_untaken id) lock_row (by_grant_seq grant_seq_of (filter holding es))
+    ∙ any_by_grant_seq grant_seq_of (λ e. is_untaken id (lock_row e)) (filter holding es)
     ∙ fresh_filter id es ∙ fresh_found id es sorted

@@ -13,11 +13,11 @@ use Rattle.std.proofs.lemmas.Bool.Decides.{nat_tests}
 use Rattle.wl_index.specs.declared.agents.Agent.{Agent}
 use Rattle.wl_index.specs.declared.agents.Signal.{Signal}
 use Rattle.wl_index.specs.Lists.{IsRising, Keeps, SameLists, at, list_at, numbers_on, own_of, signed_of}
-use Rattle.wl_index.specs.Roll.{IsRoll, agent_row}
+use Rattle.wl_index.specs.AgentRows.{IsAgentIndex, agent_row}
 use Rattle.wl_index.specs.Rows.{Entry}
 use Rattle.wl_number_map.proofs.Keyed.{Found, found, number_same, same_number}
-use Rattle.wl_index.proofs.Grouping.{no_group_rises, updated}
-use Rattle.wl_index.proofs.Rolls.{roll_stays, rows_stay}
+use Rattle.wl_index.proofs.Grouping.{no_group_rises, with_updated}
+use Rattle.wl_index.proofs.AgentIndexes.{index_stays, rows_stay}
 
 -- lists without numbers rise
 pub empty_rises : (a : Agent) → a.requests.items ≡ [] → a.signals.entries ≡ [] → IsRising (Some a)
@@ -29,11 +29,11 @@ empty_rises a one two = record {
 -- what has the lists that stood there leaves all lists
 pub lists_written : (k : ℕ) (w : Agent) (before after : List (ℕ × Agent)) → ((q : ℕ) → at q after ≡ cond (is_at (nat_cmp k) q) (Some w) (at q before)) → own_of (Some w) ≡ own_of (at k before) → ((s : ℕ) → signed_of s (Some w) ≡ signed_of s (at k before)) → SameLists before after
 lists_written k w before after is own signed =
-    updated (λ q g. (own_of g ≡ own_of (at q before)) × ((s : ℕ) → signed_of s g ≡ signed_of s (at q before))) k (Some w) before after is (own, signed) (λ q. (refl, λ s. refl))
+    with_updated (λ q g. (own_of g ≡ own_of (at q before)) × ((s : ℕ) → signed_of s g ≡ signed_of s (at q before))) k (Some w) before after is (own, signed) (λ q. (refl, λ s. refl))
 
 -- and so do the lists rise
 pub rises_written : (k : ℕ) (w : Agent) (before after : List (ℕ × Agent)) → ((q : ℕ) → at q after ≡ cond (is_at (nat_cmp k) q) (Some w) (at q before)) → IsRising (Some w) → ((q : ℕ) → IsRising (at q before)) → (q : ℕ) → IsRising (at q after)
-rises_written k w before after is here all = updated (λ q g. IsRising g) k (Some w) before after is here all
+rises_written k w before after is here all = with_updated (λ q g. IsRising g) k (Some w) before after is here all
 
 -- nothing stands at a number above all
 pub none_above : {X : Type 0} (n : ℕ) (es : List (ℕ × X)) → AllByRecursion (λ (e : ℕ × X). e.0 < n) es → at n es ≡ None
@@ -44,21 +44,21 @@ none_above n (e ∷ es) below = let less = below.0 in let no : (e.0 == n) ≡ fa
 
 -- who has the same signals and says the same of itself leaves the rows as they are, and all lists where its own keep what is live
 pub record Relisted (live : List Entry) (before after : List (ℕ × Agent)) (signals : List (ℕ × Signal)) (next_agent next_signal : ℕ) : Type 0 where
-  pub roll : IsRoll after signals next_agent next_signal
+  pub agent_index : IsAgentIndex after signals next_agent next_signal
   pub rising : (q : ℕ) → IsRising (at q after)
   pub rows : map agent_row after ≡ map agent_row before
   pub kept : (q : ℕ) → Keeps live (at q before) (at q after)
 
-pub relisted : (live : List Entry) (k : ℕ) (m w : Agent) (before after : List (ℕ × Agent)) (signals : List (ℕ × Signal)) (next_agent next_signal : ℕ) → IsRoll before signals next_agent next_signal → ((q : ℕ) → IsRising (at q before)) → at k before ≡ Some m
+pub relisted : (live : List Entry) (k : ℕ) (m w : Agent) (before after : List (ℕ × Agent)) (signals : List (ℕ × Signal)) (next_agent next_signal : ℕ) → IsAgentIndex before signals next_agent next_signal → ((q : ℕ) → IsRising (at q before)) → at k before ≡ Some m
     → after ≡ set_value (is_at (nat_cmp k)) before w → ((q : ℕ) → at q after ≡ cond (is_at (nat_cmp k) q) (Some w) (at q before)) → w.kind ≡ m.kind → w.active ≡ m.active → keys_of w.signals.entries ≡ keys_of m.signals.entries
     → IsRising (Some w) → Keeps live (Some m) (Some w) → Relisted live before after signals next_agent next_signal
-relisted live k m w before after signals next_agent next_signal roll rising there set is kind active keys rises keeps =
-    let f = found k before m roll.members_ordered there in
+relisted live k m w before after signals next_agent next_signal agent_index rising there set is kind active keys rises keeps =
+    let f = found k before m agent_index.members_ordered there in
     record {
-      roll = rw set (roll_stays k before signals next_agent next_signal m w roll f keys);
+      agent_index = rw set (index_stays k before signals next_agent next_signal m w agent_index f keys);
       rising = rises_written k w before after is rises rising;
       rows = ap (map agent_row) set ∙ rows_stay k before m w f kind active;
-      kept = updated (λ q g. Keeps live (at q before) g) k (Some w) before after is (subst (λ o. Keeps live o (Some w)) (sym there) keeps) (λ q. record { own = λ n is has. has; signed = λ s n is has. has });
+      kept = with_updated (λ q g. Keeps live (at q before) g) k (Some w) before after is (subst (λ o. Keeps live o (Some w)) (sym there) keeps) (λ q. record { own = λ n is has. has; signed = λ s n is has. has });
     }
 
 pub written_here : {X : Type 0} (k : ℕ) (w : X) (before after : List (ℕ × X)) → ((q : ℕ) → at q after ≡ cond (is_at (nat_cmp k) q) (Some w) (at q before)) → at k after ≡ Some w

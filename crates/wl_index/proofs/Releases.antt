@@ -13,9 +13,9 @@ use Rattle.wl_machine.proofs.Lists.{any_map}
 use Rattle.wl_index.specs.declared.request.Request.{Request}
 use Rattle.wl_index.specs.declared.request.Stage.{Stage}
 use Rattle.wl_index.specs.declared.request.Stage.TheVariants.{Pending, Held}
-use Rattle.wl_index.specs.Stamps.{by_stamp}
-use Rattle.wl_index.specs.Rows.{Entry, other, waits, holds, holding, stamp_of, lock_row, pending_of, held_of, IsLock}
-use Rattle.wl_index.proofs.Lists.{filter_whole, filter_none, all_weaker, any_by_stamp}
+use Rattle.wl_index.specs.GrantOrder.{by_grant_seq}
+use Rattle.wl_index.specs.Rows.{Entry, other, waits, holds, holding, grant_seq_of, lock_row, pending_of, held_of, IsLock}
+use Rattle.wl_index.proofs.Lists.{filter_whole, filter_none, all_weaker, any_by_grant_seq}
 use Rattle.std.proofs.Math.Bool.{and-false}
 use Rattle.wl_number_map.proofs.Keyed.{same_number, number_same, above_apart, found}
 use Rattle.wl_index.proofs.Rows.{removed, held_filter, pending_append}
@@ -56,8 +56,8 @@ lock_found agent id (e ∷ es) sorted = by (e.0 == id) refl (lock_found agent id
 
 pub lock_there : (agent id : ℕ) (es : List Entry) → IsStrictlySortedBy nat_cmp (keys_of es) → list_any (is_lock_of agent id) (held_of es) ≡ lock_at agent id (lookup (is_at (nat_cmp id)) es)
 lock_there agent id es sorted =
-    any_map (is_lock_of agent id) lock_row (by_stamp stamp_of (filter holding es))
-    ∙ any_by_stamp stamp_of (λ e. is_lock_of agent id (lock_row e)) (filter holding es)
+    any_map (is_lock_of agent id) lock_row (by_grant_seq grant_seq_of (filter holding es))
+    ∙ any_by_grant_seq grant_seq_of (λ e. is_lock_of agent id (lock_row e)) (filter holding es)
     ∙ lock_filter agent id es ∙ lock_found agent id es sorted
 
 -- the lists without the agent's lock

@@ -19,8 +19,8 @@ use Rattle.wl_machine.proofs.Lists.{filter_map, filters_commute}
 use Rattle.wl_index.specs.declared.request.Request.{Request}
 use Rattle.wl_index.specs.declared.request.Stage.{Stage}
 use Rattle.wl_index.specs.declared.request.Stage.TheVariants.{Pending, Held}
-use Rattle.wl_index.specs.Stamps.{place, by_stamp, filter_by_stamp}
-use Rattle.wl_index.specs.Rows.{Entry, Apart, tag, tags_of, other, waits, holds, waiting, holding, stamp_of, request_row, lock_row, pending_of, held_of}
+use Rattle.wl_index.specs.GrantOrder.{place, by_grant_seq, filter_by_grant_seq}
+use Rattle.wl_index.specs.Rows.{Entry, Apart, tag, tags_of, other, waits, holds, waiting, holding, grant_seq_of, request_row, lock_row, pending_of, held_of}
 use Rattle.wl_index.proofs.Lists.{filter_whole, filter_none, all_weaker}
 use Rattle.wl_number_map.proofs.Keyed.{same_number, above_apart, removed_at, found}
 
@@ -34,9 +34,9 @@ pending_filter q es = ap (map request_row) (filters_commute waiting (λ e. q (re
 
 pub held_filter : (q : HeldRow → Bool) (es : List Entry) → held_of (filter (λ e. q (lock_row e)) es) ≡ filter q (held_of es)
 held_filter q es =
-    ap (λ l. map lock_row (by_stamp stamp_of l)) (filters_commute holding (λ e. q (lock_row e)) es)
-    ∙ ap (map lock_row) (filter_by_stamp stamp_of (λ e. q (lock_row e)) (filter holding es))
-    ∙ sym (filter_map q lock_row (by_stamp stamp_of (filter holding es)))
+    ap (λ l. map lock_row (by_grant_seq grant_seq_of l)) (filters_commute holding (λ e. q (lock_row e)) es)
+    ∙ ap (map lock_row) (filter_by_grant_seq grant_seq_of (λ e. q (lock_row e)) (filter holding es))
+    ∙ sym (filter_map q lock_row (by_grant_seq grant_seq_of (filter holding es)))
 
 pub pending_append : (front back : List Entry) → pending_of (front ++ back) ≡ pending_of front ++ pending_of back
 pending_append front back = ap (map request_row) (filter-append waiting front back) ∙ map-append request_row (filter waiting front) (filter waiting back)
@@ -53,7 +53,7 @@ locks_same es k r free =
     filter-append holding es ((k, r) ∷ []) ∙ same
 
 pub held_more : (es : List Entry) (k : ℕ) (r : Request) → holds r.stage ≡ false → held_of (es ++ (k, r) ∷ []) ≡ held_of es
-held_more es k r free = ap (λ l. map lock_row (by_stamp stamp_of l)) (locks_same es k r free)
+held_more es k r free = ap (λ l. map lock_row (by_grant_seq grant_seq_of l)) (locks_same es k r free)
 
 -- ---- a number that is, or isn't, among those that wait
 
@@ -132,17 +132,17 @@ tags_set id es r s sorted there same =
 pub tags_length : (new old : List Entry) → tags_of new ≡ tags_of old → length new ≡ length old
 tags_length new old same = sym (length-map new tag) ∙ ap length same ∙ length-map old tag
 
-place_length : (e : Entry) (l : List Entry) → length (place stamp_of e l) ≡ suc (length l)
+place_length : (e : Entry) (l : List Entry) → length (place grant_seq_of e l) ≡ suc (length l)
 place_length e [] = refl
-place_length e (y ∷ l) = by (nat_lt (stamp_of e) (stamp_of y)) (place_length e l)
+place_length e (y ∷ l) = by (nat_lt (grant_seq_of e) (grant_seq_of y)) (place_length e l)
   where
-    by : (b : Bool) → length (place stamp_of e l) ≡ suc (length l) → length (cond b (e ∷ y ∷ l) (y ∷ place stamp_of e l)) ≡ suc (suc (length l))
+    by : (b : Bool) → length (place grant_seq_of e l) ≡ suc (length l) → length (cond b (e ∷ y ∷ l) (y ∷ place grant_seq_of e l)) ≡ suc (suc (length l))
     by true rest = refl
     by false rest = ap suc rest
 
-stamp_length : (l : List Entry) → length (by_stamp stamp_of l) ≡ length l
-stamp_length [] = refl
-stamp_length (e ∷ l) = place_length e (by_stamp stamp_of l) ∙ ap suc (stamp_length l)
+grant_seq_length : (l : List Entry) → length (by_grant_seq grant_seq_of l) ≡ length l
+grant_seq_length [] = refl
+grant_seq_length (e ∷ l) = place_length e (by_grant_seq grant_seq_of l) ∙ ap suc (grant_seq_length l)
 
 pub holds_or_waits : (s : Stage) → holds s ≡ not (waits s)
 holds_or_waits Pending = refl
@@ -151,7 +151,7 @@ holds_or_waits (Held at taken) = refl
 -- each live request waits or holds
 pub live_count : (es : List Entry) → length (held_of es) + length (pending_of es) ≡ length es
 live_count es =
-    let h : length (held_of es) ≡ length (filter holding es) = length-map (by_stamp stamp_of (filter holding es)) lock_row ∙ stamp_length (filter holding es) in
+    let h : length (held_of es) ≡ length (filter holding es) = length-map (by_grant_seq grant_seq_of (filter holding es)) lock_row ∙ grant_seq_length (filter holding es) in
     let p : length (pending_of es) ≡ length (filter waiting es) = length-map (filter waiting es) request_row in
     let b = length-filter_both waiting holding (λ e. holds_or_waits e.1.stage) es in
     omega (arith, h, p, b)

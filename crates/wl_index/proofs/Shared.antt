@@ -1,4 +1,4 @@
--- A line's live requests: the sharers in front, and those that wait.
+-- A queue's live requests: the sharers in front, and those that wait.
 use Rattle.std.proofs.Common.{◌≡◌, ℕ, ◌-◌, ◌<◌, ◌==◌, Bool, true, false, cond, List, [], ◌∷◌, ◌++◌, length, take, refl, ap, subst, sym, ◌∙◌, arith, append_assoc, nat_eq}
 use Rattle.std.specs.Prelude.{filter, not, ◌&&◌, Option, Some, None, is_some, slice_get, IfSome, IsSome, ◌↔◌}
 use Rattle.std.specs.Option.{option_eq, unwrap_or}
@@ -15,7 +15,7 @@ use Rattle.std.proofs.lemmas.Bool.{not-true}
 use Rattle.wl_types.specs.declared.words.Mode.{Mode}
 use Rattle.wl_types.specs.declared.words.Mode.TheVariants.{Exclusive, Shared}
 use Rattle.wl_machine.specs.Grants.{is_exclusive, is_empty}
-use Rattle.wl_index.specs.Queue.{Numbered, Waiting, excludes, admits, other_than, head_number, first_left, first_or, holders_of, holder_without, live_after, waits_from, after_grant, without_admitted, IsQueue}
+use Rattle.wl_index.specs.NameQueue.{Numbered, Waiting, excludes, admits, other_than, head_number, first_left, first_or, holders_of, holder_without, live_after, waits_from, after_grant, without_admitted, IsQueue}
 use Rattle.wl_index.proofs.Lists.{all_append, all_filter}
 use Rattle.wl_number_map.proofs.Keyed.{removed_at, entry_last}
 use Rattle.wl_index.proofs.Waits.{seam, after_seam, heads_apart, head_left}
@@ -68,16 +68,16 @@ first_of_more : (number : ℕ) (mode : Mode) (waits : List Numbered) → first_o
 first_of_more number mode [] = refl
 first_of_more number mode (e ∷ waits) = refl
 
--- a line after a step: those that wait, and the holders
+-- a queue after a step: those that wait, and the holders
 pub record Stepped (live : List Numbered) (first holder : Option ℕ) (waits holders : List Numbered) : Type 0 where
-  pub line : IsQueue live (waits_from first live) first holder
+  pub name_queue : IsQueue live (waits_from first live) first holder
   pub waits_is : waits_from first live ≡ waits
   pub holders_is : holders_of holder live (waits_from first live) ≡ holders
 
 stepped : (live waits holders : List Numbered) (first holder : Option ℕ) → IsQueue live waits first holder → holders_of holder live waits ≡ holders → Stepped live first holder waits holders
 stepped live waits holders first holder is holds =
     let there : waits_from first live ≡ waits = ap (λ f. waits_from f live) is.leads ∙ ap (waits_from (head_number waits)) is.whole ∙ seam is.front waits (sorted_whole live waits first holder is) in
-    record { line = rw there is; waits_is = there; holders_is = ap (holders_of holder live) there ∙ holds }
+    record { name_queue = rw there is; waits_is = there; holders_is = ap (holders_of holder live) there ∙ holds }
 
 -- the holders are the same where the same stand in front
 holders_same : (live waits live' waits' : List Numbered) (first first' holder : Option ℕ) (is : IsQueue live waits first holder) (next : IsQueue live' waits' first' holder) → next.front ≡ is.front → holders_of holder live' waits' ≡ holders_of holder live waits
@@ -104,8 +104,8 @@ pushed live live' first holder number mode is below holders inserted sorted =
 
 -- ---- one ends
 
-removed_line : (live waits : List Numbered) (first holder : Option ℕ) (number : ℕ) → IsQueue live waits first holder → IsStrictlySortedBy nat_cmp (keys_of (filter (other_than number) live)) → IsQueue (filter (other_than number) live) (filter (other_than number) waits) (first_left number first live) (holder_without number holder)
-removed_line live waits first holder number is ordered = record {
+removed_name_queue : (live waits : List Numbered) (first holder : Option ℕ) (number : ℕ) → IsQueue live waits first holder → IsStrictlySortedBy nat_cmp (keys_of (filter (other_than number) live)) → IsQueue (filter (other_than number) live) (filter (other_than number) waits) (first_left number first live) (holder_without number holder)
+removed_name_queue live waits first holder number is ordered = record {
   front = filter (other_than number) is.front;
   whole = ap (filter (other_than number)) is.whole ∙ filter-append (other_than number) is.front waits;
   ordered = ordered;
@@ -138,7 +138,7 @@ removed_from live live' first holder number is removed sorted =
     let waits = waits_from first live in
     let live_is : live' ≡ filter (other_than number) live = removed ∙ removed_at number live is.ordered in
     rw live_is (stepped (filter (other_than number) live) (filter (other_than number) waits) (filter (other_than number) (holders_of holder live waits)) (first_left number first live) (holder_without number holder)
-    (removed_line live waits first holder number is (subst (λ l. IsStrictlySortedBy nat_cmp (keys_of l)) live_is sorted)) (removed_holders live waits first holder number is))
+    (removed_name_queue live waits first holder number is (subst (λ l. IsStrictlySortedBy nat_cmp (keys_of l)) live_is sorted)) (removed_holders live waits first holder number is))
 
 -- ---- the first that waits holds
 
@@ -146,8 +146,8 @@ empty : (l : List Numbered) → is_empty l ≡ true → l ≡ []
 empty [] h = refl
 empty (x ∷ l) h = absurd (cc)
 
-abbrev pub line_now : List ℕ → List Numbered → List Numbered → Waiting
-line_now name waits holders = record { name = name; waits = waits; holders = holders }
+abbrev pub name_queue_now : List ℕ → List Numbered → List Numbered → Waiting
+name_queue_now name waits holders = record { name = name; waits = waits; holders = holders }
 
 first_after_it : (live waits rest : List Numbered) (e : Numbered) (first holder : Option ℕ) → (is : IsQueue live waits first holder) → waits ≡ e ∷ rest → head_number (live_after e.0 live) ≡ head_number rest
 first_after_it live waits rest e first holder is begins =
@@ -156,7 +156,7 @@ first_after_it live waits rest e first holder is begins =
 
 -- a shared one
 pub shared_grant : (name : List ℕ) (live rest : List Numbered) (e : Numbered) (first holder : Option ℕ) → IsQueue live (waits_from first live) first holder → waits_from first live ≡ e ∷ rest
-    → admits (line_now name (waits_from first live) (holders_of holder live (waits_from first live))) e.1 ≡ true → is_exclusive e.1 ≡ false
+    → admits (name_queue_now name (waits_from first live) (holders_of holder live (waits_from first live))) e.1 ≡ true → is_exclusive e.1 ≡ false
     → Stepped live (head_number (live_after e.0 live)) holder rest (holders_of holder live (waits_from first live) ++ e ∷ [])
 shared_grant name live rest e first holder is begins free mode = by holder is none
   where
@@ -188,7 +188,7 @@ exclusive_is Exclusive is = refl
 
 -- an exclusive one, where nobody holds: it leaves the live
 pub exclusive_grant : (name : List ℕ) (live live' rest : List Numbered) (e : Numbered) (first holder : Option ℕ) → IsQueue live (waits_from first live) first holder → waits_from first live ≡ e ∷ rest
-    → admits (line_now name (waits_from first live) (holders_of holder live (waits_from first live))) e.1 ≡ true → is_exclusive e.1 ≡ true
+    → admits (name_queue_now name (waits_from first live) (holders_of holder live (waits_from first live))) e.1 ≡ true → is_exclusive e.1 ≡ true
     → ((x : Numbered) (l : List Numbered) → live ≡ x ∷ l → live' ≡ l)
     → Stepped live' (head_number (live_after e.0 live)) (Some e.0) rest (holders_of holder live (waits_from first live) ++ e ∷ [])
 exclusive_grant name live live' rest e first holder is begins free mode popped = by holder is (sym (ap (λ b. cond b (is_empty (holders_of holder live waits)) (not (excludes (holders_of holder live waits)))) mode) ∙ free)
@@ -232,7 +232,7 @@ tail_left live live' (Some p) variant removal x l is = ap tail (sym removal ∙ 
     tail [] = []
     tail (y ∷ ys) = ys
 
--- the line after a grant
-pub granted : (name : List ℕ) (waits rest holders : List Numbered) (e : Numbered) → waits ≡ e ∷ rest → admits (line_now name waits holders) e.1 ≡ true
-    → after_grant (line_now name waits holders) ≡ line_now name rest (holders ++ e ∷ [])
-granted name waits rest holders e begins free = ap (without_admitted (line_now name waits holders)) begins ∙ ap (λ b. cond b (line_now name rest (holders ++ e ∷ [])) (line_now name waits holders)) free
+-- the queue after a grant
+pub granted : (name : List ℕ) (waits rest holders : List Numbered) (e : Numbered) → waits ≡ e ∷ rest → admits (name_queue_now name waits holders) e.1 ≡ true
+    → after_grant (name_queue_now name waits holders) ≡ name_queue_now name rest (holders ++ e ∷ [])
+granted name waits rest holders e begins free = ap (without_admitted (name_queue_now name waits holders)) begins ∙ ap (λ b. cond b (name_queue_now name rest (holders ++ e ∷ [])) (name_queue_now name waits holders)) free

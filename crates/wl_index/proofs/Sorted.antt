@@ -1,10 +1,10 @@
--- A list whose stamps differ has one order by stamp, whatever sorts it.
+-- A list whose grant sequences differ has one order by grant sequence, whatever sorts it.
 use Rattle.std.proofs.Common.{◌≡◌, ℕ, zero, suc, ◌<◌, ◌≤◌, List, [], ◌∷◌, refl, sym, ap, ◌∙◌, length, get_or, set, arith, Bool, true, false, nat_lt, if◌then◌else◌}
 use Rattle.std.specs.List.{AllByRecursion, swap}
 use Rattle.std.specs.List.Sorted.{IsPermutation, IsNonDecreasingBy}
 use Rattle.std.proofs.lemmas.List.Elements.{recursion_from_All}
 use Rattle.std.proofs.lemmas.List.Sorted.{IsPermutation-keeps, IsPermutation-refl, IsPermutation-sym, IsPermutation-trans, IsPermutation-cons, IsPermutation-middle}
-use Rattle.wl_index.specs.Stamps.{Distinct, Rising, place, by_stamp, place_apart, place_first, by_stamp_rising}
+use Rattle.wl_index.specs.GrantOrder.{Distinct, Rising, place, by_grant_seq, place_apart, place_first, by_grant_seq_rising}
 
 -- A relation holds along each permutation if it is reflexive and transitive, and goes under a head and over an exchange of two heads.
 module _ {X : Type 0} (R : List X → List X → Type 0) (same : (xs : List X) → R xs xs)
@@ -34,7 +34,7 @@ module _ {X : Type 0} (R : List X → List X → Type 0) (same : (xs : List X) �
 -- what another order of the same elements keeps
 pub record Kept {X : Type 0} (f : X → ℕ) (xs ys : List X) : Type 0 where
   pub distinct : Distinct f ys
-  pub same : by_stamp f ys ≡ by_stamp f xs
+  pub same : by_grant_seq f ys ≡ by_grant_seq f xs
   pub apart : (n : ℕ) → AllByRecursion (λ y. n ≡ f y → ⊥) xs → AllByRecursion (λ y. n ≡ f y → ⊥) ys
 
 module _ {X : Type 0} (f : X → ℕ) where
@@ -57,7 +57,7 @@ module _ {X : Type 0} (f : X → ℕ) where
   keeps_turned x y xs distinct =
       record {
         distinct = (((λ same. distinct.0.0 (sym same)), distinct.1.0), (distinct.0.1, distinct.1.1));
-        same = sym (place_apart f x y (by_stamp f xs) distinct.0.0);
+        same = sym (place_apart f x y (by_grant_seq f xs) distinct.0.0);
         apart = λ n all. (all.1.0, (all.0, all.1.1));
       }
 
@@ -88,11 +88,11 @@ module _ {X : Type 0} (f : X → ℕ) where
       above (y ∷ l) all apart = let low = all.0 in let differs = apart.0 in (omega (arith, low, differs), above l all.1 apart.1)
 
   -- a list that climbs is in order already
-  pub in_order : (l : List X) → Climbing l → by_stamp f l ≡ l
+  pub in_order : (l : List X) → Climbing l → by_grant_seq f l ≡ l
   in_order [] climbing = refl
   in_order (x ∷ l) climbing = ap (place f x) (in_order l climbing.1) ∙ place_first f x l climbing.0
 
-  -- by_stamp moves elements alone
+  -- by_grant_seq moves elements alone
   moves : (x : X) (l : List X) → IsPermutation (x ∷ l) (place f x l)
   moves x [] = IsPermutation-refl (x ∷ [])
   moves x (y ∷ l) = by (nat_lt (f x) (f y)) (moves x l)
@@ -101,20 +101,20 @@ module _ {X : Type 0} (f : X → ℕ) where
       by true rest = IsPermutation-refl (x ∷ y ∷ l)
       by false rest = IsPermutation-trans (x ∷ y ∷ l) (y ∷ x ∷ l) (y ∷ place f x l) (IsPermutation-sym (y ∷ x ∷ l) (x ∷ y ∷ l) (IsPermutation-middle (y ∷ []) x l)) (IsPermutation-cons y (x ∷ l) (place f x l) rest)
 
-  pub by_stamp_moves : (l : List X) → IsPermutation l (by_stamp f l)
-  by_stamp_moves [] = IsPermutation-refl []
-  by_stamp_moves (x ∷ l) = IsPermutation-trans (x ∷ l) (x ∷ by_stamp f l) (place f x (by_stamp f l)) (IsPermutation-cons x l (by_stamp f l) (by_stamp_moves l)) (moves x (by_stamp f l))
+  pub by_grant_seq_moves : (l : List X) → IsPermutation l (by_grant_seq f l)
+  by_grant_seq_moves [] = IsPermutation-refl []
+  by_grant_seq_moves (x ∷ l) = IsPermutation-trans (x ∷ l) (x ∷ by_grant_seq f l) (place f x (by_grant_seq f l)) (IsPermutation-cons x l (by_grant_seq f l) (by_grant_seq_moves l)) (moves x (by_grant_seq f l))
 
-  pub by_stamp_climbs : (l : List X) → Distinct f l → Climbing (by_stamp f l)
-  by_stamp_climbs l distinct = climbs (by_stamp f l) (by_stamp_rising f l) (permuted l (by_stamp f l) (by_stamp_moves l) distinct).distinct
+  pub by_grant_seq_climbs : (l : List X) → Distinct f l → Climbing (by_grant_seq f l)
+  by_grant_seq_climbs l distinct = climbs (by_grant_seq f l) (by_grant_seq_rising f l) (permuted l (by_grant_seq f l) (by_grant_seq_moves l) distinct).distinct
 
   rises : (l : List X) → IsNonDecreasingBy f l → Rising f l
   rises [] sorted = tt
   rises (x ∷ l) sorted =
       (recursion_from_All (λ y. f x ≤ f y) l (λ k d low. sorted 0 (suc k) d (omega arith) (omega (arith, low))), rises l (λ i j d le low. sorted (suc i) (suc j) d (omega (arith, le)) (omega (arith, low))))
 
-  -- whatever sorts a list by stamps that differ gives the one order
-  pub sorted_by_stamp : (xs ys : List X) → Distinct f xs → IsPermutation xs ys → IsNonDecreasingBy f ys → ys ≡ by_stamp f xs
-  sorted_by_stamp xs ys distinct moved sorted =
+  -- whatever sorts a list by grant sequences that differ gives the one order
+  pub sorted_by_grant_seq : (xs ys : List X) → Distinct f xs → IsPermutation xs ys → IsNonDecreasingBy f ys → ys ≡ by_grant_seq f xs
+  sorted_by_grant_seq xs ys distinct moved sorted =
       let kept = permuted xs ys moved distinct in
       sym (in_order ys (climbs ys (rises ys sorted) kept.distinct)) ∙ kept.same

@@ -7,7 +7,7 @@ use Rattle.std.specs.Map.{keys_of}
 use Rattle.std.specs.Ordering.{nat_cmp}
 use Rattle.std.proofs.lemmas.Bool.Decides.{nat_tests}
 use Rattle.std.proofs.lemmas.Map.Keys.{sorted_head, sorted_tail}
-use Rattle.wl_index.specs.Lists.{spared}
+use Rattle.wl_index.specs.Lists.{is_spared}
 use Rattle.wl_number_map.proofs.Keyed.{number_same, above_apart}
 
 -- tests that agree on the elements
@@ -20,12 +20,12 @@ all_both P Q R [] f ps qs = tt
 all_both P Q R (x ∷ l) f ps qs = (f x ps.0 qs.0, all_both P Q R l f ps.1 qs.1)
 
 -- no number spares all
-pub spared_all : {X : Type 0} (es : List (ℕ × X)) → filter (spared []) es ≡ es
+pub spared_all : {X : Type 0} (es : List (ℕ × X)) → filter (is_spared []) es ≡ es
 spared_all [] = refl
 spared_all (e ∷ es) = ap (λ l. e ∷ l) (spared_all es)
 
 -- one number after the other
-pub spared_next : {X : Type 0} (n : ℕ) (ns : List ℕ) (es : List (ℕ × X)) → filter (spared ns) (filter (λ (e : ℕ × X). not (e.0 == n)) es) ≡ filter (spared (n ∷ ns)) es
+pub spared_next : {X : Type 0} (n : ℕ) (ns : List ℕ) (es : List (ℕ × X)) → filter (is_spared ns) (filter (λ (e : ℕ × X). not (e.0 == n)) es) ≡ filter (is_spared (n ∷ ns)) es
 spared_next n ns [] = refl
 spared_next {X} n ns (e ∷ es) = by (e.0 == n) refl (spared_next n ns es)
   where
@@ -36,10 +36,10 @@ spared_next {X} n ns (e ∷ es) = by (e.0 == n) refl (spared_next n ns es)
     flip true h = grind (arith, nat_tests, h)
     flip false h = grind (arith, nat_tests, h)
 
-    by : (b : Bool) → (e.0 == n) ≡ b → filter (spared ns) (filter apart es) ≡ filter (spared (n ∷ ns)) es
-        → filter (spared ns) (cond (not (e.0 == n)) (e ∷ filter apart es) (filter apart es)) ≡ cond (not ((n == e.0) || list_any (λ k. k == e.0) ns)) (e ∷ filter (spared (n ∷ ns)) es) (filter (spared (n ∷ ns)) es)
+    by : (b : Bool) → (e.0 == n) ≡ b → filter (is_spared ns) (filter apart es) ≡ filter (is_spared (n ∷ ns)) es
+        → filter (is_spared ns) (cond (not (e.0 == n)) (e ∷ filter apart es) (filter apart es)) ≡ cond (not ((n == e.0) || list_any (λ k. k == e.0) ns)) (e ∷ filter (is_spared (n ∷ ns)) es) (filter (is_spared (n ∷ ns)) es)
     by true h rest = rw (h, flip true h) rest
-    by false h rest = rw (h, flip false h) (ap (λ l. cond (spared ns e) (e ∷ l) l) rest)
+    by false h rest = rw (h, flip false h) (ap (λ l. cond (is_spared ns e) (e ∷ l) l) rest)
 
 none_named : {X : Type 0} (p : ℕ × X → Bool) (k : ℕ) (es : List (ℕ × X)) → AllByRecursion (λ (e : ℕ × X). (e.0 == k) ≡ false) es → list_any (λ n. n == k) (keys_of (filter p es)) ≡ false
 none_named p k [] apart = refl
@@ -65,11 +65,11 @@ named {X} p (e ∷ es) sorted = by (p e) refl (named p es (sorted_tail nat_cmp e
     by false h rest = rw h (none_named p e.0 es apart, rest)
 
 -- those that pass are named, and the others are spared
-pub spared_fail : {X : Type 0} (p : ℕ × X → Bool) (es : List (ℕ × X)) → IsStrictlySortedBy nat_cmp (keys_of es) → filter (spared (keys_of (filter p es))) es ≡ filter (λ e. not (p e)) es
+pub spared_fail : {X : Type 0} (p : ℕ × X → Bool) (es : List (ℕ × X)) → IsStrictlySortedBy nat_cmp (keys_of es) → filter (is_spared (keys_of (filter p es))) es ≡ filter (λ e. not (p e)) es
 spared_fail {X} p es sorted =
-    filter_agree (spared (keys_of (filter p es))) (λ e. not (p e)) es
+    filter_agree (is_spared (keys_of (filter p es))) (λ e. not (p e)) es
     (all_map_same es (named p es sorted))
   where
-    all_map_same : (l : List (ℕ × X)) → AllByRecursion (λ (e : ℕ × X). list_any (λ n. n == e.0) (keys_of (filter p es)) ≡ p e) l → AllByRecursion (λ (e : ℕ × X). spared (keys_of (filter p es)) e ≡ not (p e)) l
+    all_map_same : (l : List (ℕ × X)) → AllByRecursion (λ (e : ℕ × X). list_any (λ n. n == e.0) (keys_of (filter p es)) ≡ p e) l → AllByRecursion (λ (e : ℕ × X). is_spared (keys_of (filter p es)) e ≡ not (p e)) l
     all_map_same [] all = tt
     all_map_same (e ∷ l) all = (ap not all.0, all_map_same l all.1)

@@ -14,8 +14,8 @@ use Rattle.wl_machine.specs.declared.rows.PendingRow.{PendingRow}
 use Rattle.wl_machine.specs.Grants.{grants, locks, queue}
 use Rattle.wl_machine.specs.Step.{with_name}
 use Rattle.wl_machine.proofs.Lists.{or_false, other_bytes, same_bytes}
-use Rattle.wl_index.specs.Queue.{Waiting, Matches, lock_and_mode, number_and_mode, with_one_more}
-use Rattle.wl_index.specs.Queues.{Placed, names_of, place_of, updated, joined, joined_at, AreQueues}
+use Rattle.wl_index.specs.NameQueue.{Waiting, Matches, lock_and_mode, number_and_mode, with_one_more}
+use Rattle.wl_index.specs.Queues.{Placed, names_of, place_of, with_updated, with_joined, with_joined_at, AreQueues}
 use Rattle.wl_index.specs.Locks.{has_place, QueueStands, Stands}
 use Rattle.wl_index.proofs.Lists.{all_append}
 use Rattle.wl_index.proofs.InUse.{SameAs, are_updated, names_updated, one_place, place_before, place_last, place_updated}
@@ -53,7 +53,7 @@ module _ (held held' : List HeldRow) (pending pending' : List PendingRow) (touch
       }
 
   pub each_changed : (name : List ℕ) (place : ℕ) (f : Waiting → Waiting) (l : List Placed) → Differ name held held' pending pending' → ((n : ℕ) → (n == place) ≡ false → has_place touched' n ≡ false → has_place touched n ≡ false) → AllByRecursion (SameAs name place) l
-      → AllByRecursion (λ (e : Placed). (e.0 == place) ≡ true → QueueStands held' pending' touched' (e.0, f e.1)) l → AllByRecursion (QueueStands held pending touched) l → AllByRecursion (QueueStands held' pending' touched') (updated place f l)
+      → AllByRecursion (λ (e : Placed). (e.0 == place) ≡ true → QueueStands held' pending' touched' (e.0, f e.1)) l → AllByRecursion (QueueStands held pending touched) l → AllByRecursion (QueueStands held' pending' touched') (with_updated place f l)
   each_changed name place f [] differ less same own all = tt
   each_changed name place f (e ∷ l) differ less same own all = (by (e.0 == place) refl, each_changed name place f l differ less same.1 own.1 all.1)
     where
@@ -63,7 +63,7 @@ module _ (held held' : List HeldRow) (pending pending' : List PendingRow) (touch
 
 -- the lists of a name that has a queue change, and the queue with them: its place is touched
 pub one_touched : (name : List ℕ) (place : ℕ) (f : Waiting → Waiting) (queues : List Placed) (held held' : List HeldRow) (pending pending' : List PendingRow) (touched : List ℕ) → ((w : Waiting) → (f w).name ≡ w.name) → Differ name held held' pending pending'
-    → place_of name queues ≡ Some place → ((w : Waiting) → w.name ≡ name → Matches w held pending → Matches (f w) held' pending') → Stands queues held pending touched → Stands (updated place f queues) held' pending' (place ∷ touched)
+    → place_of name queues ≡ Some place → ((w : Waiting) → w.name ≡ name → Matches w held pending → Matches (f w) held' pending') → Stands queues held pending touched → Stands (with_updated place f queues) held' pending' (place ∷ touched)
 one_touched name place f queues held held' pending pending' touched keeps differ at matches stands =
     let same = one_place name place queues stands.are.apart at in
     record {
@@ -113,17 +113,17 @@ new_stands : (queues : List Placed) (held : List HeldRow) (pending : List Pendin
     → Stands queues held pending touched → Stands (queues ++ (r.number, record { name = r.name; waits = (r.number, r.mode) ∷ []; holders = [] }) ∷ []) held (pending ++ r ∷ []) (r.number ∷ touched)
 new_stands queues held pending touched r none are stands = record {
   are = are;
-  each = all_append (QueueStands held (pending ++ r ∷ []) (r.number ∷ touched)) queues ((r.number, line) ∷ []) (others queues none stands.each) (own, tt);
+  each = all_append (QueueStands held (pending ++ r ∷ []) (r.number ∷ touched)) queues ((r.number, name_queue) ∷ []) (others queues none stands.each) (own, tt);
   known = λ m gone. unknown m (place_of m queues) refl gone;
 }
   where
-    line : Waiting
-    line = record { name = r.name; waits = (r.number, r.mode) ∷ []; holders = [] }
+    name_queue : Waiting
+    name_queue = record { name = r.name; waits = (r.number, r.mode) ∷ []; holders = [] }
 
     here : has_place (r.number ∷ touched) r.number ≡ true
     here = touched_here r.number r.number touched (grind (arith, nat_tests))
 
-    own : QueueStands held (pending ++ r ∷ []) (r.number ∷ touched) (r.number, line)
+    own : QueueStands held (pending ++ r ∷ []) (r.number ∷ touched) (r.number, name_queue)
     own =
         let empty = stands.known r.name none in
         record {
@@ -146,16 +146,16 @@ new_stands queues held pending touched r none are stands = record {
         by true h rest = absurd (none-some e.0 (sym (left true h)))
         by false h rest = (other_stands held held pending (pending ++ r ∷ []) touched (r.number ∷ touched) r.name e (come_differs held pending r) h (untouched_less r.number e.0 touched) all.0, rest (left false h) all.1)
 
-    unknown : (m : List ℕ) (o : Option ℕ) → place_of m queues ≡ o → place_of m (queues ++ (r.number, line) ∷ []) ≡ None → (locks m held ≡ []) × (queue m (pending ++ r ∷ []) ≡ [])
-    unknown m (Some place) at gone = absurd (none-some place (sym gone ∙ place_before m place queues (r.number, line) at))
+    unknown : (m : List ℕ) (o : Option ℕ) → place_of m queues ≡ o → place_of m (queues ++ (r.number, name_queue) ∷ []) ≡ None → (locks m held ≡ []) × (queue m (pending ++ r ∷ []) ≡ [])
+    unknown m (Some place) at gone = absurd (none-some place (sym gone ∙ place_before m place queues (r.number, name_queue) at))
     unknown m None at gone = named (bytes_eq r.name m) refl
       where
         named : (b : Bool) → bytes_eq r.name m ≡ b → (locks m held ≡ []) × (queue m (pending ++ r ∷ []) ≡ [])
-        named true h = absurd (none-some r.number (sym gone ∙ place_last m queues (r.number, line) at ∙ ap (λ b. cond b (Some r.number) None) h))
+        named true h = absurd (none-some r.number (sym gone ∙ place_last m queues (r.number, name_queue) at ∙ ap (λ b. cond b (Some r.number) None) h))
         named false h = let k = stands.known m at in (k.0, queue_stays pending r m h ∙ k.1)
 
 -- and what is said of the names
-pub record Entered (queues new : List Placed) (held : List HeldRow) (pending : List PendingRow) (touched : List ℕ) (name : List ℕ) : Type 0 where
+pub record Enqueued (queues new : List Placed) (held : List HeldRow) (pending : List PendingRow) (touched : List ℕ) (name : List ℕ) : Type 0 where
   pub stands : Stands new held pending touched
   pub names : names_of new ≡ with_name name (names_of queues)
 
@@ -175,31 +175,31 @@ unlisted name (e ∷ l) none = by (bytes_eq e.1.name name) refl (unlisted name l
     by true h rest = absurd (none-some e.0 (sym none ∙ ap (λ c. cond c (Some e.0) (place_of name l)) h))
     by false h rest = ap (λ b. b || list_any (λ other. bytes_eq other name) (names_of l)) h ∙ rest (sym (ap (λ c. cond c (Some e.0) (place_of name l)) h) ∙ none)
 
-pub entered : (queues new : List Placed) (place : ℕ) (held : List HeldRow) (pending : List PendingRow) (touched : List ℕ) (r : PendingRow) → Stands queues held pending touched → new ≡ joined r.name r.number r.mode queues → AreQueues new → place_of r.name new ≡ Some place
-    → Entered queues new held (pending ++ r ∷ []) (place ∷ touched) r.name
-entered queues new place held pending touched r stands is are at = by (place_of r.name queues) refl
+pub enqueued : (queues new : List Placed) (place : ℕ) (held : List HeldRow) (pending : List PendingRow) (touched : List ℕ) (r : PendingRow) → Stands queues held pending touched → new ≡ with_joined r.name r.number r.mode queues → AreQueues new → place_of r.name new ≡ Some place
+    → Enqueued queues new held (pending ++ r ∷ []) (place ∷ touched) r.name
+enqueued queues new place held pending touched r stands is are at = by (place_of r.name queues) refl
   where
     more : (w : Waiting) → (with_one_more w r.number r.mode).name ≡ w.name
     more w = refl
 
-    line : Waiting
-    line = record { name = r.name; waits = (r.number, r.mode) ∷ []; holders = [] }
+    name_queue : Waiting
+    name_queue = record { name = r.name; waits = (r.number, r.mode) ∷ []; holders = [] }
 
-    by : (o : Option ℕ) → place_of r.name queues ≡ o → Entered queues new held (pending ++ r ∷ []) (place ∷ touched) r.name
+    by : (o : Option ℕ) → place_of r.name queues ≡ o → Enqueued queues new held (pending ++ r ∷ []) (place ∷ touched) r.name
     by (Some p) there =
         let f : Waiting → Waiting = λ w. with_one_more w r.number r.mode in
-        let set : new ≡ updated p f queues = is ∙ ap (λ o. joined_at o r.name r.number r.mode queues) there in
+        let set : new ≡ with_updated p f queues = is ∙ ap (λ o. with_joined_at o r.name r.number r.mode queues) there in
         let same : p ≡ place = ap (λ o. unwrap_or o place) (sym (sym at ∙ ap (place_of r.name) set ∙ place_updated p f more r.name queues ∙ there)) in
-        let one : Entered queues (updated p f queues) held (pending ++ r ∷ []) (p ∷ touched) r.name = record {
+        let one : Enqueued queues (with_updated p f queues) held (pending ++ r ∷ []) (p ∷ touched) r.name = record {
           stands = one_touched r.name p f queues held held pending (pending ++ r ∷ []) touched more (come_differs held pending r) there (push_matches held pending r) stands;
           names = names_updated p f more queues ∙ sym (ap (λ b. cond b (names_of queues) (names_of queues ++ r.name ∷ [])) (listed r.name p queues there));
         } in
-        subst (λ k. Entered queues new held (pending ++ r ∷ []) (k ∷ touched) r.name) same (subst (λ l. Entered queues l held (pending ++ r ∷ []) (p ∷ touched) r.name) (sym set) one)
+        subst (λ k. Enqueued queues new held (pending ++ r ∷ []) (k ∷ touched) r.name) same (subst (λ l. Enqueued queues l held (pending ++ r ∷ []) (p ∷ touched) r.name) (sym set) one)
     by None none =
-        let set : new ≡ queues ++ (r.number, line) ∷ [] = is ∙ ap (λ o. joined_at o r.name r.number r.mode queues) none in
-        let same : r.number ≡ place = ap (λ o. unwrap_or o place) (sym (sym at ∙ ap (place_of r.name) set ∙ place_last r.name queues (r.number, line) none ∙ ap (λ b. cond b (Some r.number) None) (same_bytes r.name))) in
-        let one : Entered queues (queues ++ (r.number, line) ∷ []) held (pending ++ r ∷ []) (r.number ∷ touched) r.name = record {
+        let set : new ≡ queues ++ (r.number, name_queue) ∷ [] = is ∙ ap (λ o. with_joined_at o r.name r.number r.mode queues) none in
+        let same : r.number ≡ place = ap (λ o. unwrap_or o place) (sym (sym at ∙ ap (place_of r.name) set ∙ place_last r.name queues (r.number, name_queue) none ∙ ap (λ b. cond b (Some r.number) None) (same_bytes r.name))) in
+        let one : Enqueued queues (queues ++ (r.number, name_queue) ∷ []) held (pending ++ r ∷ []) (r.number ∷ touched) r.name = record {
           stands = new_stands queues held pending touched r none (subst AreQueues set are) stands;
-          names = map-append (λ (e : Placed). e.1.name) queues ((r.number, line) ∷ []) ∙ sym (ap (λ b. cond b (names_of queues) (names_of queues ++ r.name ∷ [])) (unlisted r.name queues none));
+          names = map-append (λ (e : Placed). e.1.name) queues ((r.number, name_queue) ∷ []) ∙ sym (ap (λ b. cond b (names_of queues) (names_of queues ++ r.name ∷ [])) (unlisted r.name queues none));
         } in
-        subst (λ k. Entered queues new held (pending ++ r ∷ []) (k ∷ touched) r.name) same (subst (λ l. Entered queues l held (pending ++ r ∷ []) (r.number ∷ touched) r.name) (sym set) one)
+        subst (λ k. Enqueued queues new held (pending ++ r ∷ []) (k ∷ touched) r.name) same (subst (λ l. Enqueued queues l held (pending ++ r ∷ []) (r.number ∷ touched) r.name) (sym set) one)

@@ -1,4 +1,4 @@
--- A steal is settled at its own name alone.
+-- A steal is processed at its own name alone.
 use Rattle.std.proofs.Common.{◌≡◌, ℕ, Bool, true, false, cond, List, [], ◌∷◌, ◌++◌, refl, ap, subst, sym, ◌∙◌, append-nil}
 use Rattle.std.specs.Prelude.{not, ◌&&◌, ◌||◌, filter, Option, Some, None, is_some}
 use Rattle.std.specs.Str.{bytes_eq}
@@ -21,15 +21,15 @@ use Rattle.wl_machine.specs.declared.command.Command.TheVariants as command
 use Rattle.wl_machine.specs.declared.command.Reply.TheVariants as reply
 use Rattle.wl_machine.specs.State.{State}
 use Rattle.wl_machine.specs.Refusals.{refusal}
-use Rattle.wl_machine.specs.Grants.{any_exclusive, grants, locks, queue, granted_lock, grant_change, Lists, lists_of, settle_name, settle_names}
+use Rattle.wl_machine.specs.Grants.{any_exclusive, grants, locks, queue, granted_lock, grant_change, Lists, lists_of, process_queue, process_queues}
 use Rattle.wl_machine.specs.Step.{Gives, with_name, new_request, steal_locks, lock_ends}
 use Rattle.wl_machine.proofs.Reachable.{among_added}
 use Rattle.wl_machine.proofs.Quiet.{quiet, grants_behind}
 use Rattle.wl_machine.proofs.Lists.{same_bytes, other_bytes, filters_commute}
 use Rattle.wl_index.proofs.Accepted.{first_none, request_accepted}
 use Rattle.wl_index.proofs.Lists.{filter_whole, filter_none, all_weaker, filter_passed}
-use Rattle.wl_index.proofs.Local.{settle_one_name, settle_all_quiet}
-use Rattle.wl_index.proofs.Events.{with_lists, settled_is}
+use Rattle.wl_index.proofs.Local.{process_one_name, process_all_quiet}
+use Rattle.wl_index.proofs.Events.{with_lists, processed_is}
 
 abbrev pub without_name : List ℕ → List HeldRow → List HeldRow
 without_name name held = filter (λ lock. not (bytes_eq lock.name name)) held
@@ -57,18 +57,18 @@ before_steal held pending r = lists_of (without_name r.name held) (r ∷ pending
 abbrev pub after_steal : List HeldRow → List PendingRow → PendingRow → Lists
 after_steal held pending r = lists_of (without_name r.name held ++ granted_lock r ∷ []) pending (lock_ends Stolen (locks r.name held) ++ grant_change r ∷ [])
 
-own_settled : (held : List HeldRow) (pending : List PendingRow) (r : PendingRow) → r.mode ≡ Exclusive → settle_name (before_steal held pending r) r.name ≡ after_steal held pending r
-own_settled held pending r mode =
+own_processed : (held : List HeldRow) (pending : List PendingRow) (r : PendingRow) → r.mode ≡ Exclusive → process_queue (before_steal held pending r) r.name ≡ after_steal held pending r
+own_processed held pending r mode =
     let own = same_bytes r.name in
     let first : grants (locks r.name (without_name r.name held)) (queue r.name (r ∷ pending)) ≡ r ∷ [] = rw (locks_own r.name held, own, mode) refl in
     rw (first, own) refl
 
--- settling all is settling the name
-pub steal_settled : (names : List (List ℕ)) (held : List HeldRow) (pending : List PendingRow) (r : PendingRow) → r.mode ≡ Exclusive → ((m : List ℕ) → grants (locks m held) (queue m pending) ≡ [])
-    → settle_names (after_steal held pending r) (with_name r.name names) ≡ settle_names (before_steal held pending r) (with_name r.name names)
-steal_settled names held pending r mode still =
-    settle_all_quiet (with_name r.name names) (after_steal held pending r) (λ m. after_still m (bytes_eq m r.name) refl) ∙ sym (own_settled held pending r mode)
-    ∙ sym (settle_one_name r.name (with_name r.name names) (before_steal held pending r) (among_added r.name names) before_still)
+-- processing all is processing the name
+pub steal_processed : (names : List (List ℕ)) (held : List HeldRow) (pending : List PendingRow) (r : PendingRow) → r.mode ≡ Exclusive → ((m : List ℕ) → grants (locks m held) (queue m pending) ≡ [])
+    → process_queues (after_steal held pending r) (with_name r.name names) ≡ process_queues (before_steal held pending r) (with_name r.name names)
+steal_processed names held pending r mode still =
+    process_all_quiet (with_name r.name names) (after_steal held pending r) (λ m. after_still m (bytes_eq m r.name) refl) ∙ sym (own_processed held pending r mode)
+    ∙ sym (process_one_name r.name (with_name r.name names) (before_steal held pending r) (among_added r.name names) before_still)
   where
     before_still : (m : List ℕ) → bytes_eq m r.name ≡ false → quiet (before_steal held pending r) m ≡ []
     before_still m differs = ap (λ h. grants h (queue m (r ∷ pending))) (locks_others r.name m held differs) ∙ ap (grants (locks m held)) (queue_others pending r m (other_bytes r.name m differs)) ∙ still m
@@ -84,10 +84,10 @@ steal_settled names held pending r mode still =
         ap (λ h. grants h (queue m pending)) other ∙ still m
 
 pub steal_gives : (s : State) (agent : ℕ) (ask : Ask) (lists : Lists) → refusal s (command.Request agent ask) ≡ None → ask.steal ≡ true → ask.mode ≡ Exclusive → ((m : List ℕ) → grants (locks m s.held) (queue m s.pending) ≡ [])
-    → lists ≡ settle_names (after_steal s.held s.pending (new_request s agent ask)) (with_name ask.name s.names) → Gives s (command.Request agent ask) (with_lists (steal_locks s (new_request s agent ask)) lists) (reply.Request s.next.request) lists.changes
+    → lists ≡ process_queues (after_steal s.held s.pending (new_request s agent ask)) (with_name ask.name s.names) → Gives s (command.Request agent ask) (with_lists (steal_locks s (new_request s agent ask)) lists) (reply.Request s.next.request) lists.changes
 steal_gives s agent ask lists accepted steals mode still is =
     let r = new_request s agent ask in
-    rw (accepted, steals) (settled_is (steal_locks s r) (lock_ends Stolen (locks r.name s.held)) (reply.Request s.next.request) lists (is ∙ steal_settled s.names s.held s.pending r mode still))
+    rw (accepted, steals) (processed_is (steal_locks s r) (lock_ends Stolen (locks r.name s.held)) (reply.Request s.next.request) lists (is ∙ steal_processed s.names s.held s.pending r mode still))
 
 -- ---- a request that steals, and that nothing refuses, is exclusive
 

@@ -12,8 +12,8 @@ use Rattle.std.proofs.lemmas.List.Elements.{filter-append}
 use Rattle.wl_machine.proofs.Lists.{filters_commute}
 use Rattle.wl_index.specs.declared.request.Request.{Request}
 use Rattle.wl_index.specs.declared.request.Stage.TheVariants.{Pending}
-use Rattle.wl_index.specs.Stamps.{Distinct}
-use Rattle.wl_index.specs.Rows.{Entry, other, waiting, holding, stamp_of, IsTable}
+use Rattle.wl_index.specs.GrantOrder.{Distinct}
+use Rattle.wl_index.specs.Rows.{Entry, other, waiting, holding, grant_seq_of, IsTable}
 use Rattle.wl_index.proofs.Distinct.{distinct_filter}
 use Rattle.wl_index.proofs.Lists.{filter_whole, all_filter, all_weaker, all_append}
 use Rattle.wl_number_map.proofs.Keyed.{number_same, entry_last, Found, found}
@@ -27,28 +27,28 @@ length_fewer p (e ∷ es) = by (p e) (length_fewer p es)
     by true rest = omega (arith, rest)
     by false rest = omega (arith, rest)
 
--- stamps differ without an entry
-distinct_others : (id : ℕ) (es : List Entry) → Distinct stamp_of (filter holding es) → Distinct stamp_of (filter holding (filter (other id) es))
-distinct_others id es distinct = rw (filters_commute holding (other id) es) (distinct_filter stamp_of (other id) (filter holding es) distinct)
+-- grant sequences differ without an entry
+distinct_others : (id : ℕ) (es : List Entry) → Distinct grant_seq_of (filter holding es) → Distinct grant_seq_of (filter holding (filter (other id) es))
+distinct_others id es distinct = rw (filters_commute holding (other id) es) (distinct_filter grant_seq_of (other id) (filter holding es) distinct)
 
 -- without an entry it stays a table
-pub ended_table : (id : ℕ) (es : List Entry) (next_stamp next : ℕ) → IsTable es next_stamp next → IsStrictlySortedBy nat_cmp (keys_of (remove_entry (is_at (nat_cmp id)) es)) → IsTable (remove_entry (is_at (nat_cmp id)) es) next_stamp next
-ended_table id es next_stamp next table sorted =
+pub ended_table : (id : ℕ) (es : List Entry) (next_grant_seq next : ℕ) → IsTable es next_grant_seq next → IsStrictlySortedBy nat_cmp (keys_of (remove_entry (is_at (nat_cmp id)) es)) → IsTable (remove_entry (is_at (nat_cmp id)) es) next_grant_seq next
+ended_table id es next_grant_seq next table sorted =
     let fewer : length (filter (other id) (filter waiting es)) ≤ length (filter waiting es) = length_fewer (other id) (filter waiting es) in
     let room = table.room in
     record {
       ordered = sorted;
       below = rw (removed id es table.ordered) (all_filter (λ (e : Entry). e.0 < next) (other id) es table.below);
-      stamped = rw (removed id es table.ordered) (all_filter (λ (e : Entry). stamp_of e < next_stamp) (other id) es table.stamped);
+      below_next = rw (removed id es table.ordered) (all_filter (λ (e : Entry). grant_seq_of e < next_grant_seq) (other id) es table.below_next);
       distinct = rw (removed id es table.ordered) (distinct_others id es table.distinct);
       first = table.first;
       room = rw (removed id es table.ordered, filters_commute waiting (other id) es) (omega (arith, fewer, room));
       high = table.high;
     }
 
-pub more_table : (es : List Entry) (next_stamp next : ℕ) (r : Request) → r.stage ≡ Pending → next < 9007199254740992 → IsTable es next_stamp next
-    → IsStrictlySortedBy nat_cmp (keys_of (insert_entry nat_cmp es next r)) → IsTable (insert_entry nat_cmp es next r) next_stamp (next + 1)
-more_table es next_stamp next r waits_now low table sorted =
+pub more_table : (es : List Entry) (next_grant_seq next : ℕ) (r : Request) → r.stage ≡ Pending → next < 9007199254740992 → IsTable es next_grant_seq next
+    → IsStrictlySortedBy nat_cmp (keys_of (insert_entry nat_cmp es next r)) → IsTable (insert_entry nat_cmp es next r) next_grant_seq (next + 1)
+more_table es next_grant_seq next r waits_now low table sorted =
     let last = entry_last es next r table.below in
     let count : length (filter waiting (es ++ (next, r) ∷ [])) ≡ length (filter waiting es) + 1 = ap length (filter-append waiting es ((next, r) ∷ []) ∙ rw waits_now refl) ∙ length-append (filter waiting es) ((next, r) ∷ []) in
     let room = table.room in
@@ -56,7 +56,7 @@ more_table es next_stamp next r waits_now low table sorted =
     record {
       ordered = sorted;
       below = rw last (all_append (λ (e : Entry). e.0 < next + 1) es ((next, r) ∷ []) (all_weaker (λ (e : Entry). e.0 < next) (λ e. e.0 < next + 1) es (λ e less. omega (arith, less)) table.below) (omega arith, tt));
-      stamped = rw last (all_append (λ (e : Entry). stamp_of e < next_stamp) es ((next, r) ∷ []) table.stamped (rw waits_now (omega (arith, first)), tt));
+      below_next = rw last (all_append (λ (e : Entry). grant_seq_of e < next_grant_seq) es ((next, r) ∷ []) table.below_next (rw waits_now (omega (arith, first)), tt));
       distinct = rw (last, locks_same es next r (rw waits_now refl)) table.distinct;
       first = first;
       room = rw last (omega (arith, count, room));
@@ -64,8 +64,8 @@ more_table es next_stamp next r waits_now low table sorted =
     }
 
 -- the last request is taken back
-retracted_at : (number : ℕ) (r : Request) (es : List Entry) (next_stamp next : ℕ) → Found number es r → IsTable es next_stamp next → r.stage ≡ Pending → next ≡ number + 1 → IsStrictlySortedBy nat_cmp (keys_of (filter (other number) es)) → IsTable (filter (other number) es) next_stamp number
-retracted_at number r es next_stamp next f table waits_now last sorted =
+retracted_at : (number : ℕ) (r : Request) (es : List Entry) (next_grant_seq next : ℕ) → Found number es r → IsTable es next_grant_seq next → r.stage ≡ Pending → next ≡ number + 1 → IsStrictlySortedBy nat_cmp (keys_of (filter (other number) es)) → IsTable (filter (other number) es) next_grant_seq number
+retracted_at number r es next_grant_seq next f table waits_now last sorted =
     let apart : (l : List Entry) → AllByRecursion (λ (e : Entry). (e.0 == number) ≡ false) l → AllByRecursion (λ (e : Entry). other number e ≡ true) l = λ l all. all_weaker (λ (e : Entry). (e.0 == number) ≡ false) (λ e. other number e ≡ true) l (λ e no. rw no refl) all in
     let rest : filter (other number) es ≡ f.front ++ f.back = ap (filter (other number)) f.whole ∙ filter-append (other number) f.front ((number, r) ∷ f.back) ∙ rw (filter_whole (other number) f.front (apart f.front f.low), number_same number, filter_whole (other number) f.back (apart f.back f.high)) refl in
     let here : filter waiting ((number, r) ∷ f.back) ≡ (number, r) ∷ filter waiting f.back = rw waits_now refl in
@@ -76,7 +76,7 @@ retracted_at number r es next_stamp next f table waits_now last sorted =
     record {
       ordered = sorted;
       below = below_number es table.below;
-      stamped = all_filter (λ (e : Entry). stamp_of e < next_stamp) (other number) es table.stamped;
+      below_next = all_filter (λ (e : Entry). grant_seq_of e < next_grant_seq) (other number) es table.below_next;
       distinct = distinct_others number es table.distinct;
       first = table.first;
       room = omega (arith, many, few, room, last);
@@ -91,5 +91,5 @@ retracted_at number r es next_stamp next f table waits_now last sorted =
         by true h rest = rw h rest
         by false h rest = let less = all.0 in rw h (grind (arith, nat_tests, h, less, last), rest)
 
-pub retracted : (number : ℕ) (r : Request) (es : List Entry) (next_stamp next : ℕ) → IsTable es next_stamp next → lookup (is_at (nat_cmp number)) es ≡ Some r → r.stage ≡ Pending → next ≡ number + 1 → IsStrictlySortedBy nat_cmp (keys_of (filter (other number) es)) → IsTable (filter (other number) es) next_stamp number
-retracted number r es next_stamp next table there waits_now last sorted = retracted_at number r es next_stamp next (found number es r table.ordered there) table waits_now last sorted
+pub retracted : (number : ℕ) (r : Request) (es : List Entry) (next_grant_seq next : ℕ) → IsTable es next_grant_seq next → lookup (is_at (nat_cmp number)) es ≡ Some r → r.stage ≡ Pending → next ≡ number + 1 → IsStrictlySortedBy nat_cmp (keys_of (filter (other number) es)) → IsTable (filter (other number) es) next_grant_seq number
+retracted number r es next_grant_seq next table there waits_now last sorted = retracted_at number r es next_grant_seq next (found number es r table.ordered there) table waits_now last sorted

@@ -17,12 +17,12 @@ use Rattle.wl_machine.proofs.Lists.{and_first, and_second, any_map, or_false}
 use Rattle.wl_index.specs.declared.request.Owner.{Owner}
 use Rattle.wl_index.specs.declared.request.Owner.TheVariants as owner
 use Rattle.wl_index.specs.declared.agents.Agent.{Agent}
-use Rattle.wl_index.specs.Stamps.{by_stamp}
-use Rattle.wl_index.specs.Rows.{Entry, Tag, tag, tags_of, other, waits, waiting, holding, stamp_of, request_row, lock_row, pending_of, held_of}
+use Rattle.wl_index.specs.GrantOrder.{by_grant_seq}
+use Rattle.wl_index.specs.Rows.{Entry, Tag, tag, tags_of, other, waits, waiting, holding, grant_seq_of, request_row, lock_row, pending_of, held_of}
 use Rattle.wl_index.specs.Lists.{at, own_of, signed_of, IsOn, Keeps, IsGrouped, SameLists}
 use Rattle.wl_index.specs.Ends.{ends_request, ends_lock, HasNone, IsOwners}
-use Rattle.wl_index.specs.Locks.{Board, asked}
-use Rattle.wl_index.proofs.Lists.{all_append, any_by_stamp}
+use Rattle.wl_index.specs.Locks.{Board, request_for}
+use Rattle.wl_index.proofs.Lists.{all_append, any_by_grant_seq}
 use Rattle.wl_number_map.proofs.Keyed.{found_each, same_number}
 use Rattle.wl_index.proofs.Rows.{holds_or_waits}
 
@@ -67,9 +67,9 @@ grouped_gone agent (e ∷ es) before after others apart on =
 
 -- a request came, and its agent's lists have its number; or nothing came
 pub grouped_asked : (r : Result ℕ Memory) (before after : Board) (agent : ℕ) (ask : Ask) (members members' : List (ℕ × Agent)) → IsStrictlySortedBy nat_cmp (keys_of before.entries) → ((a : ℕ) → Keeps before.entries (at a members) (at a members')) → IsGrouped (tags_of before.entries) members
-    → IsOn (at agent members') before.next ask.signal → OnOk r (after ≡ record before { entries = before.entries ++ (before.next, asked agent ask) ∷ []; next = before.next + 1; names = with_name ask.name before.names }) → OnErr r (after ≡ before) → IsGrouped (tags_of after.entries) members'
+    → IsOn (at agent members') before.next ask.signal → OnOk r (after ≡ record before { entries = before.entries ++ (before.next, request_for agent ask) ∷ []; next = before.next + 1; names = with_name ask.name before.names }) → OnErr r (after ≡ before) → IsGrouped (tags_of after.entries) members'
 grouped_asked (Ok n) before after agent ask members members' sorted keeps grouped on came same =
-    rw (came, tags_more before.entries (before.next, asked agent ask)) (all_append (is_on members') (tags_of before.entries) (tag (before.next, asked agent ask) ∷ []) (grouped_kept before.entries members members' sorted keeps grouped) (on, tt))
+    rw (came, tags_more before.entries (before.next, request_for agent ask)) (all_append (is_on members') (tags_of before.entries) (tag (before.next, request_for agent ask) ∷ []) (grouped_kept before.entries members members' sorted keeps grouped) (on, tt))
 grouped_asked (Err e) before after agent ask members members' sorted keeps grouped on came same = rw same (grouped_kept before.entries members members' sorted keeps grouped)
 
 -- ---- what a look finds
@@ -132,4 +132,4 @@ none_of (owner.Agent agent) es pending held waits_are holds_are = neither (λ (e
     waiting_none = sym (any_map asks request_row (filter waiting es)) ∙ ap (list_any asks) waits_are ∙ any_out asks pending
 
     holding_none : list_any (λ (e : Entry). e.1.agent == agent) (filter holding es) ≡ false
-    holding_none = sym (any_map has lock_row (by_stamp stamp_of (filter holding es)) ∙ any_by_stamp stamp_of (λ (e : Entry). e.1.agent == agent) (filter holding es)) ∙ ap (list_any has) holds_are ∙ any_out has held
+    holding_none = sym (any_map has lock_row (by_grant_seq grant_seq_of (filter holding es)) ∙ any_by_grant_seq grant_seq_of (λ (e : Entry). e.1.agent == agent) (filter holding es)) ∙ ap (list_any has) holds_are ∙ any_out has held

@@ -15,10 +15,10 @@ use Rattle.wl_machine.specs.Grants.{locks}
 use Rattle.wl_machine.specs.Step.{lock_ends}
 use Rattle.wl_machine.proofs.Lists.{any_filter, filters_commute, any_map}
 use Rattle.wl_index.specs.declared.request.Request.{Request}
-use Rattle.wl_index.specs.Stamps.{by_stamp}
-use Rattle.wl_index.specs.Rows.{Entry, other, holds, holding, stamp_of, lock_row, held_of}
+use Rattle.wl_index.specs.GrantOrder.{by_grant_seq}
+use Rattle.wl_index.specs.Rows.{Entry, other, holds, holding, grant_seq_of, lock_row, held_of}
 use Rattle.wl_index.specs.Locks.{no_lock_on}
-use Rattle.wl_index.proofs.Lists.{filter_out, filter_none, filter_whole, all_weaker, any_by_stamp}
+use Rattle.wl_index.proofs.Lists.{filter_out, filter_none, filter_whole, all_weaker, any_by_grant_seq}
 use Rattle.wl_number_map.proofs.Keyed.{Found, found, same_number, number_same, above_apart}
 use Rattle.wl_index.proofs.Rows.{held_filter}
 use Rattle.wl_index.proofs.Ends.{other_lock, held_without}
@@ -55,7 +55,7 @@ held_in id (e ∷ es) sorted there = by (e.0 == id) refl (holding e) refl (held_
 -- the number of a lock is that of an entry that holds
 pub held_there : (id : ℕ) (es : List Entry) → IsStrictlySortedBy nat_cmp (keys_of es) → list_any (λ (l : HeldRow). l.number == id) (held_of es) ≡ true → (r : Request) × (lookup (is_at (nat_cmp id)) es ≡ Some r) × (holds r.stage ≡ true)
 held_there id es sorted there =
-    held_in id es sorted (sym (any_map (λ (l : HeldRow). l.number == id) lock_row (by_stamp stamp_of (filter holding es)) ∙ any_by_stamp stamp_of (λ e. e.0 == id) (filter holding es)) ∙ there)
+    held_in id es sorted (sym (any_map (λ (l : HeldRow). l.number == id) lock_row (by_grant_seq grant_seq_of (filter holding es)) ∙ any_by_grant_seq grant_seq_of (λ e. e.0 == id) (filter holding es)) ∙ there)
 
 one_lock : (id : ℕ) (es : List Entry) (r : Request) → Found id es r → holds r.stage ≡ true → filter (λ (l : HeldRow). l.number == id) (held_of es) ≡ lock_row (id, r) ∷ []
 one_lock id es r f holds_now =
@@ -115,7 +115,7 @@ pub no_number : (l : List HeldRow) → None ≡ slice_get (map (λ (x : HeldRow)
 no_number [] is = refl
 no_number (lock ∷ more) is = absurd (cc)
 
--- the lock whose number a line tells
+-- the lock whose number a queue tells
 pub record Stealing (name : List ℕ) (id : ℕ) (es : List Entry) : Type 0 where
   pub more : List HeldRow
   pub theft : Theft name id es more
@@ -157,5 +157,5 @@ pub no_theft : (name : List ℕ) (es : List Entry) → locks name (held_of es) �
 no_theft name es none =
     filter_out (λ (e : Entry). holding e && bytes_eq e.1.name name) es (
     any_both holding (λ (e : Entry). bytes_eq e.1.name name) es
-    ∙ sym (any_map (λ (l : HeldRow). bytes_eq l.name name) lock_row (by_stamp stamp_of (filter holding es)) ∙ any_by_stamp stamp_of (λ (e : Entry). bytes_eq e.1.name name) (filter holding es))
+    ∙ sym (any_map (λ (l : HeldRow). bytes_eq l.name name) lock_row (by_grant_seq grant_seq_of (filter holding es)) ∙ any_by_grant_seq grant_seq_of (λ (e : Entry). bytes_eq e.1.name name) (filter holding es))
     ∙ none_passes (λ (l : HeldRow). bytes_eq l.name name) (held_of es) none)

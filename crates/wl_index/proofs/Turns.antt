@@ -9,7 +9,7 @@ use Rattle.std.specs.BTreeMap.{is_at}
 use Rattle.std.specs.Ordering.{nat_cmp}
 use Rattle.std.proofs.lemmas.Bool.Decides.{nat_tests}
 use Rattle.std.proofs.lemmas.Map.Keys.{sorted_head, sorted_tail}
-use Rattle.wl_index.specs.Stamps.{Distinct, place, by_stamp, by_stamp_all, place_all}
+use Rattle.wl_index.specs.GrantOrder.{Distinct, place, by_grant_seq, by_grant_seq_all, place_all}
 use Rattle.wl_index.specs.Rows.{Entry, other}
 use Rattle.wl_index.specs.Ends.{AreLive}
 use Rattle.wl_index.proofs.Lists.{all_filter, all_weaker}
@@ -84,15 +84,15 @@ module _ {X : Type 0} (f g : X → ℕ) where
       by true rest = distinct
       by false rest = (place_all f (λ z. g y ≡ g z → ⊥) x l (λ same. distinct.0.0 (sym same)) distinct.1.0, rest)
 
-  pub distinct_by_stamp : (l : List X) → Distinct g l → Distinct g (by_stamp f l)
-  distinct_by_stamp [] distinct = tt
-  distinct_by_stamp (x ∷ l) distinct = distinct_place x (by_stamp f l) (by_stamp_all f (λ y. g x ≡ g y → ⊥) l distinct.0, distinct_by_stamp l distinct.1)
+  pub distinct_by_grant_seq : (l : List X) → Distinct g l → Distinct g (by_grant_seq f l)
+  distinct_by_grant_seq [] distinct = tt
+  distinct_by_grant_seq (x ∷ l) distinct = distinct_place x (by_grant_seq f l) (by_grant_seq_all f (λ y. g x ≡ g y → ⊥) l distinct.0, distinct_by_grant_seq l distinct.1)
 
--- those that pass, in whatever order of stamps, are live when their turns come
+-- those that pass, in whatever order of grant sequences, are live when their turns come
 pub passed_in_turn : (p : Entry → Bool) (es : List Entry) → IsStrictlySortedBy nat_cmp (keys_of es) → AreLive (keys_of (filter p es)) es
 passed_in_turn p es sorted = in_turn (filter p es) es (all_filter (λ (e : Entry). list_any (λ (x : Entry). x.0 == e.0) es ≡ true) p es (all_there es)) (distinct_filter number p es (all_distinct es sorted))
 
-pub ordered_in_turn : (f : Entry → ℕ) (p : Entry → Bool) (es : List Entry) → IsStrictlySortedBy nat_cmp (keys_of es) → AreLive (keys_of (by_stamp f (filter p es))) es
+pub ordered_in_turn : (f : Entry → ℕ) (p : Entry → Bool) (es : List Entry) → IsStrictlySortedBy nat_cmp (keys_of es) → AreLive (keys_of (by_grant_seq f (filter p es))) es
 ordered_in_turn f p es sorted =
-    in_turn (by_stamp f (filter p es)) es (by_stamp_all f (λ (e : Entry). list_any (λ (x : Entry). x.0 == e.0) es ≡ true) (filter p es) (all_filter (λ (e : Entry). list_any (λ (x : Entry). x.0 == e.0) es ≡ true) p es (all_there es)))
-    (distinct_by_stamp f number (filter p es) (distinct_filter number p es (all_distinct es sorted)))
+    in_turn (by_grant_seq f (filter p es)) es (by_grant_seq_all f (λ (e : Entry). list_any (λ (x : Entry). x.0 == e.0) es ≡ true) (filter p es) (all_filter (λ (e : Entry). list_any (λ (x : Entry). x.0 == e.0) es ≡ true) p es (all_there es)))
+    (distinct_by_grant_seq f number (filter p es) (distinct_filter number p es (all_distinct es sorted)))

@@ -1,4 +1,4 @@
--- Whether a name is in use, by its queue; and what settling another name leaves of it.
+-- Whether a name is in use, by its queue; and what processing another name leaves of it.
 use Rattle.std.proofs.Common.{◌≡◌, ℕ, Bool, true, false, cond, List, [], ◌∷◌, length, map, refl, ap, sym, ◌∙◌}
 use Rattle.std.specs.Prelude.{not, ◌&&◌, ◌||◌, filter}
 use Rattle.std.specs.Str.{bytes_eq}
@@ -6,11 +6,11 @@ use Rattle.std.specs.List.{list_any}
 use Rattle.std.specs.Cmp.Lexicographic.{same_text}
 use Rattle.wl_machine.specs.declared.rows.HeldRow.{HeldRow}
 use Rattle.wl_machine.specs.declared.rows.PendingRow.{PendingRow}
-use Rattle.wl_machine.specs.Grants.{is_empty, grants, locks, queue, Lists, settle_name, settle_names, in_use}
-use Rattle.wl_machine.proofs.Quiet.{locks_unsettled, queue_other}
+use Rattle.wl_machine.specs.Grants.{is_empty, grants, locks, queue, Lists, process_queue, process_queues, in_use}
+use Rattle.wl_machine.proofs.Quiet.{locks_unprocessed, queue_other}
 use Rattle.wl_machine.proofs.Lists.{or_false, other_bytes}
-use Rattle.wl_index.specs.Queue.{Waiting, Matches, is_busy, lock_and_mode, number_and_mode}
-use Rattle.wl_index.proofs.Local.{settle_quiet}
+use Rattle.wl_index.specs.NameQueue.{Waiting, Matches, is_busy, lock_and_mode, number_and_mode}
+use Rattle.wl_index.proofs.Local.{process_quiet}
 
 any_own : {X : Type 0} (p : X → Bool) (l : List X) → list_any p (filter p l) ≡ list_any p l
 any_own p [] = refl
@@ -39,14 +39,14 @@ unused_empty m held pending none =
     let parts = or_false (list_any (λ lock. bytes_eq lock.name m) held) (list_any (λ request. bytes_eq request.name m) pending) none in
     (filter_empty (λ (lock : HeldRow). bytes_eq lock.name m) held parts.0, filter_empty (λ (request : PendingRow). bytes_eq request.name m) pending parts.1)
 
--- ---- settling one name, seen from another
+-- ---- processing one name, seen from another
 
-pub settle_queue_other : (lists : Lists) (name m : List ℕ) → bytes_eq name m ≡ false → queue m (settle_name lists name).pending ≡ queue m lists.pending
-settle_queue_other lists name m differs = queue_other name m (length (grants (locks name lists.held) (queue name lists.pending))) lists.pending differs
+pub process_queue_other : (lists : Lists) (name m : List ℕ) → bytes_eq name m ≡ false → queue m (process_queue lists name).pending ≡ queue m lists.pending
+process_queue_other lists name m differs = queue_other name m (length (grants (locks name lists.held) (queue name lists.pending))) lists.pending differs
 
-pub use_other : (lists : Lists) (name m : List ℕ) → bytes_eq m name ≡ false → in_use (settle_name lists name).held (settle_name lists name).pending m ≡ in_use lists.held lists.pending m
+pub use_other : (lists : Lists) (name m : List ℕ) → bytes_eq m name ≡ false → in_use (process_queue lists name).held (process_queue lists name).pending m ≡ in_use lists.held lists.pending m
 use_other lists name m differs =
-    in_use_same m (settle_name lists name).held lists.held (settle_name lists name).pending lists.pending (locks_unsettled lists name m (other_bytes name m differs)) (settle_queue_other lists name m (other_bytes name m differs))
+    in_use_same m (process_queue lists name).held lists.held (process_queue lists name).pending lists.pending (locks_unprocessed lists name m (other_bytes name m differs)) (process_queue_other lists name m (other_bytes name m differs))
 
 -- ---- by the queue
 
@@ -68,14 +68,14 @@ busy_in_use w held pending matches =
     rw (matches.waits, matches.holders, busy_held (locks w.name held) (queue w.name pending), any_passed (λ (lock : HeldRow). bytes_eq lock.name w.name) held, any_passed (λ (request : PendingRow). bytes_eq request.name w.name) pending) refl
 
 -- a name out of use stays so
-pub stays_unused : (names : List (List ℕ)) (lists : Lists) (m : List ℕ) → in_use lists.held lists.pending m ≡ false → in_use (settle_names lists names).held (settle_names lists names).pending m ≡ false
+pub stays_unused : (names : List (List ℕ)) (lists : Lists) (m : List ℕ) → in_use lists.held lists.pending m ≡ false → in_use (process_queues lists names).held (process_queues lists names).pending m ≡ false
 stays_unused [] lists m unused = unused
-stays_unused (n ∷ names) lists m unused = stays_unused names (settle_name lists n) m (by (bytes_eq m n) refl)
+stays_unused (n ∷ names) lists m unused = stays_unused names (process_queue lists n) m (by (bytes_eq m n) refl)
   where
-    by : (b : Bool) → bytes_eq m n ≡ b → in_use (settle_name lists n).held (settle_name lists n).pending m ≡ false
+    by : (b : Bool) → bytes_eq m n ≡ b → in_use (process_queue lists n).held (process_queue lists n).pending m ≡ false
     by true h =
         let same : m ≡ n = same_text m n (sym h) in
         let empty = unused_empty m lists.held lists.pending unused in
         let none : grants (locks n lists.held) (queue n lists.pending) ≡ [] = ap (λ k. grants (locks k lists.held) (queue k lists.pending)) (sym same) ∙ ap (λ h. grants h (queue m lists.pending)) empty.0 ∙ ap (grants []) empty.1 in
-        ap (λ (l : Lists). in_use l.held l.pending m) (settle_quiet lists n none) ∙ unused
+        ap (λ (l : Lists). in_use l.held l.pending m) (process_quiet lists n none) ∙ unused
     by false h = use_other lists n m h ∙ unused

@@ -16,9 +16,9 @@ use Rattle.wl_machine.specs.Grants.{queue}
 use Rattle.wl_machine.specs.Step.{lock_info, request_info}
 use Rattle.wl_machine.proofs.Lists.{filter_map, map_twice}
 use Rattle.wl_index.specs.declared.request.Request.{Request}
-use Rattle.wl_index.specs.Queue.{Numbered, number_and_mode}
-use Rattle.wl_index.specs.Stamps.{by_stamp, by_stamp_all}
-use Rattle.wl_index.specs.Rows.{Entry, waiting, holding, stamp_of, request_row, lock_row, pending_of, held_of}
+use Rattle.wl_index.specs.NameQueue.{Numbered, number_and_mode}
+use Rattle.wl_index.specs.GrantOrder.{by_grant_seq, by_grant_seq_all}
+use Rattle.wl_index.specs.Rows.{Entry, waiting, holding, grant_seq_of, request_row, lock_row, pending_of, held_of}
 use Rattle.wl_index.proofs.Lists.{all_filter}
 use Rattle.wl_number_map.proofs.Keyed.{same_number, number_same}
 
@@ -96,13 +96,13 @@ queue_shown name es sorted =
 -- ---- the locks
 
 abbrev granted : List Entry → List Entry
-granted es = by_stamp stamp_of (filter holding es)
+granted es = by_grant_seq grant_seq_of (filter holding es)
 
 lock_numbers : (es : List Entry) → map (λ lock. lock.number) (held_of es) ≡ map (λ e. e.0) (granted es)
 lock_numbers es = map_twice (λ lock. lock.number) lock_row (granted es)
 
 granted_found : (es : List Entry) → IsStrictlySortedBy nat_cmp (keys_of es) → AllByRecursion (Finds es) (granted es)
-granted_found es sorted = by_stamp_all stamp_of (Finds es) (filter holding es) (all_filter (Finds es) holding es (all_found es sorted))
+granted_found es sorted = by_grant_seq_all grant_seq_of (Finds es) (filter holding es) (all_filter (Finds es) holding es (all_found es sorted))
 
 pub locks_stand : (es : List Entry) → IsStrictlySortedBy nat_cmp (keys_of es) → AllByRecursion (Stands es) (map (λ lock. lock.number) (held_of es))
 locks_stand es sorted = rw (lock_numbers es) (numbers_stand es (granted es) (granted_found es sorted))

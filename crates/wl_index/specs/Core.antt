@@ -3,18 +3,18 @@ use Rattle.std.specs.Prelude.{ℕ, ◌≤◌, length}
 use Rattle.wl_machine.specs.State.{State}
 use Rattle.wl_index.specs.Lists.{IsGrouped}
 use Rattle.wl_index.specs.Locks.{Board, IsQuiet}
-use Rattle.wl_index.specs.Roll.{Register, Roll}
+use Rattle.wl_index.specs.AgentRows.{Register, AgentRows}
 use Rattle.wl_index.specs.Rows.{held_of, pending_of, tags_of}
 
 -- the machine's state
-abbrev pub machine_state : Roll → Board → State
-machine_state roll board = record {
-  agents = roll.agents;
-  signals = roll.signals;
+abbrev pub machine_state : AgentRows → Board → State
+machine_state agent_index board = record {
+  agents = agent_index.agents;
+  signals = agent_index.signals;
   names = board.names;
   held = held_of board.entries;
   pending = pending_of board.entries;
-  next = record { agent = roll.next_agent; request = board.next; signal = roll.next_signal };
+  next = record { agent = agent_index.next_agent; request = board.next; signal = agent_index.next_signal };
 }
 
 -- nothing is left to grant, each live request is on the lists of its agent, and there is room for the places of all

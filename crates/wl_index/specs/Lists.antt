@@ -58,14 +58,14 @@ abbrev pub IsGrouped : List Tag → List (ℕ × Agent) → Type 0
 IsGrouped tags agents = AllByRecursion (λ (t : Tag). IsOn (at t.agent agents) t.number t.signal) tags
 
 -- the numbers that are listed of an owner
-abbrev pub listed : Owner → List (ℕ × Agent) → List ℕ
-listed (owner.Signal agent signal) agents = signed_of signal (at agent agents)
-listed (owner.Agent agent) agents = own_of (at agent agents)
+abbrev pub numbers_of_owner : Owner → List (ℕ × Agent) → List ℕ
+numbers_of_owner (owner.Signal agent signal) agents = signed_of signal (at agent agents)
+numbers_of_owner (owner.Agent agent) agents = own_of (at agent agents)
 
 -- the lists stay
 abbrev pub SameLists : List (ℕ × Agent) → List (ℕ × Agent) → Type 0
 SameLists before after = (agent : ℕ) → (own_of (at agent after) ≡ own_of (at agent before)) × ((signal : ℕ) → signed_of signal (at agent after) ≡ signed_of signal (at agent before))
 
 -- whether an entry's number is not among these
-abbrev pub spared : {X : Type 0} → List ℕ → ℕ × X → Bool
-spared numbers e = not (list_any (λ n. n == e.0) numbers)
+abbrev pub is_spared : {X : Type 0} → List ℕ → ℕ × X → Bool
+is_spared numbers e = not (list_any (λ n. n == e.0) numbers)

@@ -10,11 +10,11 @@ use Rattle.wl_types.specs.declared.phases.Change.{Change}
 use Rattle.wl_types.specs.declared.words.Mode.TheVariants.{Exclusive}
 use Rattle.wl_machine.specs.declared.rows.HeldRow.{HeldRow}
 use Rattle.wl_machine.specs.declared.rows.PendingRow.{PendingRow}
-use Rattle.wl_machine.specs.Grants.{Lists, grants, in_use, locks, queue, settle_names}
+use Rattle.wl_machine.specs.Grants.{Lists, grants, in_use, locks, queue, process_queues}
 use Rattle.wl_index.specs.declared.request.Request.{Request}
 use Rattle.wl_index.specs.declared.request.Stage.TheVariants.{Pending}
 use Rattle.wl_index.specs.Event.{Happened}
-use Rattle.wl_index.specs.Queue.{Matches}
+use Rattle.wl_index.specs.NameQueue.{Matches}
 use Rattle.wl_index.specs.Queues.{AreQueues, Placed, names_of, place_of}
 use Rattle.wl_index.specs.Rows.{Entry, Rows, holding, held_of, pending_of}
 
@@ -29,8 +29,8 @@ abbrev pub board : Rows → List Placed → Happened → Board
 board rows queues event = record { entries = rows.entries; next = rows.next; names = names_of queues; changes = event.changes }
 
 -- the request that an agent asks for
-abbrev pub asked : ℕ → Ask → Request
-asked agent ask = record { agent = agent; name = ask.name; mode = ask.mode; signal = ask.signal; stage = Pending }
+abbrev pub request_for : ℕ → Ask → Request
+request_for agent ask = record { agent = agent; name = ask.name; mode = ask.mode; signal = ask.signal; stage = Pending }
 
 -- whether an entry is no lock of this name
 abbrev pub no_lock_on : List ℕ → Entry → Bool
@@ -63,10 +63,10 @@ pub record AreLocks (rows : Rows) (queues : List Placed) (event : Happened) : Ty
   pub below : AllByRecursion (λ e. e.0 < rows.next) queues
   pub room : length (held_of rows.entries) + 2 * length (pending_of rows.entries) ≤ event.room
 
--- on the way to the lists that settling all names gives, and to the names that are then in use: the touched are still to be
--- settled
+-- on the way to the lists that processing all names gives, and to the names that are then in use: the touched are still to be
+-- processed
 pub record Underway (target : Lists) (stay : List (List ℕ)) (queues : List Placed) (now : Lists) (touched : List ℕ) : Type 0 where
-  pub reaches : settle_names now (names_of queues) ≡ target
+  pub reaches : process_queues now (names_of queues) ≡ target
   pub staying : filter (in_use target.held target.pending) (names_of queues) ≡ stay
   pub stands : Stands queues now.held now.pending touched
 

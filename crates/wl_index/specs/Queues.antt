@@ -7,7 +7,7 @@ use Rattle.std.specs.Map.{keys_of, lookup}
 use Rattle.std.specs.BTreeMap.{is_at}
 use Rattle.std.specs.Ordering.{nat_cmp}
 use Rattle.wl_types.specs.declared.words.Mode.{Mode}
-use Rattle.wl_index.specs.Queue.{Waiting, is_busy, next_grant, with_one_more}
+use Rattle.wl_index.specs.NameQueue.{Waiting, is_busy, next_grant, with_one_more}
 
 -- a queue and its place
 abbrev pub Placed : Type 0
@@ -40,16 +40,16 @@ grant_at (Some w) = next_grant w
 abbrev pub changed : ℕ → (Waiting → Waiting) → Placed → Placed
 changed place f e = (e.0, if e.0 == place then f e.1 else e.1)
 
-abbrev pub updated : ℕ → (Waiting → Waiting) → List Placed → List Placed
-updated place f queues = map (changed place f) queues
+abbrev pub with_updated : ℕ → (Waiting → Waiting) → List Placed → List Placed
+with_updated place f queues = map (changed place f) queues
 
 -- a request of this name comes to the end of its queue; a name that is out of use comes into use behind all others
-abbrev pub joined_at : Option ℕ → List ℕ → ℕ → Mode → List Placed → List Placed
-joined_at None name number mode queues = queues ++ (number, record { name = name; waits = (number, mode) ∷ []; holders = [] }) ∷ []
-joined_at (Some place) name number mode queues = updated place (λ w. with_one_more w number mode) queues
+abbrev pub with_joined_at : Option ℕ → List ℕ → ℕ → Mode → List Placed → List Placed
+with_joined_at None name number mode queues = queues ++ (number, record { name = name; waits = (number, mode) ∷ []; holders = [] }) ∷ []
+with_joined_at (Some place) name number mode queues = with_updated place (λ w. with_one_more w number mode) queues
 
-abbrev pub joined : List ℕ → ℕ → Mode → List Placed → List Placed
-joined name number mode queues = joined_at (place_of name queues) name number mode queues
+abbrev pub with_joined : List ℕ → ℕ → Mode → List Placed → List Placed
+with_joined name number mode queues = with_joined_at (place_of name queues) name number mode queues
 
 -- without the queue at a place, if it is out of use
 abbrev pub stays : ℕ → Placed → Bool

@@ -11,7 +11,7 @@ use Rattle.wl_machine.specs.declared.rows.PendingRow.{PendingRow}
 use Rattle.wl_index.specs.declared.request.Request.{Request}
 use Rattle.wl_index.specs.declared.request.Stage.{Stage}
 use Rattle.wl_index.specs.declared.request.Stage.TheVariants.{Pending, Held}
-use Rattle.wl_index.specs.Stamps.{by_stamp, Distinct}
+use Rattle.wl_index.specs.GrantOrder.{by_grant_seq, Distinct}
 
 -- a live request with its number
 abbrev pub Entry : Type 0
@@ -19,16 +19,16 @@ Entry = ℕ × Request
 
 abbrev pub waits : Stage → Bool
 waits Pending = true
-waits (Held stamp taken) = false
+waits (Held grant_seq taken) = false
 
 abbrev pub holds : Stage → Bool
 holds Pending = false
-holds (Held stamp taken) = true
+holds (Held grant_seq taken) = true
 
 -- the place of a lock in the order of grants
-abbrev pub stamp : Stage → ℕ
-stamp Pending = 0
-stamp (Held at taken) = at
+abbrev pub grant_seq : Stage → ℕ
+grant_seq Pending = 0
+grant_seq (Held at taken) = at
 
 abbrev pub is_taken : Stage → Bool
 is_taken Pending = false
@@ -49,8 +49,8 @@ waiting e = waits e.1.stage
 abbrev pub holding : Entry → Bool
 holding e = holds e.1.stage
 
-abbrev pub stamp_of : Entry → ℕ
-stamp_of e = stamp e.1.stage
+abbrev pub grant_seq_of : Entry → ℕ
+grant_seq_of e = grant_seq e.1.stage
 
 abbrev pub request_row : Entry → PendingRow
 request_row e = record { number = e.0; agent = e.1.agent; name = e.1.name; mode = e.1.mode; signal = e.1.signal }
@@ -62,9 +62,9 @@ lock_row e = record { number = e.0; agent = e.1.agent; name = e.1.name; mode = e
 abbrev pub pending_of : List Entry → List PendingRow
 pending_of es = map request_row (filter waiting es)
 
--- those that hold, by stamp
+-- those that hold, by grant sequence
 abbrev pub held_of : List Entry → List HeldRow
-held_of es = map lock_row (by_stamp stamp_of (filter holding es))
+held_of es = map lock_row (by_grant_seq grant_seq_of (filter holding es))
 
 -- the live requests by number, and the next number
 pub record Rows : Type 0 where
@@ -91,15 +91,15 @@ abbrev pub Apart : List PendingRow → Type 0
 Apart [] = Unit {0}
 Apart (request ∷ requests) = AllByRecursion (λ (other : PendingRow). (other.number == request.number) ≡ false) requests × Apart requests
 
--- numbers rise and are below the next; no two locks have one stamp, and stamps are below the next, which stays within the
--- numbers after one grant for each that waits
-pub record IsTable (es : List Entry) (next_stamp next : ℕ) : Type 0 where
+-- numbers rise and are below the next; no two locks have one grant sequence, and grant sequences are below the next, which stays
+-- within the numbers after one grant for each that waits
+pub record IsTable (es : List Entry) (next_grant_seq next : ℕ) : Type 0 where
   pub ordered : IsStrictlySortedBy nat_cmp (keys_of es)
   pub below : AllByRecursion (λ e. e.0 < next) es
-  pub stamped : AllByRecursion (λ e. stamp_of e < next_stamp) es
-  pub distinct : Distinct stamp_of (filter holding es)
-  pub first : 1 ≤ next_stamp
-  pub room : next_stamp + length (filter waiting es) ≤ next
+  pub below_next : AllByRecursion (λ e. grant_seq_of e < next_grant_seq) es
+  pub distinct : Distinct grant_seq_of (filter holding es)
+  pub first : 1 ≤ next_grant_seq
+  pub room : next_grant_seq + length (filter waiting es) ≤ next
   pub high : next ≤ 9007199254740992
 
 -- the entry of an agent's lock, and the lists without it

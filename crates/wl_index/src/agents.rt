@@ -8,9 +8,9 @@ ghost use Rattle.std.specs.Ordering.{nat_cmp};
 ghost use Rattle.wl_index.specs.declared.agents.Agent.{Agent};
 ghost use Rattle.wl_machine.specs.Refusals.{is_window, reason_in, signals_of};
 ghost use Rattle.wl_machine.specs.Step.{with_active, with_reason};
-ghost use Rattle.wl_index.specs.Roll.{aborted, agent_row, signal_row};
+ghost use Rattle.wl_index.specs.AgentRows.{aborted, agent_row, signal_row};
 ghost use Rattle.std.specs.Option.{option_copied};
-ghost use Rattle.wl_index.specs.Lists.{IsOn, IsRising, Keeps, KeepsLive, SameLists, at, list_at, listed, only_live, own_of, signed_of, spared};
+ghost use Rattle.wl_index.specs.Lists.{IsOn, IsRising, Keeps, KeepsLive, SameLists, at, list_at, numbers_of_owner, only_live, own_of, signed_of, is_spared};
 
 use crate::listing::{enlist, retain_live};
 use crate::request::Owner;
@@ -53,7 +53,7 @@ impl Model for Agents {
     ghost use Rattle.std.specs.Coded.{codes};
     ghost use Rattle.wl_index.specs.contracts.agents.Agent as agent;
     ghost use Rattle.wl_index.specs.Lists.{IsRising, at};
-    ghost use Rattle.wl_index.specs.Roll.{Register, IsRoll, agent_row, signal_row};
+    ghost use Rattle.wl_index.specs.AgentRows.{Register, IsAgentIndex, agent_row, signal_row};
 
     ghost Value = { Register };
 
@@ -69,7 +69,7 @@ impl Model for Agents {
       members = a.agents.entries;
     } };
 
-    ghost invariant = { λ a. IsRoll a.agents.entries a.signals.entries a.next_agent a.next_signal × ((agent : ℕ) → IsRising (at agent a.agents.entries)) };
+    ghost invariant = { λ a. IsAgentIndex a.agents.entries a.signals.entries a.next_agent a.next_signal × ((agent : ℕ) → IsRising (at agent a.agents.entries)) };
 }
 
 impl Agents {
@@ -122,7 +122,7 @@ impl Agents {
     pub fn open(&mut self, kind: Kind) -> Result<u64, Memory>
         requires { self.old.rows.next_agent < 9007199254740992 }
         ensures number { IfOk result (λ n. n ≡ self.old.rows.next_agent) }
-        ensures entered { OnOk result (self.new.rows ≡ record self.old.rows { agents = self.old.rows.agents ++ record { number = self.old.rows.next_agent; kind = kind; active = true } ∷ []; next_agent = self.old.rows.next_agent + 1 }) }
+        ensures opened { OnOk result (self.new.rows ≡ record self.old.rows { agents = self.old.rows.agents ++ record { number = self.old.rows.next_agent; kind = kind; active = true } ∷ []; next_agent = self.old.rows.next_agent + 1 }) }
         ensures err { OnErr result (self.new ≡ self.old) }
         ensures lists { SameLists self.old.members self.new.members }
     {
@@ -225,7 +225,7 @@ impl Agents {
     }
 
     /// The agent and its signals are gone. It costs what is gone.
-    pub fn leave(&mut self, agent: u64)
+    pub fn close(&mut self, agent: u64)
         requires { list_any (λ row. row.number == agent) self.old.rows.agents ≡ true }
         ensures rows { self.new.rows ≡ record self.old.rows { agents = filter (λ row. not (row.number == agent)) self.old.rows.agents; signals = filter (λ row. not (row.agent == agent)) self.old.rows.signals } }
         ensures others { (other : ℕ) → (other == agent) ≡ false → at other self.new.members ≡ at other self.old.members }
@@ -255,7 +255,7 @@ impl Agents {
 
     /// The numbers by which an owner's live requests are found, rising. Others may be among them.
     pub(crate) fn numbers(&self, owner: Owner) -> &[u64]
-        ensures numbers { result.now ≡ listed owner self.now.members }
+        ensures numbers { result.now ≡ numbers_of_owner owner self.now.members }
         ensures rising { IsStrictlySortedBy nat_cmp result.now }
     {
         match owner {
@@ -406,7 +406,7 @@ fn set_reason_of(signal: &mut Signal, agent: u64, reason: Reason)
 /// The signals of these numbers are gone.
 fn remove_signals(signals: &mut NumberMap<Signal>, made: &BTreeMap<u64, Vec<u64>>)
     requires { IsStrictlySortedBy nat_cmp (keys_of signals.old.entries) }
-    ensures entries { signals.new.entries ≡ filter (spared (keys_of made.now.entries)) signals.old.entries }
+    ensures entries { signals.new.entries ≡ filter (is_spared (keys_of made.now.entries)) signals.old.entries }
     ensures ordered { IsStrictlySortedBy nat_cmp (keys_of signals.new.entries) }
 {
     for number in made.keys() {

@@ -8,10 +8,10 @@ ghost use Rattle.wl_machine.specs.Step.{request_ends, lock_ends};
 ghost use Rattle.wl_index.specs.declared.request.Standing.TheVariants.{Waits, Holds};
 ghost use Rattle.wl_index.specs.declared.request.Place.{Place};
 ghost use Rattle.wl_index.specs.Ends.{IsOwners, ends_request, ends_lock, ends_entry, place_ends, numbers_of, without_ends, AreLive};
-ghost use Rattle.wl_index.specs.Lists.{spared};
+ghost use Rattle.wl_index.specs.Lists.{is_spared};
 ghost use Rattle.wl_index.specs.Order.{place_of};
-ghost use Rattle.wl_index.specs.Rows.{held_of, pending_of, holding, stamp_of};
-ghost use Rattle.wl_index.specs.Stamps.{Distinct};
+ghost use Rattle.wl_index.specs.Rows.{held_of, pending_of, holding, grant_seq_of};
+ghost use Rattle.wl_index.specs.GrantOrder.{Distinct};
 
 use crate::locks::Locks;
 use crate::order::sort;
@@ -29,7 +29,7 @@ pub(crate) struct Ending {
 /// These requests and locks end, in this order.
 fn end_all(locks: &mut Locks, places: &[Place], phase: Phase)
     requires { AreLive (numbers_of places.now) locks.old.entries }
-    ensures { locks.new ≡ record locks.old { entries = filter (spared (numbers_of places.now)) locks.old.entries; changes = locks.old.changes ++ place_ends phase places.now } }
+    ensures { locks.new ≡ record locks.old { entries = filter (is_spared (numbers_of places.now)) locks.old.entries; changes = locks.old.changes ++ place_ends phase places.now } }
 {
     for place in places {
         locks.end(place.number, phase);

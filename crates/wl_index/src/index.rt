@@ -5,7 +5,7 @@ ghost use Rattle.wl_machine.specs.Refusals.{refusal};
 ghost use Rattle.wl_machine.specs.Step.{Gives, available, new_request, with_name};
 ghost use Rattle.wl_index.specs.Core.{machine_state};
 ghost use Rattle.wl_index.specs.Lists.{IsGrouped};
-ghost use Rattle.wl_index.specs.Locks.{asked};
+ghost use Rattle.wl_index.specs.Locks.{request_for};
 ghost use Rattle.wl_index.specs.Rows.{tags_of};
 
 use crate::agents::Agents;
@@ -13,7 +13,7 @@ use crate::copies::plain_copy;
 use crate::ending::{Ending, end_owned};
 use crate::locks::Locks;
 use crate::request::{Owner, Place};
-use crate::snapshots::shown;
+use crate::snapshots::make_snapshot;
 use std::alloc::Global;
 use std::hash::RandomState;
 use std::marker::Model;
@@ -69,7 +69,7 @@ impl IndexCore {
             return self.locks.refuse();
         }
         self.ending.reserve(self.locks.requests().len() + 1)?;
-        let number = enter(&mut self.agents, &mut self.locks, agent, ask)?;
+        let number = enqueue(&mut self.agents, &mut self.locks, agent, ask)?;
         self.locks.process();
         Ok(number)
     }
@@ -83,7 +83,7 @@ impl IndexCore {
         ensures unchanged { OnErr result (self.new ≡ self.old) }
     {
         self.ending.reserve(self.locks.requests().len() + 1)?;
-        let number = enter(&mut self.agents, &mut self.locks, agent, ask)?;
+        let number = enqueue(&mut self.agents, &mut self.locks, agent, ask)?;
         self.locks.oust(ask.name.as_str());
         self.locks.seize(ask.name.as_str(), number);
         self.locks.process();
@@ -92,11 +92,11 @@ impl IndexCore {
 }
 
 /// A request that nothing refuses comes onto the lists of its agent, and to the end of its queue.
-fn enter(agents: &mut Agents, locks: &mut Locks, agent: u64, ask: &Ask) -> Result<u64, Memory>
+fn enqueue(agents: &mut Agents, locks: &mut Locks, agent: u64, ask: &Ask) -> Result<u64, Memory>
     requires accepted { refusal (machine_state agents.old.rows locks.old) (Command.Request agent ask.now) ≡ None }
     requires grouped { IsGrouped (tags_of locks.old.entries) agents.old.members }
     ensures number { IfOk result (λ n. n ≡ locks.old.next) }
-    ensures entered { OnOk result (locks.new ≡ record locks.old { entries = locks.old.entries ++ (locks.old.next, asked agent ask.now) ∷ []; next = locks.old.next + 1; names = with_name ask.now.name locks.old.names }) }
+    ensures enqueued { OnOk result (locks.new ≡ record locks.old { entries = locks.old.entries ++ (locks.old.next, request_for agent ask.now) ∷ []; next = locks.old.next + 1; names = with_name ask.now.name locks.old.names }) }
     ensures below { OnOk result (AllByRecursion (λ e. e.0 < locks.old.next) locks.old.entries) }
     ensures rows { agents.new.rows ≡ agents.old.rows }
     ensures grouped { IsGrouped (tags_of locks.new.entries) agents.new.members }
@@ -104,7 +104,7 @@ fn enter(agents: &mut Agents, locks: &mut Locks, agent: u64, ask: &Ask) -> Resul
 {
     let number = locks.requests().next();
     agents.enlist(locks.requests(), agent, ask.signal, number)?;
-    locks.enter(agent, ask)
+    locks.enqueue(agent, ask)
 }
 
 impl LockCore for IndexCore {
@@ -227,7 +227,7 @@ impl LockCore for IndexCore {
         };
         let numbers = self.agents.numbers(ending.owner);
         end_owned(&mut self.locks, numbers, ending, &mut self.ending);
-        self.agents.leave(agent);
+        self.agents.close(agent);
         self.locks.process();
         Ok(())
     }
@@ -240,7 +240,7 @@ impl LockCore for IndexCore {
         if let Some(refusal) = self.query_refusal(agent) {
             return Err(refusal);
         }
-        match shown(self.alloc, &self.locks) {
+        match make_snapshot(self.alloc, &self.locks) {
             Ok(snapshot) => Ok(snapshot),
             Err(_) => Err(Refusal::Memory),
         }

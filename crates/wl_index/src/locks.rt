@@ -8,12 +8,12 @@ ghost use Rattle.std.specs.Ordering.{nat_cmp};
 ghost use Rattle.wl_types.specs.declared.phases.Phase.TheVariants.{Stolen, Granted, Unavailable};
 ghost use Rattle.wl_machine.specs.declared.rows.HeldRow.{HeldRow};
 ghost use Rattle.wl_machine.specs.declared.rows.PendingRow.{PendingRow};
-ghost use Rattle.wl_machine.specs.Grants.{Lists, granted_lock, grants, in_use, is_empty, lists_of, locks, queue, settle_names};
+ghost use Rattle.wl_machine.specs.Grants.{Lists, granted_lock, grants, in_use, is_empty, lists_of, locks, queue, process_queues};
 ghost use Rattle.wl_machine.specs.Step.{is_lock_of, is_untaken, lock_ends, with_name, with_taken};
 ghost use Rattle.wl_index.specs.Rows.{IsLock, held_of, pending_of, tags_of, other};
-ghost use Rattle.wl_index.specs.Queue.{Matches};
+ghost use Rattle.wl_index.specs.NameQueue.{Matches};
 ghost use Rattle.wl_index.specs.Queues.{names_of};
-ghost use Rattle.wl_index.specs.Locks.{IsQuiet, Stands, Underway, WaitsAlone, asked, no_lock_on};
+ghost use Rattle.wl_index.specs.Locks.{IsQuiet, Stands, Underway, WaitsAlone, request_for, no_lock_on};
 
 use crate::event::Event;
 use crate::queues::Queues;
@@ -116,11 +116,11 @@ impl Locks {
     }
 
     /// A request comes to the end of its name's queue, with the next number. All that can fail comes first.
-    pub fn enter(&mut self, agent: u64, ask: &Ask) -> Result<u64, Memory>
+    pub fn enqueue(&mut self, agent: u64, ask: &Ask) -> Result<u64, Memory>
         requires few { length self.old.entries < 65536 }
         requires low { self.old.next < 9007199254740992 }
         ensures number { IfOk result (λ n. n ≡ self.old.next) }
-        ensures entered { OnOk result (self.new ≡ record self.old { entries = self.old.entries ++ (self.old.next, asked agent ask.now) ∷ []; next = self.old.next + 1; names = with_name ask.now.name self.old.names }) }
+        ensures enqueued { OnOk result (self.new ≡ record self.old { entries = self.old.entries ++ (self.old.next, request_for agent ask.now) ∷ []; next = self.old.next + 1; names = with_name ask.now.name self.old.names }) }
         ensures below { OnOk result (AllByRecursion (λ e. e.0 < self.old.next) self.old.entries) }
         ensures err { OnErr result (self.new ≡ self.old) }
     {
@@ -192,7 +192,7 @@ impl Locks {
 
     /// Processes the queues of the touched names, in the order in which the names came into use. A name out of use leaves.
     pub fn process(&mut self)
-        ensures settled { lists_of (held_of self.new.entries) (pending_of self.new.entries) self.new.changes ≡ settle_names (lists_of (held_of self.old.entries) (pending_of self.old.entries) self.old.changes) self.old.names }
+        ensures processed { lists_of (held_of self.new.entries) (pending_of self.new.entries) self.new.changes ≡ process_queues (lists_of (held_of self.old.entries) (pending_of self.old.entries) self.old.changes) self.old.names }
         ensures names { self.new.names ≡ filter (in_use (held_of self.new.entries) (pending_of self.new.entries)) self.old.names }
         ensures quiet { IsQuiet (held_of self.new.entries) (pending_of self.new.entries) }
         ensures next { self.new.next ≡ self.old.next }

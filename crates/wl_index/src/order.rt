@@ -1,6 +1,6 @@
 //! The locks in the order of their grants.
 ghost use Rattle.std.specs.Prelude.{◌≡◌, vec_len, vec_capacity, OnOk, IfOk, ◌∷◌, [], ◌++◌, map};
-ghost use Rattle.wl_index.specs.Stamps.{by_stamp, Distinct};
+ghost use Rattle.wl_index.specs.GrantOrder.{by_grant_seq, Distinct};
 ghost use Rattle.wl_index.specs.Order.{places_of};
 ghost use Rattle.wl_index.specs.declared.request.Place.{Place};
 
@@ -24,20 +24,20 @@ pub(crate) fn places(requests: &NumberMap<Request>, alloc: Global) -> Result<Vec
 fn add_lock(places: &mut Vec<Place>, number: u64, request: &Request) -> Result<(), Memory>
     ensures { OnOk result (places.new.items ≡ places.old.items ++ places_of ((number, request.now) ∷ [])) }
 {
-    if let Stage::Held(stamp, _) = request.stage {
-        places.push(Place { stamp, number })?;
+    if let Stage::Held(grant_seq, _) = request.stage {
+        places.push(Place { grant_seq, number })?;
     }
     Ok(())
 }
 
-/// Sorts places by stamp, in place and without memory.
+/// Sorts places by grant sequence, in place and without memory.
 pub(crate) fn sort(places: &mut Vec<Place>)
-    requires { Distinct (λ (p : Place). p.stamp) places.old.items }
-    ensures items { places.new.items ≡ by_stamp (λ (p : Place). p.stamp) places.old.items }
+    requires { Distinct (λ (p : Place). p.grant_seq) places.old.items }
+    ensures items { places.new.items ≡ by_grant_seq (λ (p : Place). p.grant_seq) places.old.items }
     ensures len { vec_len places.new ≡ vec_len places.old }
     ensures capacity { vec_capacity places.new ≡ vec_capacity places.old }
 {
-    places.sort_unstable_by_key(|place| place.stamp);
+    places.sort_unstable_by_key(|place| place.grant_seq);
 }
 
 /// The numbers of places.

@@ -3,7 +3,7 @@ ghost use Rattle.std.specs.Prelude.{map, ◌≡◌, ◌<◌, [], ◌∷◌, OnOk
 ghost use Rattle.std.specs.List.{AllByRecursion};
 ghost use Rattle.wl_types.specs.declared.words.Mode.TheVariants.{Exclusive};
 ghost use Rattle.wl_machine.specs.Grants.{is_empty};
-ghost use Rattle.wl_index.specs.Queue.{admits, excludes, next_grant, after_grant, is_busy, with_one_more, without, holder_without, head_number, live_after, first_left, first_or};
+ghost use Rattle.wl_index.specs.NameQueue.{admits, excludes, next_grant, after_grant, is_busy, with_one_more, without, holder_without, head_number, live_after, first_left, first_or};
 
 use std::alloc::Global;
 use std::collections::BTreeMap;
@@ -16,7 +16,7 @@ use wl_types::{Memory, Mode, Name};
 /// Who waits for a name and who holds it. Those that share it stand in front of those that wait, so that a grant takes
 /// no memory: it moves the mark of the first that waits. An exclusive holder is kept apart.
 #[derive(Drop)]
-pub struct Queue {
+pub struct NameQueue {
     name: Name,
     live: BTreeMap<u64, Mode>,
     // The first of the live that waits.
@@ -24,8 +24,8 @@ pub struct Queue {
     holder: Option<u64>,
 }
 
-impl Model for Queue {
-    ghost use Rattle.wl_index.specs.Queue.{Waiting, holders_of, waits_from, IsQueue};
+impl Model for NameQueue {
+    ghost use Rattle.wl_index.specs.NameQueue.{Waiting, holders_of, waits_from, IsQueue};
 
     ghost Value = { Waiting };
 
@@ -83,11 +83,11 @@ fn or_number(first: Option<u64>, number: u64) -> Option<u64>
     }
 }
 
-impl Queue {
-    pub fn new(alloc: Global, name: Name) -> Queue
+impl NameQueue {
+    pub fn new(alloc: Global, name: Name) -> NameQueue
         ensures { result ≡ record { name = name; waits = []; holders = [] } }
     {
-        Queue {
+        NameQueue {
             name,
             live: BTreeMap::new(alloc),
             first: None,

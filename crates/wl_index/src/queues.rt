@@ -5,10 +5,10 @@ ghost use Rattle.std.specs.Map.{lookup};
 ghost use Rattle.std.specs.BTreeMap.{is_at};
 ghost use Rattle.std.specs.Option.{option_copied};
 ghost use Rattle.std.specs.Ordering.{nat_cmp};
-ghost use Rattle.wl_index.specs.Queue.{Waiting, without, seized, after_grant, is_busy, with_one_more};
-ghost use Rattle.wl_index.specs.Queues.{AreQueues, IsBelow, at_place, grant_at, place_of, queue_of, joined, updated, without_idle};
+ghost use Rattle.wl_index.specs.NameQueue.{Waiting, without, after_seize, after_grant, is_busy, with_one_more};
+ghost use Rattle.wl_index.specs.Queues.{AreQueues, IsBelow, at_place, grant_at, place_of, queue_of, with_joined, with_updated, without_idle};
 
-use crate::queue::Queue;
+use crate::queue::NameQueue;
 use indexmap::IndexMap;
 use std::alloc::Global;
 use std::hash::RandomState;
@@ -21,7 +21,7 @@ use wl_types::{Memory, Mode, Name};
 /// strangers choose them.
 #[derive(Drop)]
 pub struct Queues {
-    queues: NumberMap<Queue>,
+    queues: NumberMap<NameQueue>,
     places: IndexMap<String, u64, RandomState>,
     alloc: Global,
 }
@@ -50,7 +50,7 @@ impl Queues {
     }
 
     /// The queues with their places, in the order in which their names came into use.
-    pub fn rows(&self, alloc: Global) -> Result<Rows<'_, Queue>, Memory>
+    pub fn rows(&self, alloc: Global) -> Result<Rows<'_, NameQueue>, Memory>
         ensures { IfOk result (λ rows. rows ≡ self.now) }
     {
         Ok(self.queues.rows(alloc)?)
@@ -65,7 +65,7 @@ impl Queues {
     }
 
     /// A name's queue, if the name is in use.
-    pub fn get(&self, name: &str) -> Option<&Queue>
+    pub fn get(&self, name: &str) -> Option<&NameQueue>
         ensures { option_copied result ≡ queue_of name.now self.now }
     {
         self.queues.get(self.place(name)?)
@@ -77,7 +77,7 @@ impl Queues {
         requires places { AllByRecursion (λ e. e.0 < number) self.old }
         requires below { AllByRecursion (λ e. IsBelow number e.1) self.old }
         ensures place { IfOk result (λ place. place_of name.now self.new ≡ Some place) }
-        ensures joined { OnOk result (self.new ≡ joined name.now number mode self.old) }
+        ensures with_joined { OnOk result (self.new ≡ with_joined name.now number mode self.old) }
         ensures err { OnErr result (self.new ≡ self.old) }
         ensures are { AreQueues self.new }
     {
@@ -100,7 +100,7 @@ impl Queues {
         let Ok(named) = Name::of(self.alloc, name) else {
             return Err(Memory);
         };
-        let mut queue = Queue::new(self.alloc, named);
+        let mut queue = NameQueue::new(self.alloc, named);
         queue.push(number, mode)?;
         let key = String::from_str(self.alloc, name)?;
         self.queues.insert(number, queue)?;
@@ -113,7 +113,7 @@ impl Queues {
 
     /// The request or the lock of this number leaves the queue at a place.
     pub fn remove(&mut self, place: u64, number: u64)
-        ensures queues { self.new ≡ updated place (without number) self.old }
+        ensures queues { self.new ≡ with_updated place (without number) self.old }
         ensures are { AreQueues self.new }
     {
         let Some(queue) = self.queues.get_mut(place) else {
@@ -125,7 +125,7 @@ impl Queues {
     /// A request that waits in the queue at a place takes the name, which nobody holds.
     pub fn seize(&mut self, place: u64, number: u64)
         requires { IfSome (at_place place self.old) (λ w. w.holders ≡ []) }
-        ensures queues { self.new ≡ updated place (seized number) self.old }
+        ensures queues { self.new ≡ with_updated place (after_seize number) self.old }
         ensures are { AreQueues self.new }
     {
         let Some(queue) = self.queues.get_mut(place) else {
@@ -138,7 +138,7 @@ impl Queues {
     /// The first that waits in the queue at a place holds the name, if it may. Its number is the answer.
     pub fn grant(&mut self, place: u64) -> Option<u64>
         ensures number { result ≡ grant_at (at_place place self.old) }
-        ensures granted { IfSome result (λ number. self.new ≡ updated place after_grant self.old) }
+        ensures granted { IfSome result (λ number. self.new ≡ with_updated place after_grant self.old) }
         ensures unchanged { IfNone result (self.new ≡ self.old) }
         ensures are { AreQueues self.new }
     {
@@ -174,9 +174,14 @@ impl Queues {
 }
 
 /// A request comes to the end of the queue at a place.
-fn push_at(queues: &mut NumberMap<Queue>, place: u64, number: u64, mode: Mode) -> Result<(), Memory>
+fn push_at(
+    queues: &mut NumberMap<NameQueue>,
+    place: u64,
+    number: u64,
+    mode: Mode,
+) -> Result<(), Memory>
     requires { AllByRecursion (λ e. IsBelow number e.1) queues.old.entries }
-    ensures ok { OnOk result (queues.new.entries ≡ updated place (λ w. with_one_more w number mode) queues.old.entries) }
+    ensures ok { OnOk result (queues.new.entries ≡ with_updated place (λ w. with_one_more w number mode) queues.old.entries) }
     ensures err { OnErr result (queues.new.entries ≡ queues.old.entries) }
 {
     match queues.get_mut(place) {

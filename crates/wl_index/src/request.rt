@@ -7,7 +7,7 @@ ghost use Rattle.wl_index.specs.Ends.{ends_request, ends_lock, ends_entry, place
 
 use wl_types::{Mode, Name};
 
-/// Where a live request stands: in its queue, or among the locks, by its stamp and whether it was taken.
+/// Where a live request stands: in its queue, or among the locks, by its grant sequence and whether it was taken.
 #[derive(Clone, Copy, Debug, PartialEq, Eq, Drop)]
 pub enum Stage {
     Pending,
@@ -43,7 +43,7 @@ pub(crate) enum Standing {
 /// A lock's place in the order of grants, and its number.
 #[derive(Clone, Copy, Drop)]
 pub(crate) struct Place {
-    pub stamp: u64,
+    pub grant_seq: u64,
     pub number: u64,
 }
 
@@ -73,8 +73,8 @@ pub(crate) fn mark_taken(request: &mut Request) -> bool
     ensures marked { request.new ≡ record request.old { stage = taken_stage request.old.stage } }
 {
     match request.stage {
-        Stage::Held(stamp, false) => {
-            request.stage = Stage::Held(stamp, true);
+        Stage::Held(grant_seq, false) => {
+            request.stage = Stage::Held(grant_seq, true);
             true
         }
         _ => false,
@@ -119,7 +119,10 @@ fn waiting_place(number: u64, request: &Request, owner: Owner) -> Option<Place>
     match request.stage {
         Stage::Pending => {
             if is_request_to_end(request, owner) {
-                Some(Place { stamp: 0, number })
+                Some(Place {
+                    grant_seq: 0,
+                    number,
+                })
             } else {
                 None
             }
@@ -134,9 +137,9 @@ fn lock_place(number: u64, request: &Request, owner: Owner) -> Option<Place>
 {
     match request.stage {
         Stage::Pending => None,
-        Stage::Held(stamp, taken) => {
+        Stage::Held(grant_seq, taken) => {
             if is_lock_to_end(request, taken, owner) {
-                Some(Place { stamp, number })
+                Some(Place { grant_seq, number })
             } else {
                 None
             }

@@ -1,4 +1,5 @@
-//! The live requests by number. A lock keeps its place in the order of grants as a stamp, so a grant writes in place.
+//! The live requests by number. A lock keeps its place in the order of grants as a grant sequence, so a grant writes in
+//! place.
 ghost use Rattle.std.specs.Prelude.{◌≡◌, ◌+◌, ◌≤◌, ◌<◌, ◌^◌, ◌==◌, true, [], ◌∷◌, ◌++◌, map, filter, not, length, vec_len, vec_capacity, is_some, IfOk, OnOk, OnErr, Some};
 ghost use Rattle.std.specs.List.{list_any, AllByRecursion};
 ghost use Rattle.std.specs.List.Sorted.{IsStrictlySortedBy};
@@ -11,10 +12,10 @@ ghost use Rattle.wl_machine.specs.declared.rows.PendingRow.{PendingRow};
 ghost use Rattle.wl_machine.specs.Grants.{granted_lock};
 ghost use Rattle.wl_machine.specs.Step.{is_lock_of, is_untaken, with_taken};
 ghost use Rattle.wl_index.specs.declared.request.Request.{Request};
-ghost use Rattle.wl_index.specs.Rows.{Apart, IsLock, held_of, pending_of, tags_of, other, stamp_of, holding};
+ghost use Rattle.wl_index.specs.Rows.{Apart, IsLock, held_of, pending_of, tags_of, other, grant_seq_of, holding};
 ghost use Rattle.wl_index.specs.Ends.{IsOwners, ends_entry, place_if};
 ghost use Rattle.wl_index.specs.Order.{place_of};
-ghost use Rattle.wl_index.specs.Stamps.{Distinct};
+ghost use Rattle.wl_index.specs.GrantOrder.{Distinct};
 
 mod untaken;
 
@@ -27,11 +28,11 @@ use std::marker::Model;
 use wl_number_map::{NumberMap, Rows};
 use wl_types::Memory;
 
-/// The live requests by number, the next stamp and the next number.
+/// The live requests by number, the next grant sequence and the next number.
 #[derive(Drop)]
 pub struct Requests {
     requests: NumberMap<Request>,
-    stamp: u64,
+    grant_seq: u64,
     next: u64,
 }
 
@@ -42,7 +43,7 @@ impl Model for Requests {
 
     ghost view = { λ t. record { entries = t.requests.entries; next = t.next } };
 
-    ghost invariant = { λ t. IsTable t.requests.entries t.stamp t.next };
+    ghost invariant = { λ t. IsTable t.requests.entries t.grant_seq t.next };
 }
 
 impl Requests {
@@ -53,7 +54,7 @@ impl Requests {
     {
         Requests {
             requests: NumberMap::new(alloc),
-            stamp: 1,
+            grant_seq: 1,
             next,
         }
     }
@@ -125,7 +126,7 @@ impl Requests {
         requires room { length self.now.entries ≤ vec_capacity places.old }
         ensures items { places.new.items ≡ map place_of (filter (ends_entry owner standing) self.now.entries) }
         ensures ordered { IsStrictlySortedBy nat_cmp (keys_of self.now.entries) }
-        ensures distinct { Distinct stamp_of (filter holding self.now.entries) }
+        ensures distinct { Distinct grant_seq_of (filter holding self.now.entries) }
         ensures capacity { vec_capacity places.old ≤ vec_capacity places.new }
     {
         let _ = &self.requests;
@@ -211,8 +212,8 @@ impl Requests {
         ensures next { self.new.next ≡ self.old.next }
     {
         let request = self.requests.get_mut(number).unwrap();
-        request.stage = Stage::Held(self.stamp, false);
-        self.stamp += 1;
+        request.stage = Stage::Held(self.grant_seq, false);
+        self.grant_seq += 1;
     }
 
     /// Marks an untaken lock as taken. False: there is none.

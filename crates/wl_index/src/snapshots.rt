@@ -10,11 +10,11 @@ ghost use Rattle.wl_machine.specs.declared.rows.HeldRow.{HeldRow};
 ghost use Rattle.wl_machine.specs.Grants.{queue};
 ghost use Rattle.wl_machine.specs.Step.{lock_info, request_info};
 ghost use Rattle.wl_index.specs.Rows.{held_of, pending_of};
-ghost use Rattle.wl_index.specs.Queue.{Matches};
+ghost use Rattle.wl_index.specs.NameQueue.{Matches};
 ghost use Rattle.wl_index.specs.Queues.{names_of};
 
 use crate::locks::Locks;
-use crate::queue::Queue;
+use crate::queue::NameQueue;
 use crate::queues::Queues;
 use crate::requests::Requests;
 use std::alloc::Global;
@@ -51,13 +51,13 @@ fn add_queue(
     alloc: Global,
     infos: &mut Infos,
     requests: &Requests,
-    line: &Queue,
+    name_queue: &NameQueue,
 ) -> Result<(), Memory>
     requires ordered { IsStrictlySortedBy nat_cmp (keys_of requests.now.entries) }
-    requires matched { Matches line.now (held_of requests.now.entries) (pending_of requests.now.entries) }
-    ensures { OnOk result (infos.new ≡ infos.old ++ map request_info (queue line.now.name (pending_of requests.now.entries))) }
+    requires matched { Matches name_queue.now (held_of requests.now.entries) (pending_of requests.now.entries) }
+    ensures { OnOk result (infos.new ≡ infos.old ++ map request_info (queue name_queue.now.name (pending_of requests.now.entries))) }
 {
-    for (number, _) in line.waiting() {
+    for (number, _) in name_queue.waiting() {
         infos.push(info_of(alloc, requests, *number)?)?;
     }
     Ok(())
@@ -70,14 +70,14 @@ fn pending_infos(alloc: Global, requests: &Requests, queues: &Queues) -> Result<
     ensures { IfOk result (λ infos. infos ≡ flat_map (λ name. map request_info (queue name (pending_of requests.now.entries))) (names_of queues.now)) }
 {
     let mut infos = Infos::new(alloc);
-    for (_, line) in queues.rows(alloc)? {
-        add_queue(alloc, &mut infos, requests, line)?;
+    for (_, name_queue) in queues.rows(alloc)? {
+        add_queue(alloc, &mut infos, requests, name_queue)?;
     }
     Ok(infos)
 }
 
 /// What is held and what waits.
-pub(crate) fn shown(alloc: Global, locks: &Locks) -> Result<Snapshot, Memory>
+pub(crate) fn make_snapshot(alloc: Global, locks: &Locks) -> Result<Snapshot, Memory>
     ensures held { IfOk result (λ seen. seen.held ≡ map lock_info (held_of locks.now.entries)) }
     ensures pending { IfOk result (λ seen. seen.pending ≡ flat_map (λ name. map request_info (queue name (pending_of locks.now.entries))) locks.now.names) }
 {

@@ -21,13 +21,13 @@ use Rattle.wl_machine.specs.declared.rows.PendingRow.{PendingRow}
 use Rattle.wl_machine.specs.State.{State}
 use Rattle.wl_types.specs.Refusals.{refuse_if, first_refusal}
 use Rattle.wl_machine.specs.Refusals.{refusal, has_agent, has_signal, reason_in}
-use Rattle.wl_machine.specs.Step.{Outcome, step, no_changes, accepted, unless_refused, settled, new_request, available, enqueue, steal_locks, stealing_request, plain_request, unavailable, is_untaken, with_taken, is_lock_of, without_lock, is_waiting_on, is_abortable, with_reason, with_aborted, abort_ends, without_agent, terminate_ends, terminate_step, with_active, lock_ends}
+use Rattle.wl_machine.specs.Step.{StepResult, step, no_changes, accepted, unless_refused, after_processing, new_request, available, enqueue, steal_locks, stealing_request, plain_request, unavailable, is_untaken, with_taken, is_lock_of, without_lock, is_waiting_on, is_abortable, with_reason, with_aborted, abort_ends, without_agent, terminate_ends, terminate_step, with_active, lock_ends}
 use Rattle.wl_machine.specs.Grants.{locks}
 use Rattle.wl_types.specs.declared.phases.Phase.TheVariants.{Stolen, Released}
 use Rattle.wl_journal.specs.History.{recorded}
 use Rattle.wl_journal.specs.Room.{lock_entries, signal_entries, entries_owed}
-use Rattle.wl_journal.proofs.Sums.{filter-le, length-filter-le, let_go-less, let_go-fewer, change-less}
-use Rattle.wl_journal.proofs.Owed.{settled_owes, taken-le, taken-less, lock-least, signal-le, signal-less, is_unaborted, unaborted_row}
+use Rattle.wl_journal.proofs.Sums.{filter-le, length-filter-le, left_out-less, left_out-fewer, change-less}
+use Rattle.wl_journal.proofs.Owed.{processed_owes, taken-le, taken-less, lock-least, signal-le, signal-less, is_unaborted, unaborted_row}
 
 -- what a command may add to the entries and to those owed
 abbrev pub growth : Command → ℕ
@@ -42,12 +42,12 @@ growth (Terminate agent) = 0
 growth (Query agent) = 0
 
 -- what the outcome of a command adds and owes
-abbrev spent_by : Command → Outcome → ℕ
-spent_by command outcome = length (recorded command outcome.reply) + entries_owed outcome.state
+abbrev spent_by : Command → StepResult → ℕ
+spent_by command step_result = length (recorded command step_result.reply) + entries_owed step_result.state
 
--- a bound on what the middle owes is one on what the settled state does
-by_middle : (mid : State) (ends : List Change) (answer : Reply) (added most : ℕ) → added + entries_owed mid ≤ most → added + entries_owed (settled mid ends answer).state ≤ most
-by_middle mid ends answer added most bound = subst (λ n. added + n ≤ most) (sym (settled_owes mid ends answer)) bound
+-- a bound on what the middle owes is one on what the state after processing does
+by_middle : (mid : State) (ends : List Change) (answer : Reply) (added most : ℕ) → added + entries_owed mid ≤ most → added + entries_owed (after_processing mid ends answer).state ≤ most
+by_middle mid ends answer added most bound = subst (λ n. added + n ≤ most) (sym (processed_owes mid ends answer)) bound
 
 plain_grows : (s : State) (agent : ℕ) (ask : Ask) (r : PendingRow) → spent_by (Request agent ask) (plain_request s r) ≤ 3 + entries_owed s
 plain_grows s agent ask r =
@@ -63,15 +63,15 @@ steal_grows s agent ask r =
     by_middle (steal_locks s r) (lock_ends Stolen (locks r.name s.held)) (reply.Request r.number) 1 (3 + entries_owed s) (omega (arith, fewer))
 
 -- the bound of an outcome
-pub record Grows (command : Command) (o : Outcome) (s : State) : Type 0 where
+pub record Grows (command : Command) (o : StepResult) (s : State) : Type 0 where
   pub bound : spent_by command o ≤ growth command + entries_owed s
 
-if_grows : (command : Command) (b : Bool) (x y : Outcome) (s : State) → Grows command x s → Grows command y s → Grows command (cond b x y) s
+if_grows : (command : Command) (b : Bool) (x y : StepResult) (s : State) → Grows command x s → Grows command y s → Grows command (cond b x y) s
 if_grows command true x y s one two = one
 if_grows command false x y s one two = two
 
 -- where the arms need the test
-if_grows_by : (command : Command) (b : Bool) (x y : Outcome) (s : State) → (b ≡ true → Grows command x s) → (b ≡ false → Grows command y s) → Grows command (cond b x y) s
+if_grows_by : (command : Command) (b : Bool) (x y : StepResult) (s : State) → (b ≡ true → Grows command x s) → (b ≡ false → Grows command y s) → Grows command (cond b x y) s
 if_grows_by command true x y s one two = one refl
 if_grows_by command false x y s one two = two refl
 
@@ -79,13 +79,13 @@ take_grows : (s : State) (id : ℕ) → list_any (is_untaken id) s.held ≡ true
 take_grows s id some = let less = change-less lock_entries (with_taken id) (is_untaken id) s.held (taken-le id) (taken-less id) some in omega (arith, less)
 
 release_grows : (s : State) (agent id : ℕ) (ends : List Change) → list_any (is_lock_of agent id) s.held ≡ true
-    → 1 + entries_owed (settled (without_lock s agent id) ends (reply.Released released.Released)).state ≤ 0 + entries_owed s
+    → 1 + entries_owed (after_processing (without_lock s agent id) ends (reply.Released released.Released)).state ≤ 0 + entries_owed s
 release_grows s agent id ends some =
-    let less = let_go-less lock_entries (is_lock_of agent id) s.held lock-least some in
+    let less = left_out-less lock_entries (is_lock_of agent id) s.held lock-least some in
     by_middle (without_lock s agent id) ends (reply.Released released.Released) 1 (0 + entries_owed s) (omega (arith, less))
 
 abort_grows : (s : State) (agent signal : ℕ) (reason : Reason) (ends : List Change) → list_any (λ row. row.agent == agent && row.number == signal) s.signals ≡ true → is_some (reason_in s.signals agent signal) ≡ false
-    → 1 + entries_owed (settled (with_aborted s agent signal reason) ends (reply.Aborted aborted.Done)).state ≤ 0 + entries_owed s
+    → 1 + entries_owed (after_processing (with_aborted s agent signal reason) ends (reply.Aborted aborted.Done)).state ≤ 0 + entries_owed s
 abort_grows s agent signal reason ends known unaborted =
     let less = change-less signal_entries (with_reason agent signal reason) (is_unaborted agent signal) s.signals (signal-le agent signal reason) (signal-less agent signal reason) (unaborted_row agent signal s.signals known unaborted) in
     let locks = filter-le lock_entries (λ lock. not (is_abortable agent signal lock)) s.held in
@@ -94,7 +94,7 @@ abort_grows s agent signal reason ends known unaborted =
 
 terminate_grows : (s : State) (agent : ℕ) → has_agent s agent ≡ true → 1 + entries_owed (terminate_step s agent).state ≤ 0 + entries_owed s
 terminate_grows s agent known =
-    let fewer = let_go-fewer (λ row. row.number == agent) s.agents known in
+    let fewer = left_out-fewer (λ row. row.number == agent) s.agents known in
     let signals = filter-le signal_entries (λ row. not (row.agent == agent)) s.signals in
     let locks = filter-le lock_entries (λ lock. not (lock.agent == agent)) s.held in
     let requests = length-filter-le (λ request. not (request.agent == agent)) s.pending in
@@ -125,12 +125,12 @@ accepted_grows s (Take id) free =
     (λ some. record { bound = let less = take_grows s id some in omega (arith, less) }) (λ none. record { bound = omega arith })
 accepted_grows s (Release agent id) free =
     if_grows_by (Release agent id) (list_any (is_lock_of agent id) s.held)
-    (settled (without_lock s agent id) (lock_ends Released (filter (is_lock_of agent id) s.held)) (reply.Released released.Released)) (no_changes s (reply.Released released.NotHeld)) s
+    (after_processing (without_lock s agent id) (lock_ends Released (filter (is_lock_of agent id) s.held)) (reply.Released released.Released)) (no_changes s (reply.Released released.NotHeld)) s
     (λ some. record { bound = release_grows s agent id (lock_ends Released (filter (is_lock_of agent id) s.held)) some }) (λ none. record { bound = omega arith })
 accepted_grows s (Abort agent signal reason) free =
     let ends = abort_ends s agent signal reason in
     if_grows_by (Abort agent signal reason) (is_some (reason_in s.signals agent signal)) (no_changes s (reply.Aborted aborted.AlreadyAborted))
-    (settled (with_aborted s agent signal reason) ends (reply.Aborted aborted.Done)) s
+    (after_processing (with_aborted s agent signal reason) ends (reply.Aborted aborted.Done)) s
     (λ some. record { bound = omega arith })
     (λ none. record { bound = abort_grows s agent signal reason ends (signal_of (has_agent s agent) (has_signal s agent signal) free) none })
 accepted_grows s (Terminate agent) free = record { bound = terminate_grows s agent (known_of (has_agent s agent) [] free) }

@@ -10,7 +10,7 @@ use Rattle.wl_machine.specs.declared.command.Command.TheVariants.{Enter, SetActi
 use Rattle.wl_machine.specs.declared.command.Reply.{Reply}
 use Rattle.wl_machine.specs.State.{State}
 use Rattle.wl_machine.specs.Refusals.{refusal, reason_in}
-use Rattle.wl_machine.specs.Step.{Outcome, Gives, step, accepted, unless_refused, is_untaken, is_lock_of, available, new_request, stealing_request, plain_request, unavailable, replies_of, state_after}
+use Rattle.wl_machine.specs.Step.{StepResult, Gives, step, accepted, unless_refused, is_untaken, is_lock_of, available, new_request, stealing_request, plain_request, unavailable, replies_of, state_after}
 use Rattle.wl_core.proofs.Answering.{state_after-append}
 use Rattle.wl_journal.specs.declared.entry.Entry.{Entry}
 use Rattle.wl_journal.specs.Books.{IsKept}
@@ -40,10 +40,10 @@ leads_more base entries command reply =
     ∙ state_after-append (commands_of entries) (command ∷ []) base
 
 -- what is not recorded changed nothing
-pub record StaysUnless (o : Outcome) (s : State) : Type 0 where
+pub record StaysUnless (o : StepResult) (s : State) : Type 0 where
   pub stays : is_recorded o.reply ≡ false → o.state ≡ s
 
-if_stays : (b : Bool) (x y : Outcome) (s : State) → StaysUnless x s → StaysUnless y s → StaysUnless (cond b x y) s
+if_stays : (b : Bool) (x y : StepResult) (s : State) → StaysUnless x s → StaysUnless y s → StaysUnless (cond b x y) s
 if_stays true x y s one two = one
 if_stays false x y s one two = two
 
@@ -85,8 +85,8 @@ pub grows : (base s new : State) (entries after : List Entry) (owed owed' room r
     → growth command + owed ≤ length (recorded command reply) + owed' → length after + owed' ≤ room' → IsKept base new after owed' room' handed
 grows base s new entries after owed owed' room room' handed command reply changes kept gives more paid roomy =
     let from : s ≡ state_of base entries = kept.leads in
-    let is : reply ≡ (step s command).reply = sym (ap (λ (o : Outcome). o.reply) gives) in
-    let leads : new ≡ (step s command).state = sym (ap (λ (o : Outcome). o.state) gives) in
+    let is : reply ≡ (step s command).reply = sym (ap (λ (o : StepResult). o.reply) gives) in
+    let leads : new ≡ (step s command).state = sym (ap (λ (o : StepResult). o.state) gives) in
     let both = history_more base entries command reply new kept.legal (rw from at is) (rw from at leads) in
     let enough : length (recorded command reply) + entries_owed new ≤ growth command + entries_owed s = rw (is, leads) (growth_is_enough s command) in
     let counted = kept.counted in
@@ -102,7 +102,7 @@ grows base s new entries after owed owed' room room' handed command reply change
 pub was_owed : (base s new : State) (entries : List Entry) (owed room handed : ℕ) (command : Command) (reply : Reply) (changes : List Change)
     → IsKept base s entries owed room handed → Gives s command new reply changes → growth command ≡ 0 → is_recorded reply ≡ true → 1 ≤ owed
 was_owed base s new entries owed room handed command reply changes kept gives none said =
-    let is : (step s command).reply ≡ reply = ap (λ (o : Outcome). o.reply) gives in
+    let is : (step s command).reply ≡ reply = ap (λ (o : StepResult). o.reply) gives in
     let one : 1 + entries_owed (step s command).state ≤ 0 + entries_owed s = rw (is, said, none) at (growth_is_enough s command) in
     let counted = kept.counted in
     omega (arith, one, counted)

@@ -1,4 +1,4 @@
--- What settling, taking and aborting leave owed.
+-- What processing, taking and aborting leave owed.
 use Rattle.std.proofs.Common.{◌≡◌, ℕ, zero, suc, ◌+◌, ◌*◌, ◌≤◌, Bool, true, false, cond, List, [], ◌∷◌, ◌++◌, length, map, refl, arith, ◌∙◌}
 use Rattle.std.specs.Prelude.{not, ◌&&◌, ◌==◌, is_some, Some}
 use Rattle.std.specs.List.{sum_by, list_any}
@@ -12,8 +12,8 @@ use Rattle.wl_machine.specs.declared.rows.PendingRow.{PendingRow}
 use Rattle.wl_machine.specs.declared.rows.SignalRow.{SignalRow}
 use Rattle.wl_machine.specs.State.{State}
 use Rattle.wl_machine.specs.Refusals.{reason_in}
-use Rattle.wl_machine.specs.Grants.{Lists, lists_of, grants, queue, locks, without_first, granted_lock, settle_name, settle_names}
-use Rattle.wl_machine.specs.Step.{settled, with_taken, is_untaken, with_reason}
+use Rattle.wl_machine.specs.Grants.{Lists, lists_of, grants, queue, locks, without_first, granted_lock, process_queue, process_queues}
+use Rattle.wl_machine.specs.Step.{after_processing, with_taken, is_untaken, with_reason}
 use Rattle.wl_machine.proofs.Fronts.{first_requests, first_granted}
 use Rattle.wl_journal.specs.Room.{lock_entries, signal_entries, entries_owed}
 
@@ -40,16 +40,16 @@ owed_of_name name h p g first =
     let moved = granted_sum g in
     rw (sum_by-append lock_entries h (map granted_lock g)) (omega (arith, counted, moved))
 
-settle_name_owes : (lists : Lists) (name : List ℕ) → lists_owed (settle_name lists name) ≡ lists_owed lists
-settle_name_owes lists name = owed_of_name name lists.held lists.pending (grants (locks name lists.held) (queue name lists.pending)) (first_granted name (locks name lists.held) lists.pending)
+process_queue_owes : (lists : Lists) (name : List ℕ) → lists_owed (process_queue lists name) ≡ lists_owed lists
+process_queue_owes lists name = owed_of_name name lists.held lists.pending (grants (locks name lists.held) (queue name lists.pending)) (first_granted name (locks name lists.held) lists.pending)
 
-settle_names_owe : (names : List (List ℕ)) (lists : Lists) → lists_owed (settle_names lists names) ≡ lists_owed lists
-settle_names_owe [] lists = refl
-settle_names_owe (name ∷ names) lists = settle_names_owe names (settle_name lists name) ∙ settle_name_owes lists name
+process_queues_owe : (names : List (List ℕ)) (lists : Lists) → lists_owed (process_queues lists names) ≡ lists_owed lists
+process_queues_owe [] lists = refl
+process_queues_owe (name ∷ names) lists = process_queues_owe names (process_queue lists name) ∙ process_queue_owes lists name
 
--- settling owes no more and no less
-pub settled_owes : (mid : State) (ends : List Change) (reply : Reply) → entries_owed (settled mid ends reply).state ≡ entries_owed mid
-settled_owes mid ends reply = let lists = settle_names_owe mid.names (lists_of mid.held mid.pending ends) in omega (arith, lists)
+-- processing owes no more and no less
+pub processed_owes : (mid : State) (ends : List Change) (reply : Reply) → entries_owed (after_processing mid ends reply).state ≡ entries_owed mid
+processed_owes mid ends reply = let lists = process_queues_owe mid.names (lists_of mid.held mid.pending ends) in omega (arith, lists)
 
 -- a lock that is taken gives its Take up
 pub taken-le : (id : ℕ) (lock : HeldRow) → lock_entries (with_taken id lock) ≤ lock_entries lock

@@ -29,10 +29,10 @@ heard (Open last is_pinged) now = Open now false
 heard (Closing since dropped) now = Closing since dropped
 
 -- a ping was sent
-abbrev pub pinged : Liveness → Liveness
-pinged (Handshake since) = Handshake since
-pinged (Open last is_pinged) = Open last true
-pinged (Closing since dropped) = Closing since dropped
+abbrev pub after_ping : Liveness → Liveness
+after_ping (Handshake since) = Handshake since
+after_ping (Open last is_pinged) = Open last true
+after_ping (Closing since dropped) = Closing since dropped
 
 abbrev pub closing : Liveness → ℕ → Liveness
 closing (Handshake since) now = Closing now 0

@@ -1,7 +1,7 @@
 //! How far a connection is, and what is due for it.
 
 ghost use Rattle.std.specs.Prelude.{◌≡◌};
-ghost use Rattle.wl_liveness.specs.Liveness.{due_of, new_liveness, opened, heard, pinged, closing, dropping};
+ghost use Rattle.wl_liveness.specs.Liveness.{due_of, new_liveness, opened, heard, after_ping, closing, dropping};
 
 use crate::limits::Limits;
 
@@ -65,7 +65,7 @@ impl Liveness {
 
     /// A ping was sent.
     pub fn ping(&mut self)
-        ensures { self.new ≡ pinged self.old }
+        ensures { self.new ≡ after_ping self.old }
     {
         if let Liveness::Open { is_pinged, .. } = self {
             *is_pinged = true;

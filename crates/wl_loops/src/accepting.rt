@@ -100,11 +100,11 @@ impl Acceptor {
             0
         };
         if let Some(inbox) = shared.inboxes.get(next) {
-            if inbox.bring(rt, arrival) {
+            if inbox.give(rt, arrival) {
                 inbox.rouse();
                 return;
             }
         }
-        shared.leave_place(rt, hold);
+        shared.free_place(rt, hold);
     }
 }

@@ -138,16 +138,16 @@ impl<'a, R: Wait, H: Host> Connection<'a, R, H> {
     }
 
     /// Has its stream and its speaker report to this place, and answers whether they will. Else it stays on its way.
-    pub fn settle(&mut self, registry: &Registry, place: Place) -> bool {
-        let is_settled = match &mut self.stage {
-            Stage::Open(talk) => talk.settle(self.rt, self.host, registry, place),
+    pub fn set_place(&mut self, registry: &Registry, place: Place) -> bool {
+        let is_placed = match &mut self.stage {
+            Stage::Open(talk) => talk.set_place(self.rt, self.host, registry, place),
             _ => false,
         };
-        if is_settled {
+        if is_placed {
             self.place = place;
             self.affinity = Affinity::new();
         }
-        is_settled
+        is_placed
     }
 
     /// Whether something may have changed that the speaker hasn't looked at.
@@ -208,7 +208,7 @@ impl<'a, R: Wait, H: Host> Connection<'a, R, H> {
         match self.talk(now) {
             Ok(Pace::Waits) => Next::Waits,
             Ok(Pace::Again) => Next::Again,
-            Err(ending) => self.leave(ending, now),
+            Err(ending) => self.begin_close(ending, now),
         }
     }
 
@@ -283,11 +283,11 @@ impl<'a, R: Wait, H: Host> Connection<'a, R, H> {
 
     /// Begins to tell the peer that the server ends, where it can be told.
     pub fn go_away(&mut self, now: u64) -> Next {
-        self.leave(Ending::Away, now)
+        self.begin_close(Ending::Away, now)
     }
 
     /// Ends what is open, for this reason; what is closing goes on.
-    fn leave(&mut self, ending: Ending, now: u64) -> Next {
+    fn begin_close(&mut self, ending: Ending, now: u64) -> Next {
         match mem::replace(&mut self.stage, Stage::Ended) {
             Stage::Open(talk) => {
                 let Talk { seat, wire } = talk;

@@ -103,7 +103,7 @@ impl<'a, 'b, R: Wait + Clock, H: Host> EventLoop<'a, 'b, R, H> {
             self.answer_beat();
             self.take_events(&events);
             self.take_newcomers();
-            // What is marked by now is mostly news from other loops, and behind these turns what they changed here.
+            // What is marked by now is mostly changes from other loops, and behind these turns what they changed here.
             self.take_marked(true);
             self.take_turns();
             self.shared.wake_marked(self.number);
@@ -222,7 +222,7 @@ impl<'a, 'b, R: Wait + Clock, H: Host> EventLoop<'a, 'b, R, H> {
             };
             let hold = arrival.hold;
             if self.is_leaving || self.take_in(arrival).is_err() {
-                self.shared.leave_place(self.rt, hold);
+                self.shared.free_place(self.rt, hold);
             }
         }
     }
@@ -265,7 +265,7 @@ impl<'a, 'b, R: Wait + Clock, H: Host> EventLoop<'a, 'b, R, H> {
     fn end_one(&mut self, key: usize) {
         if let Some(Served { connection, hold }) = self.served.try_remove(key) {
             drop(connection);
-            self.shared.leave_place(self.rt, hold);
+            self.shared.free_place(self.rt, hold);
         }
     }
 

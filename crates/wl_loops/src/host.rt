@@ -90,5 +90,5 @@ pub trait Host {
 
     /// From now on what changes for the peer marks this place. Where memory is refused it marks the one before. What
     /// changes meanwhile may mark neither, so whoever calls this looks afterwards for changes.
-    fn settle<R: Wait>(&self, rt: &R, peer: &mut Self::Peer, place: Place) -> Result<(), Memory>;
+    fn set_place<R: Wait>(&self, rt: &R, peer: &mut Self::Peer, place: Place) -> Result<(), Memory>;
 }

@@ -82,7 +82,7 @@ impl<'a, R: Wait, H: Host> Lobby<'a, R, H> {
     ) -> Option<Served<'a, R, H>> {
         let mut guard = self.rooms.get(place.event_loop)?.lock(rt);
         let room = &mut *guard;
-        if !room.moved.last_mut()?.connection.settle(registry, place) {
+        if !room.moved.last_mut()?.connection.set_place(registry, place) {
             return None;
         }
         room.moved.pop()

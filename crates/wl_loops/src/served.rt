@@ -30,7 +30,7 @@ pub(crate) fn watch_all<'a, R: Wait, H: Host>(
     let limits = *shared.host.limits();
     for key in 0..served.capacity() {
         if let Some(hold) = watch_one(served, key, now, &limits) {
-            shared.leave_place(rt, hold);
+            shared.free_place(rt, hold);
         }
     }
 }

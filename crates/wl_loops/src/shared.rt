@@ -113,10 +113,10 @@ impl Inbox {
     }
 
     /// Gives a stream to the loop, and answers whether there was memory for that; else it is closed.
-    pub fn bring<R: Wait>(&self, rt: &R, arrival: Arrival) -> bool {
-        let is_brought = self.arrivals.lock(rt).push(arrival).is_ok();
+    pub fn give<R: Wait>(&self, rt: &R, arrival: Arrival) -> bool {
+        let is_given = self.arrivals.lock(rt).push(arrival).is_ok();
         self.set_newcomers();
-        is_brought
+        is_given
     }
 
     /// A stream or a connection was given to the loop.
@@ -246,16 +246,16 @@ impl<H> Shared<H> {
         }
     }
 
-    pub(crate) fn leave_place<R: Wait>(&self, rt: &R, hold: Hold) {
+    pub(crate) fn free_place<R: Wait>(&self, rt: &R, hold: Hold) {
         match hold {
-            Hold::Served(source) => self.places.lock(rt).leave(source),
-            Hold::TurnedAway(source) => self.turned_away.lock(rt).leave(source),
+            Hold::Served(source) => self.places.lock(rt).free(source),
+            Hold::TurnedAway(source) => self.turned_away.lock(rt).free(source),
         }
     }
 
     /// How many connections have a place.
     pub fn connections<R: Wait>(&self, rt: &R) -> u32 {
-        self.places.lock(rt).taken()
+        self.places.lock(rt).count_in_use()
     }
 
     /// How many connections ever had one.

@@ -36,7 +36,7 @@ impl<'a, R: Wait, P: Listener> Talk<'a, R, P> {
     }
 
     /// Has its stream and its speaker report to this place, and answers whether they will. Else neither does.
-    pub fn settle<H: Host<Peer = P>>(
+    pub fn set_place<H: Host<Peer = P>>(
         &mut self,
         rt: &R,
         host: &H,
@@ -47,7 +47,7 @@ impl<'a, R: Wait, P: Listener> Talk<'a, R, P> {
         if transport.register(registry, Token(place.key)).is_err() {
             return false;
         }
-        if !self.settle_speaker(rt, host, place) {
+        if !self.set_speaker_place(rt, host, place) {
             let _ = self.wire.stream().deregister(registry);
             return false;
         }
@@ -55,14 +55,14 @@ impl<'a, R: Wait, P: Listener> Talk<'a, R, P> {
         true
     }
 
-    fn settle_speaker<H: Host<Peer = P>>(&mut self, rt: &R, host: &H, place: Place) -> bool {
+    fn set_speaker_place<H: Host<Peer = P>>(&mut self, rt: &R, host: &H, place: Place) -> bool {
         let Some(speaker) = self.seat.take() else {
             // Its next turn ends it.
             return true;
         };
         let mut speaker = speaker;
-        let is_settled = host.settle(rt, &mut speaker, place).is_ok();
+        let is_placed = host.set_place(rt, &mut speaker, place).is_ok();
         self.seat.put(speaker);
-        is_settled
+        is_placed
     }
 }

@@ -15,13 +15,13 @@ use Rattle.wl_machine.specs.declared.command.Command.TheVariants.{Enter, SetActi
 use Rattle.wl_machine.specs.declared.command.Reply.{Reply}
 use Rattle.wl_machine.specs.declared.command.Reply.TheVariants as reply
 use Rattle.wl_machine.specs.State.{State, opening}
-use Rattle.wl_machine.specs.Grants.{is_exclusive, any_exclusive, grants, shared_prefix, granted_lock, locks, queue, Lists, lists_of, settle_name, settle_names}
+use Rattle.wl_machine.specs.Grants.{is_exclusive, any_exclusive, grants, shared_prefix, granted_lock, locks, queue, Lists, lists_of, process_queue, process_queues}
 use Rattle.wl_machine.specs.Refusals.{reason_in}
-use Rattle.wl_machine.specs.Step.{settled, accepted, is_untaken, is_lock_of, is_abortable, new_request, available, request_step, steal_locks, enqueue, stealing_request, plain_request, unavailable, without_lock, with_aborted, without_agent, lock_ends, abort_ends, terminate_ends}
+use Rattle.wl_machine.specs.Step.{after_processing, accepted, is_untaken, is_lock_of, is_abortable, new_request, available, request_step, steal_locks, enqueue, stealing_request, plain_request, unavailable, without_lock, with_aborted, without_agent, lock_ends, abort_ends, terminate_ends}
 use Rattle.wl_machine.specs.Laws.{ExclusiveIsAlone}
 use Rattle.wl_machine.proofs.Lists.{filters_commute, any_filter}
 use Rattle.wl_machine.proofs.Flagged.{flagged, locks_flagged, exclusive_flagged}
-use Rattle.wl_machine.proofs.Quiet.{grants_behind, grants_beside, shared_locks, locks_settled, locks_unsettled}
+use Rattle.wl_machine.proofs.Quiet.{grants_behind, grants_beside, shared_locks, locks_processed, locks_unprocessed}
 use Rattle.wl_machine.proofs.Runs.{after_run, either}
 
 -- locks of one name
@@ -55,20 +55,20 @@ alone_granted [] (request ∷ requests) false is one = at_mode (is_exclusive req
         let all : grants [] (request ∷ requests) ≡ shared_prefix (request ∷ requests) = rw is refl in
         rw all (λ some. absurd (let no : any_exclusive (map granted_lock (shared_prefix (request ∷ requests))) ≡ false = shared_locks [] (request ∷ requests) in cc (no, some)))
 
-alone_settle : (lists : Lists) (name : List ℕ) → All_alone lists.held → All_alone (settle_name lists name).held
-alone_settle lists name all other = at_name (bytes_eq name other) refl
+alone_process : (lists : Lists) (name : List ℕ) → All_alone lists.held → All_alone (process_queue lists name).held
+alone_process lists name all other = at_name (bytes_eq name other) refl
   where
-    at_name : (b : Bool) → bytes_eq name other ≡ b → alone (locks other (settle_name lists name).held)
+    at_name : (b : Bool) → bytes_eq name other ≡ b → alone (locks other (process_queue lists name).held)
     at_name true is = let same : name ≡ other = same_text name other (sym is) in
-        rw (← same) (rw (locks_settled lists name) (alone_granted (locks name lists.held) (queue name lists.pending) (any_exclusive (locks name lists.held)) refl (all name)))
-    at_name false is = rw (locks_unsettled lists name other is) (all other)
+        rw (← same) (rw (locks_processed lists name) (alone_granted (locks name lists.held) (queue name lists.pending) (any_exclusive (locks name lists.held)) refl (all name)))
+    at_name false is = rw (locks_unprocessed lists name other is) (all other)
 
-alone_settles : (names : List (List ℕ)) (lists : Lists) → All_alone lists.held → All_alone (settle_names lists names).held
-alone_settles [] lists all = all
-alone_settles (name ∷ names) lists all = alone_settles names (settle_name lists name) (alone_settle lists name all)
+alone_processes : (names : List (List ℕ)) (lists : Lists) → All_alone lists.held → All_alone (process_queues lists names).held
+alone_processes [] lists all = all
+alone_processes (name ∷ names) lists all = alone_processes names (process_queue lists name) (alone_process lists name all)
 
-alone_settled : (s : State) (ends : List Change) (answer : Reply) → All_alone s.held → All_alone (settled s ends answer).state.held
-alone_settled s ends answer all = alone_settles s.names (lists_of s.held s.pending ends) all
+alone_processed : (s : State) (ends : List Change) (answer : Reply) → All_alone s.held → All_alone (after_processing s ends answer).state.held
+alone_processed s ends answer all = alone_processes s.names (lists_of s.held s.pending ends) all
 
 all_filter : (p : HeldRow → Bool) (held : List HeldRow) → All_alone held → All_alone (filter p held)
 all_filter p held all name = rw (filters_commute (λ (lock : HeldRow). bytes_eq lock.name name) p held) (alone_filter p (locks name held) (all name))
@@ -83,8 +83,8 @@ alone_request : (s : State) (agent : ℕ) (ask : Ask) → IsAlone s → IsAlone 
 alone_request s agent ask all =
     let request = new_request s agent ask in
     either IsAlone ask.steal (stealing_request s request) (cond (ask.if_available && not (available s request)) (unavailable s request) (plain_request s request))
-    (alone_settled (steal_locks s request) (lock_ends Stolen (locks request.name s.held)) reply.Done (all_filter (λ lock. not (bytes_eq lock.name request.name)) s.held all))
-    (either IsAlone (ask.if_available && not (available s request)) (unavailable s request) (plain_request s request) all (alone_settled (enqueue s request) [] reply.Done all))
+    (alone_processed (steal_locks s request) (lock_ends Stolen (locks request.name s.held)) reply.Done (all_filter (λ lock. not (bytes_eq lock.name request.name)) s.held all))
+    (either IsAlone (ask.if_available && not (available s request)) (unavailable s request) (plain_request s request) all (alone_processed (enqueue s request) [] reply.Done all))
 
 alone_accepted : (s : State) (command : Command) → IsAlone s → IsAlone (accepted s command).state
 alone_accepted s (Enter kind) all = all
@@ -92,9 +92,9 @@ alone_accepted s (SetActive agent active) all = all
 alone_accepted s (NewSignal agent) all = all
 alone_accepted s (Request agent ask) all = alone_request s agent ask all
 alone_accepted s (Take id) all = either IsAlone (list_any (is_untaken id) s.held) _ _ (all_flagged (λ lock. lock.taken || lock.number == id) s.held all) all
-alone_accepted s (Release agent id) all = either IsAlone (list_any (is_lock_of agent id) s.held) _ _ (alone_settled (without_lock s agent id) (lock_ends Released (filter (is_lock_of agent id) s.held)) reply.Done (all_filter (λ lock. not (is_lock_of agent id lock)) s.held all)) all
-alone_accepted s (Abort agent signal reason) all = either IsAlone (is_some (reason_in s.signals agent signal)) _ _ all (alone_settled (with_aborted s agent signal reason) (abort_ends s agent signal reason) reply.Done (all_filter (λ lock. not (is_abortable agent signal lock)) s.held all))
-alone_accepted s (Terminate agent) all = alone_settled (without_agent s agent) (terminate_ends s agent) reply.Done (all_filter (λ lock. not (lock.agent == agent)) s.held all)
+alone_accepted s (Release agent id) all = either IsAlone (list_any (is_lock_of agent id) s.held) _ _ (alone_processed (without_lock s agent id) (lock_ends Released (filter (is_lock_of agent id) s.held)) reply.Done (all_filter (λ lock. not (is_lock_of agent id lock)) s.held all)) all
+alone_accepted s (Abort agent signal reason) all = either IsAlone (is_some (reason_in s.signals agent signal)) _ _ all (alone_processed (with_aborted s agent signal reason) (abort_ends s agent signal reason) reply.Done (all_filter (λ lock. not (is_abortable agent signal lock)) s.held all))
+alone_accepted s (Terminate agent) all = alone_processed (without_agent s agent) (terminate_ends s agent) reply.Done (all_filter (λ lock. not (lock.agent == agent)) s.held all)
 alone_accepted s (Query agent) all = all
 
 pub exclusive_alone : ExclusiveIsAlone

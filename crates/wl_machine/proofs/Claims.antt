@@ -5,7 +5,7 @@ use Rattle.std.specs.Prelude.{not, ◌||◌, filter, Option}
 use Rattle.std.specs.Str.{bytes_eq}
 use Rattle.wl_machine.specs.declared.rows.HeldRow.{HeldRow}
 use Rattle.wl_machine.specs.declared.rows.PendingRow.{PendingRow}
-use Rattle.wl_machine.specs.Grants.{grants, without_first, granted_lock, locks, queue, Lists, settle_name, settle_names}
+use Rattle.wl_machine.specs.Grants.{grants, without_first, granted_lock, locks, queue, Lists, process_queue, process_queues}
 use Rattle.wl_machine.proofs.Fronts.{first_requests, first_granted}
 
 abbrev pub Test : Type 0
@@ -118,8 +118,8 @@ pub record Keeps (test : Test) (most : ℕ) (lists : Lists) : Type 0 where
   pub waiting : Wait test lists.pending
   pub holding : Hold test lists.held
 
-settle_keeps : (test : Test) (most : ℕ) (lists : Lists) (name : List ℕ) → Keeps test most lists → Keeps test most (settle_name lists name)
-settle_keeps test most lists name all =
+process_keeps : (test : Test) (most : ℕ) (lists : Lists) (name : List ℕ) → Keeps test most lists → Keeps test most (process_queue lists name)
+process_keeps test most lists name all =
     let granted = grants (locks name lists.held) (queue name lists.pending) in
     let first : first_requests name (length granted) lists.pending ≡ granted = first_granted name (locks name lists.held) lists.pending in
     let sum : length granted + length (without_first name (length granted) lists.pending) ≡ length lists.pending = rw first at (parts_are_all name (length granted) lists.pending) in
@@ -132,6 +132,6 @@ settle_keeps test most lists name all =
       holding = hold_append test lists.held (map granted_lock granted) all.holding (hold_granted test granted (subst (Wait test) first (wait_first test name (length granted) lists.pending all.waiting)));
     }
 
-pub settles_keep : (names : List (List ℕ)) (test : Test) (most : ℕ) (lists : Lists) → Keeps test most lists → Keeps test most (settle_names lists names)
-settles_keep [] test most lists all = all
-settles_keep (name ∷ names) test most lists all = settles_keep names test most (settle_name lists name) (settle_keeps test most lists name all)
+pub processes_keep : (names : List (List ℕ)) (test : Test) (most : ℕ) (lists : Lists) → Keeps test most lists → Keeps test most (process_queues lists names)
+processes_keep [] test most lists all = all
+processes_keep (name ∷ names) test most lists all = processes_keep names test most (process_queue lists name) (process_keeps test most lists name all)

@@ -10,7 +10,7 @@ use Rattle.wl_machine.specs.declared.rows.PendingRow.{PendingRow}
 use Rattle.wl_machine.specs.Step.{lock_ends, request_ends}
 use Rattle.wl_machine.specs.Laws.{phases_of}
 use Rattle.wl_machine.specs.OneMove.{lock_phase, held_phases, pending_phases}
-use Rattle.wl_machine.proofs.SettlingMoves.{Ended}
+use Rattle.wl_machine.proofs.ProcessingMoves.{Ended}
 
 no_more : (p : Phase) (ps : List Phase) → length (p ∷ ps) ≤ 1 → ps ≡ []
 no_more p [] most = refl

@@ -4,7 +4,7 @@ use Rattle.std.specs.Prelude.{if◌then◌else◌}
 use Rattle.std.specs.Str.{bytes_eq}
 use Rattle.wl_machine.specs.declared.rows.PendingRow.{PendingRow}
 use Rattle.wl_machine.specs.declared.rows.HeldRow.{HeldRow}
-use Rattle.wl_machine.specs.Grants.{without_first, queue, grants, shared_prefix, any_exclusive, is_empty, is_exclusive, starts_exclusive, locks, lists_of, settle_name, granted_lock, grant_change}
+use Rattle.wl_machine.specs.Grants.{without_first, queue, grants, shared_prefix, any_exclusive, is_empty, is_exclusive, starts_exclusive, locks, lists_of, process_queue, granted_lock, grant_change}
 use Rattle.wl_types.specs.declared.phases.Change.{Change}
 
 -- the first requests of a name, as many as count says
@@ -44,8 +44,8 @@ take_grants h q =
 pub first_granted : (name : List ℕ) (h : List HeldRow) (xs : List PendingRow) → first_requests name (length (grants h (queue name xs))) xs ≡ grants h (queue name xs)
 first_granted name h xs = first_requests_is_take name _ xs ∙ take_grants h (queue name xs)
 
--- granting as many as are granted is settling the name
-pub settled_by : (name : List ℕ) (h : List HeldRow) (p : List PendingRow) (c : List Change) (h' : List HeldRow) (p' : List PendingRow) (c' : List Change) (count : ℕ)
+-- granting as many as are granted is processing the name
+pub processed_by : (name : List ℕ) (h : List HeldRow) (p : List PendingRow) (c : List Change) (h' : List HeldRow) (p' : List PendingRow) (c' : List Change) (count : ℕ)
     → count ≡ length (grants (locks name h) (queue name p)) → h' ≡ h ++ map granted_lock (take count (queue name p)) → p' ≡ without_first name count p → c' ≡ c ++ map grant_change (take count (queue name p))
-    → lists_of h' p' c' ≡ settle_name (lists_of h p c) name
-settled_by name h p c h' p' c' count counted held pending changes = rw (held, pending, changes, counted, take_grants (locks name h) (queue name p)) refl
+    → lists_of h' p' c' ≡ process_queue (lists_of h p c) name
+processed_by name h p c h' p' c' count counted held pending changes = rw (held, pending, changes, counted, take_grants (locks name h) (queue name p)) refl

@@ -22,21 +22,21 @@ use Rattle.wl_machine.specs.declared.command.Reply.TheVariants as reply
 use Rattle.wl_machine.specs.State.{State, opening}
 use Rattle.wl_machine.specs.Grants.{locks, Lists, lists_of}
 use Rattle.wl_machine.specs.Refusals.{refusal, reason_in}
-use Rattle.wl_machine.specs.Step.{Outcome, settled, accepted, step, unless_refused, no_changes, is_untaken, is_lock_of, is_abortable, is_waiting_on, is_signal, with_taken, new_request, available, request_step, steal_locks, enqueue, stealing_request, plain_request, unavailable, without_lock, with_aborted, without_agent, lock_ends, request_ends, abort_ends, terminate_ends, take_step}
+use Rattle.wl_machine.specs.Step.{StepResult, after_processing, accepted, step, unless_refused, no_changes, is_untaken, is_lock_of, is_abortable, is_waiting_on, is_signal, with_taken, new_request, available, request_step, steal_locks, enqueue, stealing_request, plain_request, unavailable, without_lock, with_aborted, without_agent, lock_ends, request_ends, abort_ends, terminate_ends, take_step}
 use Rattle.wl_machine.specs.Laws.{take_changes, all_changes, history, phases_of, are_moves, HistoriesAreMoves, OneEndAtMost}
 use Rattle.wl_machine.proofs.Lists.{filters_commute, filter_map, any_both, passes_first, and_second}
-use Rattle.wl_machine.proofs.Stands.{lock_phases, held_of, waiting_of, phase_of_lock, Stands, last_phase, Moved, moves_append, stay, Told, phases_append, moved_as, settles_told, ended_requests, ended_locks}
+use Rattle.wl_machine.proofs.Stands.{lock_phases, held_of, waiting_of, phase_of_lock, Stands, last_phase, Moved, moves_append, stay, Told, phases_append, moved_as, processes_told, ended_requests, ended_locks}
 
--- an outcome brings the request from a phase to where it stands
-abbrev Brought : ℕ → Phase → Outcome → Type 0
-Brought id phase outcome = Told id phase (lists_of outcome.state.held outcome.state.pending outcome.changes)
+-- a step brings the request from a phase to where it stands
+abbrev Brought : ℕ → Phase → StepResult → Type 0
+Brought id phase step_result = Told id phase (lists_of step_result.state.held step_result.state.pending step_result.changes)
 
-either_way : (P : Outcome → Type 0) (b : Bool) (x y : Outcome) → P x → P y → P (cond b x y)
+either_way : (P : StepResult → Type 0) (b : Bool) (x y : StepResult) → P x → P y → P (cond b x y)
 either_way P true x y one two = one
 either_way P false x y one two = two
 
-settled_brings : (id : ℕ) (phase : Phase) (s : State) (ends : List Change) (answer : Reply) → Told id phase (lists_of s.held s.pending ends) → Brought id phase (settled s ends answer)
-settled_brings id phase s ends answer told = settles_told s.names id phase (lists_of s.held s.pending ends) told
+processed_brings : (id : ℕ) (phase : Phase) (s : State) (ends : List Change) (answer : Reply) → Told id phase (lists_of s.held s.pending ends) → Brought id phase (after_processing s ends answer)
+processed_brings id phase s ends answer told = processes_told s.names id phase (lists_of s.held s.pending ends) told
 
 abbrev StandsIn : ℕ → State → Phase → Type 0
 StandsIn id s phase = Stands (held_of id s.held) (waiting_of id s.pending) phase
@@ -66,7 +66,7 @@ may_abort agent signal reason lock is = at_taken lock.taken refl
 release_brings : (id : ℕ) (phase : Phase) (s : State) (agent number : ℕ) → StandsIn id s phase → Brought id phase (accepted s (Release agent number))
 release_brings id phase s agent number stands =
     either_way (Brought id phase) (list_any (is_lock_of agent number) s.held) _ _
-    (settled_brings id phase (without_lock s agent number) (lock_ends Released (filter (is_lock_of agent number) s.held)) reply.Done
+    (processed_brings id phase (without_lock s agent number) (lock_ends Released (filter (is_lock_of agent number) s.held)) reply.Done
     (ended_locks id (is_lock_of agent number) Released phase (lists_of s.held s.pending []) (λ lock own. may_release lock) (nothing_brings id phase s stands)))
     (nothing_brings id phase s stands)
 
@@ -74,7 +74,7 @@ abort_brings : (id : ℕ) (phase : Phase) (s : State) (agent signal : ℕ) (reas
 abort_brings id phase s agent signal reason stands =
     either_way (Brought id phase) (is_some (reason_in s.signals agent signal)) _ _
     (nothing_brings id phase s stands)
-    (settled_brings id phase (with_aborted s agent signal reason) (abort_ends s agent signal reason) reply.Done
+    (processed_brings id phase (with_aborted s agent signal reason) (abort_ends s agent signal reason) reply.Done
     (ended_locks id (is_abortable agent signal) (Aborted reason) phase
     (lists_of s.held (filter (λ request. not (is_waiting_on agent signal request)) s.pending) (request_ends (Aborted reason) (filter (is_waiting_on agent signal) s.pending)))
     (may_abort agent signal reason)
@@ -82,7 +82,7 @@ abort_brings id phase s agent signal reason stands =
 
 terminate_brings : (id : ℕ) (phase : Phase) (s : State) (agent : ℕ) → StandsIn id s phase → Brought id phase (accepted s (Terminate agent))
 terminate_brings id phase s agent stands =
-    settled_brings id phase (without_agent s agent) (terminate_ends s agent) reply.Done
+    processed_brings id phase (without_agent s agent) (terminate_ends s agent) reply.Done
     (ended_locks id (λ lock. lock.agent == agent) Released phase
     (lists_of s.held (filter (λ request. not (request.agent == agent)) s.pending) (request_ends (Aborted AbortError) (filter (λ request. request.agent == agent) s.pending)))
     (λ lock own. may_release lock)
@@ -124,14 +124,14 @@ added id phase s lists request before born same none told = at_number (request.n
 steal_brings : (id : ℕ) (phase : Phase) (s : State) (request : PendingRow) → ((request.number == id) ≡ true → Born id s phase) → StandsIn id s phase → Brought id phase (stealing_request s request)
 steal_brings id phase s request born stands =
     let named : HeldRow → Bool = λ lock. bytes_eq lock.name request.name in
-    settled_brings id phase (steal_locks s request) (lock_ends Stolen (locks request.name s.held)) reply.Done
+    processed_brings id phase (steal_locks s request) (lock_ends Stolen (locks request.name s.held)) reply.Done
     (added id phase s (lists_of (filter (λ lock. not (bytes_eq lock.name request.name)) s.held) s.pending (lock_ends Stolen (locks request.name s.held))) request true born refl
     (λ none. (lock_phases id (λ lock. bytes_eq lock.name request.name) Stolen s.held ∙ rw none refl, filters_commute (λ (lock : HeldRow). lock.number == id) (λ lock. not (bytes_eq lock.name request.name)) s.held ∙ rw none refl))
     (ended_locks id (λ lock. bytes_eq lock.name request.name) Stolen phase (lists_of s.held s.pending []) (λ lock own. may_steal lock) (nothing_brings id phase s stands)))
 
 plain_brings : (id : ℕ) (phase : Phase) (s : State) (request : PendingRow) → ((request.number == id) ≡ true → Born id s phase) → StandsIn id s phase → Brought id phase (plain_request s request)
 plain_brings id phase s request born stands =
-    settled_brings id phase (enqueue s request) [] reply.Done
+    processed_brings id phase (enqueue s request) [] reply.Done
     (added id phase s (lists_of s.held s.pending []) request false born refl (λ none. (refl, none)) (nothing_brings id phase s stands))
 
 unavailable_brings : (id : ℕ) (phase : Phase) (s : State) (request : PendingRow) → ((request.number == id) ≡ true → Born id s phase) → StandsIn id s phase → Brought id phase (unavailable s request)
@@ -153,8 +153,8 @@ request_brings id phase s agent ask born stands =
     (unavailable_brings id phase s request born stands) (plain_brings id phase s request born stands))
 
 -- the changes of a command, its take among them
-abbrev BroughtBy : ℕ → Phase → Command → Outcome → Type 0
-BroughtBy id phase command outcome = Told id phase (lists_of outcome.state.held outcome.state.pending (all_changes command outcome))
+abbrev BroughtBy : ℕ → Phase → Command → StepResult → Type 0
+BroughtBy id phase command step_result = Told id phase (lists_of step_result.state.held step_result.state.pending (all_changes command step_result))
 
 take_own : (id : ℕ) (phase : Phase) (held : List HeldRow) (pending : List PendingRow) → Stands held pending phase → ((lock : HeldRow) (rest : List HeldRow) → held ≡ lock ∷ rest → (lock.number == id) ≡ true)
     → list_any (λ lock. not lock.taken) held ≡ true → Moved phase (Taken ∷ []) (map (with_taken id) held) pending
@@ -212,8 +212,8 @@ request_next s agent ask =
     (either_way (λ o. o.state.next.request ≡ s.next.request + 1) (ask.if_available && not (available s request)) (unavailable s request) (plain_request s request) refl refl)
 
 -- where no take counts
-no_take : (id : ℕ) (phase : Phase) (command : Command) (outcome : Outcome) → take_changes command outcome.reply ≡ [] → Brought id phase outcome → BroughtBy id phase command outcome
-no_take id phase command outcome none brought = rw none (rw (append-nil outcome.changes) brought)
+no_take : (id : ℕ) (phase : Phase) (command : Command) (step_result : StepResult) → take_changes command step_result.reply ≡ [] → Brought id phase step_result → BroughtBy id phase command step_result
+no_take id phase command step_result none brought = rw none (rw (append-nil step_result.changes) brought)
 
 refused_take : (command : Command) (refusal : Refusal) → take_changes command (reply.Refused refusal) ≡ []
 refused_take (Take id) refusal = refl
@@ -248,9 +248,9 @@ accepted_next s (NewSignal agent) = omega arith
 accepted_next s (Query agent) = omega arith
 
 -- one step, whatever refuses it
-record Stepped (id : ℕ) (s : State) (command : Command) (outcome : Outcome) : Type 0 where
-  brings : (phase : Phase) → (id < outcome.state.next.request → s.next.request ≤ id → Born id s phase) → StandsIn id s phase → BroughtBy id phase command outcome
-  next : s.next.request ≤ outcome.state.next.request
+record Stepped (id : ℕ) (s : State) (command : Command) (step_result : StepResult) : Type 0 where
+  brings : (phase : Phase) → (id < step_result.state.next.request → s.next.request ≤ id → Born id s phase) → StandsIn id s phase → BroughtBy id phase command step_result
+  next : s.next.request ≤ step_result.state.next.request
 
 stepped : (id : ℕ) (s : State) (command : Command) (o : Option Refusal) → Stepped id s command (unless_refused o s command)
 stepped id s command None = record { brings = λ phase born stands. accepted_brings id phase s command born stands; next = accepted_next s command }
@@ -259,12 +259,12 @@ stepped id s command (Some refusal) = record { brings = λ phase born stands. no
 born_moves : (commands : List Command) (id : ℕ) (s : State) (phase : Phase) → id < s.next.request → StandsIn id s phase → are_moves phase (phases_of id (history commands s)) ≡ true
 born_moves [] id s phase below stands = refl
 born_moves (command ∷ commands) id s phase below stands =
-    let outcome = step s command in
+    let step_result = step s command in
     let one = stepped id s command (refusal s command) in
     let brought = one.brings phase (λ grown new. absurd (omega arith)) stands in
     let grows = one.next in
-    let rest = born_moves commands id outcome.state (last_phase phase (phases_of id (all_changes command outcome))) (omega arith) brought.stands in
-    rw (phases_append id (all_changes command outcome) (history commands outcome.state)) (moves_append phase (phases_of id (all_changes command outcome)) (phases_of id (history commands outcome.state)) brought.moves rest)
+    let rest = born_moves commands id step_result.state (last_phase phase (phases_of id (all_changes command step_result))) (omega arith) brought.stands in
+    rw (phases_append id (all_changes command step_result) (history commands step_result.state)) (moves_append phase (phases_of id (all_changes command step_result)) (phases_of id (history commands step_result.state)) brought.moves rest)
 
 -- nothing follows an end
 after_end : (end : Phase) (phases : List Phase) → is_end end ≡ true → are_moves end phases ≡ true → phases ≡ []
@@ -294,8 +294,8 @@ unborn_moves : (commands : List Command) (id : ℕ) (s : State) → s.next.reque
 unborn_moves [] id s above unheld unqueued = refl
 unborn_moves (command ∷ commands) id s above unheld unqueued = at_next (nat_lt id (step s command).state.next.request) refl (unborn_moves commands id (step s command).state)
   where
-    outcome : Outcome
-    outcome = step s command
+    step_result : StepResult
+    step_result = step s command
 
     stands : (phase : Phase) → StandsIn id s phase
     stands phase = rw (unheld, unqueued) tt
@@ -306,14 +306,14 @@ unborn_moves (command ∷ commands) id s above unheld unqueued = at_next (nat_lt
     at_next true is more =
         let below : id < (step s command).state.next.request = ltb-true id _ is in
         let brought = (stepped id s command (refusal s command)).brings Pending (λ grown new. record { pending = refl; unheld = unheld; unqueued = unqueued }) (stands Pending) in
-        let rest = born_moves commands id outcome.state (last_phase Pending (phases_of id (all_changes command outcome))) below brought.stands in
-        rw (phases_append id (all_changes command outcome) (history commands outcome.state)) (moves_append Pending (phases_of id (all_changes command outcome)) (phases_of id (history commands outcome.state)) brought.moves rest)
+        let rest = born_moves commands id step_result.state (last_phase Pending (phases_of id (all_changes command step_result))) below brought.stands in
+        rw (phases_append id (all_changes command step_result) (history commands step_result.state)) (moves_append Pending (phases_of id (all_changes command step_result)) (phases_of id (history commands step_result.state)) brought.moves rest)
     at_next false is more =
         let not_yet : (step s command).state.next.request ≤ id = ltb-false id _ is in
         let brought = (stepped id s command (refusal s command)).brings Unavailable (λ grown new. absurd (omega arith)) (stands Unavailable) in
-        let none : phases_of id (all_changes command outcome) ≡ [] = after_end Unavailable (phases_of id (all_changes command outcome)) refl brought.moves in
-        let nowhere = stands_nowhere (held_of id outcome.state.held) (waiting_of id outcome.state.pending) (subst (λ p. Stands (held_of id outcome.state.held) (waiting_of id outcome.state.pending) (last_phase Unavailable p)) none brought.stands) in
-        rw (phases_append id (all_changes command outcome) (history commands outcome.state), none) (more not_yet nowhere.0 nowhere.1)
+        let none : phases_of id (all_changes command step_result) ≡ [] = after_end Unavailable (phases_of id (all_changes command step_result)) refl brought.moves in
+        let nowhere = stands_nowhere (held_of id step_result.state.held) (waiting_of id step_result.state.pending) (subst (λ p. Stands (held_of id step_result.state.held) (waiting_of id step_result.state.pending) (last_phase Unavailable p)) none brought.stands) in
+        rw (phases_append id (all_changes command step_result) (history commands step_result.state), none) (more not_yet nowhere.0 nowhere.1)
 
 pub histories_are_moves : HistoriesAreMoves
 histories_are_moves next commands id = at_next (nat_lt id next.request) refl

@@ -25,18 +25,18 @@ use Rattle.wl_machine.specs.declared.rows.PendingRow.{PendingRow}
 use Rattle.wl_machine.specs.State.{State}
 use Rattle.wl_machine.specs.Grants.{locks}
 use Rattle.wl_machine.specs.Refusals.{refusal, reason_in}
-use Rattle.wl_machine.specs.Step.{Outcome, step, accepted, unless_refused, no_changes, lock_ends, request_ends, with_name, new_request, numbered, available, plain_request, unavailable, stealing_request, request_step, is_lock_of, release_step, is_untaken, with_taken, is_waiting_on, is_abortable, with_reason, abort_step, terminate_step}
+use Rattle.wl_machine.specs.Step.{StepResult, step, accepted, unless_refused, no_changes, lock_ends, request_ends, with_name, new_request, numbered, available, plain_request, unavailable, stealing_request, request_step, is_lock_of, release_step, is_untaken, with_taken, is_waiting_on, is_abortable, with_reason, abort_step, terminate_step}
 use Rattle.wl_machine.specs.Laws.{phases_of}
-use Rattle.wl_machine.specs.OneMove.{lock_phase, held_phases, pending_phases, phases_in, MovesOnce, IsNumbered, is_plain_move, entering, table_of, is_take, taken_from, RequestsMoveOnce, NumbersStayApart, TakeTakesOne}
-use Rattle.wl_machine.proofs.SettlingMoves.{settled_moves, pending_phases-append, phases_of-append}
+use Rattle.wl_machine.specs.OneMove.{lock_phase, held_phases, pending_phases, phases_in, MovesOnce, IsNumbered, is_plain_move, added_phases, table_of, is_take, taken_from, RequestsMoveOnce, NumbersStayApart, TakeTakesOne}
+use Rattle.wl_machine.proofs.ProcessingMoves.{processed_moves, pending_phases-append, phases_of-append}
 use Rattle.wl_machine.proofs.Runs.{either}
 use Rattle.wl_machine.proofs.EndMoves.{locks_end, requests_end, both_end}
 
 -- an outcome moves the request of this number once at most
-record Moved (table : Phase → Phase → Bool) (before : List Phase) (id : ℕ) (o : Outcome) : Type 0 where
+record Moved (table : Phase → Phase → Bool) (before : List Phase) (id : ℕ) (o : StepResult) : Type 0 where
   pub once : MovesOnce table before (phases_of id o.changes) (phases_in o.state id)
 
-if_moved : (table : Phase → Phase → Bool) (before : List Phase) (id : ℕ) (b : Bool) (x y : Outcome) → Moved table before id x → Moved table before id y → Moved table before id (cond b x y)
+if_moved : (table : Phase → Phase → Bool) (before : List Phase) (id : ℕ) (b : Bool) (x y : StepResult) → Moved table before id x → Moved table before id y → Moved table before id (cond b x y)
 if_moved table before id true x y one two = one
 if_moved table before id false x y one two = two
 
@@ -53,7 +53,7 @@ release_moves : (s : State) (agent lock id : ℕ) → IsNumbered s → Moved is_
 release_moves s agent lock id num =
     if_moved is_plain_move (phases_in s id) id (list_any (is_lock_of agent lock) s.held) _ _
     (record {
-      once = settled_moves is_plain_move id (record s { held = filter (λ l. not (is_lock_of agent lock l)) s.held }) (lock_ends Released (filter (is_lock_of agent lock) s.held)) (reply.Released released.Released) (phases_in s id) refl (num.one id)
+      once = processed_moves is_plain_move id (record s { held = filter (λ l. not (is_lock_of agent lock l)) s.held }) (lock_ends Released (filter (is_lock_of agent lock) s.held)) (reply.Released released.Released) (phases_in s id) refl (num.one id)
           (both_end is_plain_move (held_phases id s.held) (pending_phases id s.pending) _ _ _ [] (num.one id)
           (locks_end is_plain_move (is_lock_of agent lock) Released id s.held refl (λ l chosen. lock_leaves Released l refl refl) (held_most s id num)) (inl (refl, refl)));
     })
@@ -62,7 +62,7 @@ release_moves s agent lock id num =
 terminate_moves : (s : State) (agent id : ℕ) → IsNumbered s → Moved is_plain_move (phases_in s id) id (terminate_step s agent)
 terminate_moves s agent id num = record {
   once =
-      settled_moves is_plain_move id (record s { agents = filter (λ row. not (row.number == agent)) s.agents; signals = filter (λ row. not (row.agent == agent)) s.signals; held = filter (λ lock. not (lock.agent == agent)) s.held; pending = filter (λ request. not (request.agent == agent)) s.pending })
+      processed_moves is_plain_move id (record s { agents = filter (λ row. not (row.number == agent)) s.agents; signals = filter (λ row. not (row.agent == agent)) s.signals; held = filter (λ lock. not (lock.agent == agent)) s.held; pending = filter (λ request. not (request.agent == agent)) s.pending })
       (request_ends (Aborted AbortError) (filter (λ request. request.agent == agent) s.pending) ++ lock_ends Released (filter (λ lock. lock.agent == agent) s.held)) reply.Done (phases_in s id) refl (num.one id)
       (rw (phases_of-append id (request_ends (Aborted AbortError) (filter (λ request. request.agent == agent) s.pending)) (lock_ends Released (filter (λ lock. lock.agent == agent) s.held)))
       (both_end is_plain_move (held_phases id s.held) (pending_phases id s.pending) _ _ _ _ (num.one id)
@@ -85,7 +85,7 @@ abort_moves : (s : State) (agent signal : ℕ) (reason : Reason) (id : ℕ) → 
 abort_moves s agent signal reason id num =
     if_moved is_move (phases_in s id) id (is_some (reason_in s.signals agent signal)) _ _ (record { once = inl (refl, refl) })
     (record {
-      once = settled_moves is_move id (record s { signals = map (with_reason agent signal reason) s.signals; held = filter (λ lock. not (is_abortable agent signal lock)) s.held; pending = filter (λ request. not (is_waiting_on agent signal request)) s.pending })
+      once = processed_moves is_move id (record s { signals = map (with_reason agent signal reason) s.signals; held = filter (λ lock. not (is_abortable agent signal lock)) s.held; pending = filter (λ request. not (is_waiting_on agent signal request)) s.pending })
           (request_ends (Aborted reason) (filter (is_waiting_on agent signal) s.pending) ++ lock_ends (Aborted reason) (filter (is_abortable agent signal) s.held)) (reply.Aborted aborted.Done) (phases_in s id) refl (num.one id)
           (rw (phases_of-append id (request_ends (Aborted reason) (filter (is_waiting_on agent signal) s.pending)) (lock_ends (Aborted reason) (filter (is_abortable agent signal) s.held)))
           (both_end is_move (held_phases id s.held) (pending_phases id s.pending) _ _ _ _ (num.one id)
@@ -93,11 +93,11 @@ abort_moves s agent signal reason id num =
           (requests_end is_move (is_waiting_on agent signal) (Aborted reason) id s.pending refl refl (pending_most s id num))));
     })
 
--- the phases of a request that enters
-abbrev entered : State → ℕ → List Phase
-entered s id = cond (s.next.request == id) (Pending ∷ []) []
+-- the phase of a request that is added
+abbrev added_by_request : State → ℕ → List Phase
+added_by_request s id = cond (s.next.request == id) (Pending ∷ []) []
 
-one_request : (s : State) (r : PendingRow) (id : ℕ) → r.number ≡ s.next.request → pending_phases id (r ∷ []) ≡ entered s id
+one_request : (s : State) (r : PendingRow) (id : ℕ) → r.number ≡ s.next.request → pending_phases id (r ∷ []) ≡ added_by_request s id
 one_request s r id e = each (r.number == id) ∙ ap (λ n. cond (n == id) (Pending ∷ []) []) e
   where
     each : (b : Bool) → map (λ (x : PendingRow). Pending) (cond b (r ∷ []) []) ≡ cond b (Pending ∷ []) []
@@ -107,67 +107,67 @@ one_request s r id e = each (r.number == id) ∙ ap (λ n. cond (n == id) (Pendi
 new_or_none : (s : State) (id : ℕ) → IsNumbered s → ((s.next.request == id) ≡ true × (phases_in s id ≡ [])) ⊎ ((s.next.request == id) ≡ false)
 new_or_none s id num = dite (ℕ_discrete s.next.request id) (λ e. inl (eq-eqb s.next.request id e, num.below id (omega (arith, e)))) (λ n. inr (ne_eqb s.next.request id n))
 
-entered_most : (s : State) (id : ℕ) → IsNumbered s → length (phases_in s id ++ entered s id) ≤ 1
-entered_most s id num = at_new (new_or_none s id num)
+added_by_request_most : (s : State) (id : ℕ) → IsNumbered s → length (phases_in s id ++ added_by_request s id) ≤ 1
+added_by_request_most s id num = at_new (new_or_none s id num)
   where
-    at_new : ((s.next.request == id) ≡ true × (phases_in s id ≡ [])) ⊎ ((s.next.request == id) ≡ false) → length (phases_in s id ++ entered s id) ≤ 1
+    at_new : ((s.next.request == id) ≡ true × (phases_in s id ≡ [])) ⊎ ((s.next.request == id) ≡ false) → length (phases_in s id ++ added_by_request s id) ≤ 1
     at_new (inl (is, none)) = rw (none, is) (omega arith)
     at_new (inr is) = rw (is, append-nil (phases_in s id)) (num.one id)
 
-plain_moves : (s : State) (r : PendingRow) (id : ℕ) → r.number ≡ s.next.request → IsNumbered s → Moved is_plain_move (phases_in s id ++ entered s id) id (plain_request s r)
+plain_moves : (s : State) (r : PendingRow) (id : ℕ) → r.number ≡ s.next.request → IsNumbered s → Moved is_plain_move (phases_in s id ++ added_by_request s id) id (plain_request s r)
 plain_moves s r id e num = record {
   once =
-      settled_moves is_plain_move id (record (numbered s) { names = with_name r.name s.names; pending = s.pending ++ r ∷ [] }) [] (reply.Request r.number) (phases_in s id ++ entered s id) refl (entered_most s id num)
-      (inl (refl, rw (pending_phases-append id s.pending (r ∷ []), one_request s r id e) (sym (append_assoc (held_phases id s.held) (pending_phases id s.pending) (entered s id)))));
+      processed_moves is_plain_move id (record (numbered s) { names = with_name r.name s.names; pending = s.pending ++ r ∷ [] }) [] (reply.Request r.number) (phases_in s id ++ added_by_request s id) refl (added_by_request_most s id num)
+      (inl (refl, rw (pending_phases-append id s.pending (r ∷ []), one_request s r id e) (sym (append_assoc (held_phases id s.held) (pending_phases id s.pending) (added_by_request s id)))));
 }
 
-in_front : (s : State) (r : PendingRow) (id : ℕ) → r.number ≡ s.next.request → IsNumbered s → pending_phases id (r ∷ s.pending) ≡ pending_phases id s.pending ++ entered s id
+in_front : (s : State) (r : PendingRow) (id : ℕ) → r.number ≡ s.next.request → IsNumbered s → pending_phases id (r ∷ s.pending) ≡ pending_phases id s.pending ++ added_by_request s id
 in_front s r id e num = at_new (new_or_none s id num)
   where
     right_none : (h p : List Phase) → h ++ p ≡ [] → p ≡ []
     right_none [] p none = none
     right_none (x ∷ h) p none = absurd (cc)
 
-    at_new : ((s.next.request == id) ≡ true × (phases_in s id ≡ [])) ⊎ ((s.next.request == id) ≡ false) → pending_phases id (r ∷ s.pending) ≡ pending_phases id s.pending ++ entered s id
+    at_new : ((s.next.request == id) ≡ true × (phases_in s id ≡ [])) ⊎ ((s.next.request == id) ≡ false) → pending_phases id (r ∷ s.pending) ≡ pending_phases id s.pending ++ added_by_request s id
     at_new (inl (is, none)) = rw (e, is, right_none (held_phases id s.held) (pending_phases id s.pending) none) refl
     at_new (inr is) = rw (e, is) (sym (append-nil (pending_phases id s.pending)))
 
-steal_moves : (s : State) (r : PendingRow) (id : ℕ) → r.number ≡ s.next.request → IsNumbered s → Moved is_plain_move (phases_in s id ++ entered s id) id (stealing_request s r)
+steal_moves : (s : State) (r : PendingRow) (id : ℕ) → r.number ≡ s.next.request → IsNumbered s → Moved is_plain_move (phases_in s id ++ added_by_request s id) id (stealing_request s r)
 steal_moves s r id e num = record {
   once =
-      settled_moves is_plain_move id (record (numbered s) { names = with_name r.name s.names; held = filter (λ lock. not (bytes_eq lock.name r.name)) s.held; pending = r ∷ s.pending })
-      (lock_ends Stolen (locks r.name s.held)) (reply.Request r.number) (phases_in s id ++ entered s id) refl (entered_most s id num)
-      (rw (append_assoc (held_phases id s.held) (pending_phases id s.pending) (entered s id), in_front s r id e num)
-      (both_end is_plain_move (held_phases id s.held) (pending_phases id s.pending ++ entered s id) _ _ _ [] (rw (append_assoc (held_phases id s.held) (pending_phases id s.pending) (entered s id)) at (entered_most s id num))
+      processed_moves is_plain_move id (record (numbered s) { names = with_name r.name s.names; held = filter (λ lock. not (bytes_eq lock.name r.name)) s.held; pending = r ∷ s.pending })
+      (lock_ends Stolen (locks r.name s.held)) (reply.Request r.number) (phases_in s id ++ added_by_request s id) refl (added_by_request_most s id num)
+      (rw (append_assoc (held_phases id s.held) (pending_phases id s.pending) (added_by_request s id), in_front s r id e num)
+      (both_end is_plain_move (held_phases id s.held) (pending_phases id s.pending ++ added_by_request s id) _ _ _ [] (rw (append_assoc (held_phases id s.held) (pending_phases id s.pending) (added_by_request s id)) at (added_by_request_most s id num))
       (locks_end is_plain_move (λ lock. bytes_eq lock.name r.name) Stolen id s.held refl (λ l chosen. lock_leaves Stolen l refl refl) (held_most s id num)) (inl (refl, refl))));
 }
 
-unavailable_moves : (s : State) (r : PendingRow) (id : ℕ) → r.number ≡ s.next.request → IsNumbered s → Moved is_plain_move (phases_in s id ++ entered s id) id (unavailable s r)
+unavailable_moves : (s : State) (r : PendingRow) (id : ℕ) → r.number ≡ s.next.request → IsNumbered s → Moved is_plain_move (phases_in s id ++ added_by_request s id) id (unavailable s r)
 unavailable_moves s r id e num = at_new (new_or_none s id num)
   where
-    at_new : ((s.next.request == id) ≡ true × (phases_in s id ≡ [])) ⊎ ((s.next.request == id) ≡ false) → Moved is_plain_move (phases_in s id ++ entered s id) id (unavailable s r)
+    at_new : ((s.next.request == id) ≡ true × (phases_in s id ≡ [])) ⊎ ((s.next.request == id) ≡ false) → Moved is_plain_move (phases_in s id ++ added_by_request s id) id (unavailable s r)
     at_new (inl (is, none)) = record { once = inr (Pending, Unavailable, rw (none, is) refl, rw (e, is) refl, refl, none) }
     at_new (inr is) = record { once = inl (rw (e, is) refl, rw is (sym (append-nil (phases_in s id)))) }
 
-request_moves : (s : State) (agent : ℕ) (ask : Ask) (id : ℕ) → IsNumbered s → Moved is_plain_move (phases_in s id ++ entered s id) id (request_step s agent ask)
+request_moves : (s : State) (agent : ℕ) (ask : Ask) (id : ℕ) → IsNumbered s → Moved is_plain_move (phases_in s id ++ added_by_request s id) id (request_step s agent ask)
 request_moves s agent ask id num =
-    if_moved is_plain_move (phases_in s id ++ entered s id) id ask.steal _ _ (steal_moves s (new_request s agent ask) id refl num)
-    (if_moved is_plain_move (phases_in s id ++ entered s id) id (ask.if_available && not (available s (new_request s agent ask))) _ _ (unavailable_moves s (new_request s agent ask) id refl num) (plain_moves s (new_request s agent ask) id refl num))
+    if_moved is_plain_move (phases_in s id ++ added_by_request s id) id ask.steal _ _ (steal_moves s (new_request s agent ask) id refl num)
+    (if_moved is_plain_move (phases_in s id ++ added_by_request s id) id (ask.if_available && not (available s (new_request s agent ask))) _ _ (unavailable_moves s (new_request s agent ask) id refl num) (plain_moves s (new_request s agent ask) id refl num))
 
 -- a command that adds no request
-none_enters : (table : Phase → Phase → Bool) (before changes after : List Phase) → MovesOnce table before changes after → MovesOnce table (before ++ []) changes after
-none_enters table before changes after moves = rw (append-nil before) moves
+none_added : (table : Phase → Phase → Bool) (before changes after : List Phase) → MovesOnce table before changes after → MovesOnce table (before ++ []) changes after
+none_added table before changes after moves = rw (append-nil before) moves
 
 pub requests_move_once : RequestsMoveOnce
-requests_move_once s (Enter kind) id num other = none_enters is_plain_move (phases_in s id) _ _ (inl (refl, refl))
-requests_move_once s (SetActive agent active) id num other = none_enters is_plain_move (phases_in s id) _ _ (inl (refl, refl))
-requests_move_once s (NewSignal agent) id num other = none_enters is_plain_move (phases_in s id) _ _ (inl (refl, refl))
+requests_move_once s (Enter kind) id num other = none_added is_plain_move (phases_in s id) _ _ (inl (refl, refl))
+requests_move_once s (SetActive agent active) id num other = none_added is_plain_move (phases_in s id) _ _ (inl (refl, refl))
+requests_move_once s (NewSignal agent) id num other = none_added is_plain_move (phases_in s id) _ _ (inl (refl, refl))
 requests_move_once s (Request agent ask) id num other = (request_moves s agent ask id num).once
 requests_move_once s (Take taken) id num other = absurd (cc)
-requests_move_once s (Release agent lock) id num other = none_enters is_plain_move (phases_in s id) _ _ (release_moves s agent lock id num).once
-requests_move_once s (Abort agent signal reason) id num other = none_enters is_move (phases_in s id) _ _ (abort_moves s agent signal reason id num).once
-requests_move_once s (Terminate agent) id num other = none_enters is_plain_move (phases_in s id) _ _ (terminate_moves s agent id num).once
-requests_move_once s (Query agent) id num other = none_enters is_plain_move (phases_in s id) _ _ (inl (refl, refl))
+requests_move_once s (Release agent lock) id num other = none_added is_plain_move (phases_in s id) _ _ (release_moves s agent lock id num).once
+requests_move_once s (Abort agent signal reason) id num other = none_added is_move (phases_in s id) _ _ (abort_moves s agent signal reason id num).once
+requests_move_once s (Terminate agent) id num other = none_added is_plain_move (phases_in s id) _ _ (terminate_moves s agent id num).once
+requests_move_once s (Query agent) id num other = none_added is_plain_move (phases_in s id) _ _ (inl (refl, refl))
 
 -- a lock that is taken, and another
 with_taken_phase : (taken : ℕ) (l : HeldRow) → lock_phase (with_taken taken l) ≡ cond (l.number == taken) (taken_from (lock_phase l)) (lock_phase l)
@@ -241,13 +241,13 @@ after_none table before changes after (inl e) none = e.1 ∙ none
 after_none table before changes after (inr (from, to, was, gives, move, left)) none = absurd (let no : (from ∷ []) ≡ [] = sym was ∙ none in cc)
 
 -- a command that adds no request and moves each once
-stay_apart : (table : Phase → Phase → Bool) (s : State) (o : Outcome) → o.state.next.request ≡ s.next.request → IsNumbered s → ((id : ℕ) → Moved table (phases_in s id) id o) → IsNumbered o.state
+stay_apart : (table : Phase → Phase → Bool) (s : State) (o : StepResult) → o.state.next.request ≡ s.next.request → IsNumbered s → ((id : ℕ) → Moved table (phases_in s id) id o) → IsNumbered o.state
 stay_apart table s o next num moves = record {
   one = λ id. after_most table (phases_in s id) (phases_of id o.changes) (phases_in o.state id) (moves id).once (num.one id);
   below = λ id low. after_none table (phases_in s id) (phases_of id o.changes) (phases_in o.state id) (moves id).once (num.below id (rw next at low));
 }
 
-if_next : (b : Bool) (x y : Outcome) (n : ℕ) → x.state.next.request ≡ n → y.state.next.request ≡ n → (cond b x y).state.next.request ≡ n
+if_next : (b : Bool) (x y : StepResult) (n : ℕ) → x.state.next.request ≡ n → y.state.next.request ≡ n → (cond b x y).state.next.request ≡ n
 if_next true x y n one two = one
 if_next false x y n one two = two
 
@@ -258,10 +258,10 @@ request_next s agent ask =
 
 request_numbered : (s : State) (agent : ℕ) (ask : Ask) → IsNumbered s → IsNumbered (request_step s agent ask).state
 request_numbered s agent ask num = record {
-  one = λ id. after_most is_plain_move (phases_in s id ++ entered s id) _ _ (request_moves s agent ask id num).once (entered_most s id num);
+  one = λ id. after_most is_plain_move (phases_in s id ++ added_by_request s id) _ _ (request_moves s agent ask id num).once (added_by_request_most s id num);
   below = λ id low.
       let high : s.next.request + 1 ≤ id = rw (request_next s agent ask) at low in
-      after_none is_plain_move (phases_in s id ++ entered s id) _ _ (request_moves s agent ask id num).once
+      after_none is_plain_move (phases_in s id ++ added_by_request s id) _ _ (request_moves s agent ask id num).once
       (rw (num.below id (omega (arith, high)), ne_eqb s.next.request id (λ e. absurd (omega (arith, high, e)))) refl);
 }
 
@@ -310,15 +310,15 @@ by_step s command new answer changes gives free = at_refusal (refusal s command)
   where
     at_refusal : (r : Option Refusal) → unless_refused r s command ≡ record { state = new; reply = answer; changes = changes } → accepted s command ≡ record { state = new; reply = answer; changes = changes }
     at_refusal None gives = gives
-    at_refusal (Some r) gives = absurd (let said : reply.Refused r ≡ answer = ap (λ (o : Outcome). o.reply) gives in let no : true ≡ false = ap is_refused said ∙ free in cc)
+    at_refusal (Some r) gives = absurd (let said : reply.Refused r ≡ answer = ap (λ (o : StepResult). o.reply) gives in let no : true ≡ false = ap is_refused said ∙ free in cc)
 
 pub moves_by_step : (s : State) (command : Command) (new : State) (answer : Reply) (changes : List Change) (id : ℕ) → step s command ≡ record { state = new; reply = answer; changes = changes } → is_refused answer ≡ false
-    → IsNumbered s → is_take command ≡ false → MovesOnce (table_of command) (phases_in s id ++ entering s command id) (phases_of id changes) (phases_in new id)
+    → IsNumbered s → is_take command ≡ false → MovesOnce (table_of command) (phases_in s id ++ added_phases s command id) (phases_of id changes) (phases_in new id)
 moves_by_step s command new answer changes id gives free num other =
-    subst (λ (o : Outcome). MovesOnce (table_of command) (phases_in s id ++ entering s command id) (phases_of id o.changes) (phases_in o.state id)) (by_step s command new answer changes gives free) (requests_move_once s command id num other)
+    subst (λ (o : StepResult). MovesOnce (table_of command) (phases_in s id ++ added_phases s command id) (phases_of id o.changes) (phases_in o.state id)) (by_step s command new answer changes gives free) (requests_move_once s command id num other)
 
 pub numbered_by_step : (s : State) (command : Command) (new : State) (answer : Reply) (changes : List Change) → step s command ≡ record { state = new; reply = answer; changes = changes } → IsNumbered s → IsNumbered new
-numbered_by_step s command new answer changes gives num = subst (λ (o : Outcome). IsNumbered o.state) gives (numbers_stay_apart s command num)
+numbered_by_step s command new answer changes gives num = subst (λ (o : StepResult). IsNumbered o.state) gives (numbers_stay_apart s command num)
 
 -- agents are numbered by entering alone, and requests by asking
 abbrev pub entrants : Command → ℕ
@@ -347,18 +347,18 @@ accepted_numbers s (Terminate agent) = (omega arith, omega arith)
 accepted_numbers s (Query agent) = (omega arith, omega arith)
 
 pub numbers_by_step : (s : State) (command : Command) (new : State) (answer : Reply) (changes : List Change) → step s command ≡ record { state = new; reply = answer; changes = changes } → is_refused answer ≡ false → NumbersAfter s command new
-numbers_by_step s command new answer changes gives free = subst (λ (o : Outcome). NumbersAfter s command o.state) (by_step s command new answer changes gives free) (accepted_numbers s command)
+numbers_by_step s command new answer changes gives free = subst (λ (o : StepResult). NumbersAfter s command o.state) (by_step s command new answer changes gives free) (accepted_numbers s command)
 
-pub entering_most : (s : State) (command : Command) (id : ℕ) → IsNumbered s → length (phases_in s id ++ entering s command id) ≤ 1
-entering_most s (Request agent ask) id num = entered_most s id num
-entering_most s (Enter kind) id num = rw (append-nil (phases_in s id)) (num.one id)
-entering_most s (SetActive agent active) id num = rw (append-nil (phases_in s id)) (num.one id)
-entering_most s (NewSignal agent) id num = rw (append-nil (phases_in s id)) (num.one id)
-entering_most s (Take taken) id num = rw (append-nil (phases_in s id)) (num.one id)
-entering_most s (Release agent lock) id num = rw (append-nil (phases_in s id)) (num.one id)
-entering_most s (Abort agent signal reason) id num = rw (append-nil (phases_in s id)) (num.one id)
-entering_most s (Terminate agent) id num = rw (append-nil (phases_in s id)) (num.one id)
-entering_most s (Query agent) id num = rw (append-nil (phases_in s id)) (num.one id)
+pub added_phases_most : (s : State) (command : Command) (id : ℕ) → IsNumbered s → length (phases_in s id ++ added_phases s command id) ≤ 1
+added_phases_most s (Request agent ask) id num = added_by_request_most s id num
+added_phases_most s (Enter kind) id num = rw (append-nil (phases_in s id)) (num.one id)
+added_phases_most s (SetActive agent active) id num = rw (append-nil (phases_in s id)) (num.one id)
+added_phases_most s (NewSignal agent) id num = rw (append-nil (phases_in s id)) (num.one id)
+added_phases_most s (Take taken) id num = rw (append-nil (phases_in s id)) (num.one id)
+added_phases_most s (Release agent lock) id num = rw (append-nil (phases_in s id)) (num.one id)
+added_phases_most s (Abort agent signal reason) id num = rw (append-nil (phases_in s id)) (num.one id)
+added_phases_most s (Terminate agent) id num = rw (append-nil (phases_in s id)) (num.one id)
+added_phases_most s (Query agent) id num = rw (append-nil (phases_in s id)) (num.one id)
 
 -- a request that isn't there isn't changed
 pub no_change : (table : Phase → Phase → Bool) (before changes after : List Phase) → MovesOnce table before changes after → before ≡ [] → changes ≡ []
@@ -366,13 +366,13 @@ no_change table before changes after (inl e) none = e.0
 no_change table before changes after (inr (from, to, was, gives, move, left)) none = absurd (let some : (from ∷ []) ≡ [] = sym was ∙ none in cc)
 
 -- and a number that is given next or later is no request's
-pub nothing_entered : (s : State) (command : Command) (id : ℕ) → IsNumbered s → s.next.request + askers command ≤ id → phases_in s id ++ entering s command id ≡ []
-nothing_entered s (Request agent ask) id num high = rw (num.below id (omega (arith, high)), ne_eqb s.next.request id (λ e. absurd (omega (arith, high, e)))) refl
-nothing_entered s (Enter kind) id num high = rw (num.below id (omega (arith, high))) refl
-nothing_entered s (SetActive agent active) id num high = rw (num.below id (omega (arith, high))) refl
-nothing_entered s (NewSignal agent) id num high = rw (num.below id (omega (arith, high))) refl
-nothing_entered s (Take taken) id num high = rw (num.below id (omega (arith, high))) refl
-nothing_entered s (Release agent lock) id num high = rw (num.below id (omega (arith, high))) refl
-nothing_entered s (Abort agent signal reason) id num high = rw (num.below id (omega (arith, high))) refl
-nothing_entered s (Terminate agent) id num high = rw (num.below id (omega (arith, high))) refl
-nothing_entered s (Query agent) id num high = rw (num.below id (omega (arith, high))) refl
+pub no_phase_added : (s : State) (command : Command) (id : ℕ) → IsNumbered s → s.next.request + askers command ≤ id → phases_in s id ++ added_phases s command id ≡ []
+no_phase_added s (Request agent ask) id num high = rw (num.below id (omega (arith, high)), ne_eqb s.next.request id (λ e. absurd (omega (arith, high, e)))) refl
+no_phase_added s (Enter kind) id num high = rw (num.below id (omega (arith, high))) refl
+no_phase_added s (SetActive agent active) id num high = rw (num.below id (omega (arith, high))) refl
+no_phase_added s (NewSignal agent) id num high = rw (num.below id (omega (arith, high))) refl
+no_phase_added s (Take taken) id num high = rw (num.below id (omega (arith, high))) refl
+no_phase_added s (Release agent lock) id num high = rw (num.below id (omega (arith, high))) refl
+no_phase_added s (Abort agent signal reason) id num high = rw (num.below id (omega (arith, high))) refl
+no_phase_added s (Terminate agent) id num high = rw (num.below id (omega (arith, high))) refl
+no_phase_added s (Query agent) id num high = rw (num.below id (omega (arith, high))) refl

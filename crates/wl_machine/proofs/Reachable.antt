@@ -16,14 +16,14 @@ use Rattle.wl_machine.specs.declared.command.Command.TheVariants.{Enter, SetActi
 use Rattle.wl_machine.specs.declared.command.Reply.{Reply}
 use Rattle.wl_machine.specs.declared.command.Reply.TheVariants as reply
 use Rattle.wl_machine.specs.State.{State, opening}
-use Rattle.wl_machine.specs.Grants.{any_exclusive, grants, shared_prefix, locks, queue, without_first, Lists, lists_of, settle_name, settle_names, in_use}
+use Rattle.wl_machine.specs.Grants.{any_exclusive, grants, shared_prefix, locks, queue, without_first, Lists, lists_of, process_queue, process_queues, in_use}
 use Rattle.wl_machine.specs.Refusals.{reason_in}
-use Rattle.wl_machine.specs.Step.{settled, accepted, with_name, new_request, available, is_untaken, is_lock_of, request_step, stealing_request, plain_request, unavailable, is_waiting_on}
+use Rattle.wl_machine.specs.Step.{after_processing, accepted, with_name, new_request, available, is_untaken, is_lock_of, request_step, stealing_request, plain_request, unavailable, is_waiting_on}
 use Rattle.wl_machine.specs.Laws.{NothingLeftToGrant}
 use Rattle.wl_machine.proofs.Flagged.{grants_flagged}
 use Rattle.wl_machine.proofs.Lists.{or_false, same_bytes}
 use Rattle.wl_machine.proofs.Runs.{after_run, either}
-use Rattle.wl_machine.proofs.Quiet.{quiet, settles_make, queue_without, queue_other}
+use Rattle.wl_machine.proofs.Quiet.{quiet, processes_make, queue_without, queue_other}
 
 -- whether a name is among these
 abbrev pub among : List ℕ → List (List ℕ) → Bool
@@ -41,9 +41,9 @@ empty_at : (n m : List ℕ) (count : ℕ) (xs : List PendingRow) (b : Bool) → 
 empty_at n m count xs true is none = let same : n ≡ m = same_text n m (sym is) in rw same (queue_without m count xs ∙ rw none (drop-nil count))
 empty_at n m count xs false is none = queue_other n m count xs is ∙ none
 
-stays_empty : (names : List (List ℕ)) (lists : Lists) (m : List ℕ) → queue m lists.pending ≡ [] → queue m (settle_names lists names).pending ≡ []
+stays_empty : (names : List (List ℕ)) (lists : Lists) (m : List ℕ) → queue m lists.pending ≡ [] → queue m (process_queues lists names).pending ≡ []
 stays_empty [] lists m none = none
-stays_empty (n ∷ names) lists m none = stays_empty names (settle_name lists n) m (empty_at n m (length (grants (locks n lists.held) (queue n lists.pending))) lists.pending (bytes_eq n m) refl none)
+stays_empty (n ∷ names) lists m none = stays_empty names (process_queue lists n) m (empty_at n m (length (grants (locks n lists.held) (queue n lists.pending))) lists.pending (bytes_eq n m) refl none)
 
 no_request : (m : List ℕ) (xs : List PendingRow) → list_any (λ r. bytes_eq r.name m) xs ≡ false → queue m xs ≡ []
 no_request m [] none = refl
@@ -53,7 +53,7 @@ no_request m (x ∷ xs) none = at_name (bytes_eq x.name m) refl (no_request m xs
     at_name true is rest = absurd (let no : true ≡ false = rw is at none in cc)
     at_name false is rest = rw is (rest (rw is at none))
 
--- a name that is let go is not in use
+-- a name that leaves is not in use
 dropped : (p : List ℕ → Bool) (names : List (List ℕ)) (m : List ℕ) → among m names ≡ true → among m (filter p names) ≡ false → p m ≡ false
 dropped p [] m there gone = absurd (cc)
 dropped p (n ∷ names) m there gone = at_name (bytes_eq n m) refl (p n) refl (dropped p names m)
@@ -64,20 +64,20 @@ dropped p (n ∷ names) m there gone = at_name (bytes_eq n m) refl (p n) refl (d
     at_name false is true kept rest = rest (rw is at there) (rw (kept, is) at gone)
     at_name false is false kept rest = rest (rw is at there) (rw kept at gone)
 
-settled_good : (mid : State) (ends : List Change) (reply : Reply) → ((m : List ℕ) → among m mid.names ≡ false → queue m mid.pending ≡ []) → Good (settled mid ends reply).state
-settled_good mid ends reply listed =
+processed_good : (mid : State) (ends : List Change) (reply : Reply) → ((m : List ℕ) → among m mid.names ≡ false → queue m mid.pending ≡ []) → Good (after_processing mid ends reply).state
+processed_good mid ends reply listed =
     let start = lists_of mid.held mid.pending ends in
     record {
       quiet = λ m. quiet_at m (among m mid.names) refl;
       listed = λ m gone. listed_at m (among m mid.names) refl gone;
     }
   where
-    quiet_at : (m : List ℕ) (b : Bool) → among m mid.names ≡ b → quiet (settle_names (lists_of mid.held mid.pending ends) mid.names) m ≡ []
-    quiet_at m true is = settles_make mid.names (lists_of mid.held mid.pending ends) m is
-    quiet_at m false is = rw (stays_empty mid.names (lists_of mid.held mid.pending ends) m (listed m is)) (grants_none (locks m (settle_names (lists_of mid.held mid.pending ends) mid.names).held))
+    quiet_at : (m : List ℕ) (b : Bool) → among m mid.names ≡ b → quiet (process_queues (lists_of mid.held mid.pending ends) mid.names) m ≡ []
+    quiet_at m true is = processes_make mid.names (lists_of mid.held mid.pending ends) m is
+    quiet_at m false is = rw (stays_empty mid.names (lists_of mid.held mid.pending ends) m (listed m is)) (grants_none (locks m (process_queues (lists_of mid.held mid.pending ends) mid.names).held))
 
-    listed_at : (m : List ℕ) (b : Bool) → among m mid.names ≡ b → among m (settled mid ends reply).state.names ≡ false → queue m (settle_names (lists_of mid.held mid.pending ends) mid.names).pending ≡ []
-    listed_at m true is gone = no_request m (settle_names (lists_of mid.held mid.pending ends) mid.names).pending (or_false _ _ (dropped (in_use (settle_names (lists_of mid.held mid.pending ends) mid.names).held (settle_names (lists_of mid.held mid.pending ends) mid.names).pending) mid.names m is gone)).1
+    listed_at : (m : List ℕ) (b : Bool) → among m mid.names ≡ b → among m (after_processing mid ends reply).state.names ≡ false → queue m (process_queues (lists_of mid.held mid.pending ends) mid.names).pending ≡ []
+    listed_at m true is gone = no_request m (process_queues (lists_of mid.held mid.pending ends) mid.names).pending (or_false _ _ (dropped (in_use (process_queues (lists_of mid.held mid.pending ends) mid.names).held (process_queues (lists_of mid.held mid.pending ends) mid.names).pending) mid.names m is gone)).1
     listed_at m false is gone = stays_empty mid.names (lists_of mid.held mid.pending ends) m (listed m is)
 
 -- a name that is not among the names with another is neither
@@ -122,10 +122,10 @@ front_listed s r good m gone =
     rw parts.1 (good.listed m parts.0)
 
 plain_good : (s : State) (r : PendingRow) → Good s → Good (plain_request s r).state
-plain_good s r good = settled_good _ _ reply.Done (pushed_listed s r good)
+plain_good s r good = processed_good _ _ reply.Done (pushed_listed s r good)
 
 steal_good : (s : State) (r : PendingRow) → Good s → Good (stealing_request s r).state
-steal_good s r good = settled_good _ _ reply.Done (front_listed s r good)
+steal_good s r good = processed_good _ _ reply.Done (front_listed s r good)
 
 unavailable_good : (s : State) (r : PendingRow) → Good s → Good (unavailable s r).state
 unavailable_good s r good = record { quiet = good.quiet; listed = good.listed }
@@ -145,9 +145,9 @@ accepted_good s (SetActive agent active) good = record { quiet = good.quiet; lis
 accepted_good s (NewSignal agent) good = record { quiet = good.quiet; listed = good.listed }
 accepted_good s (Request agent ask) good = request_good s agent ask good
 accepted_good s (Take id) good = either Good (list_any (is_untaken id) s.held) _ _ (record { quiet = λ m. grants_flagged (λ lock. lock.taken || lock.number == id) m s.held (queue m s.pending) ∙ good.quiet m; listed = good.listed }) good
-accepted_good s (Release agent id) good = either Good (list_any (is_lock_of agent id) s.held) _ _ (settled_good _ _ reply.Done good.listed) good
-accepted_good s (Abort agent signal reason) good = either Good (is_some (reason_in s.signals agent signal)) _ _ good (settled_good _ _ reply.Done (λ m gone. filter_queue m (λ request. not (is_waiting_on agent signal request)) s.pending (good.listed m gone)))
-accepted_good s (Terminate agent) good = settled_good _ _ reply.Done (λ m gone. filter_queue m _ s.pending (good.listed m gone))
+accepted_good s (Release agent id) good = either Good (list_any (is_lock_of agent id) s.held) _ _ (processed_good _ _ reply.Done good.listed) good
+accepted_good s (Abort agent signal reason) good = either Good (is_some (reason_in s.signals agent signal)) _ _ good (processed_good _ _ reply.Done (λ m gone. filter_queue m (λ request. not (is_waiting_on agent signal request)) s.pending (good.listed m gone)))
+accepted_good s (Terminate agent) good = processed_good _ _ reply.Done (λ m gone. filter_queue m _ s.pending (good.listed m gone))
 accepted_good s (Query agent) good = good
 
 pub nothing_left : NothingLeftToGrant

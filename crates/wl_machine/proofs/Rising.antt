@@ -16,12 +16,12 @@ use Rattle.wl_machine.specs.declared.command.Command.TheVariants.{Enter, SetActi
 use Rattle.wl_machine.specs.declared.command.Reply.{Reply}
 use Rattle.wl_machine.specs.declared.command.Reply.TheVariants as reply
 use Rattle.wl_machine.specs.State.{State, opening}
-use Rattle.wl_machine.specs.Grants.{is_exclusive, grants, shared_prefix, without_first, locks, queue, Lists, lists_of, settle_name, settle_names}
+use Rattle.wl_machine.specs.Grants.{is_exclusive, grants, shared_prefix, without_first, locks, queue, Lists, lists_of, process_queue, process_queues}
 use Rattle.wl_machine.specs.Refusals.{reason_in}
-use Rattle.wl_machine.specs.Step.{settled, accepted, is_untaken, is_lock_of, is_waiting_on, with_name, new_request, available, request_step, steal_locks, enqueue, stealing_request, plain_request, unavailable, without_lock, with_aborted, without_agent, lock_ends, abort_ends, terminate_ends, state_after}
+use Rattle.wl_machine.specs.Step.{after_processing, accepted, is_untaken, is_lock_of, is_waiting_on, with_name, new_request, available, request_step, steal_locks, enqueue, stealing_request, plain_request, unavailable, without_lock, with_aborted, without_agent, lock_ends, abort_ends, terminate_ends, state_after}
 use Rattle.wl_machine.specs.Laws.{WaitingNumbersRise}
 use Rattle.wl_machine.proofs.Lists.{none_left, same_bytes, other_bytes}
-use Rattle.wl_machine.proofs.Quiet.{locks_unsettled}
+use Rattle.wl_machine.proofs.Quiet.{locks_unprocessed}
 use Rattle.wl_machine.proofs.Reachable.{among, among_added}
 use Rattle.wl_machine.proofs.Runs.{after_run, either}
 
@@ -59,10 +59,10 @@ push_between : (low high : ℕ) (requests : List PendingRow) (request : PendingR
 push_between low high [] request is rest = (omega arith, omega arith)
 push_between low high (first ∷ requests) request is rest = (rest.0, push_between (suc first.number) high requests request is rest.1)
 
-settles_between : (names : List (List ℕ)) (lists : Lists) (low high : ℕ) → Between low high lists.pending → Between low high (settle_names lists names).pending
-settles_between [] lists low high rest = rest
-settles_between (name ∷ names) lists low high rest =
-    settles_between names (settle_name lists name) low high (without_between name (length (grants (locks name lists.held) (queue name lists.pending))) low high lists.pending rest)
+processes_between : (names : List (List ℕ)) (lists : Lists) (low high : ℕ) → Between low high lists.pending → Between low high (process_queues lists names).pending
+processes_between [] lists low high rest = rest
+processes_between (name ∷ names) lists low high rest =
+    processes_between names (process_queue lists name) low high (without_between name (length (grants (locks name lists.held) (queue name lists.pending))) low high lists.pending rest)
 
 -- the request of a steal leaves the queue
 front_granted : (request : PendingRow) (requests : List PendingRow) → (count : ℕ) × (length (grants [] (request ∷ requests)) ≡ suc count)
@@ -72,17 +72,17 @@ front_granted request requests = at_mode (is_exclusive request.mode) refl
     at_mode true is = (0, rw is refl)
     at_mode false is = (length (shared_prefix requests), rw is refl)
 
-steal_settles : (names : List (List ℕ)) (lists : Lists) (request : PendingRow) (requests : List PendingRow) (low high : ℕ)
-    → among request.name names ≡ true → locks request.name lists.held ≡ [] → lists.pending ≡ request ∷ requests → Between low high requests → Between low high (settle_names lists names).pending
-steal_settles [] lists request requests low high listed none front rest = absurd (cc)
-steal_settles (name ∷ names) lists request requests low high listed none front rest = at_name (bytes_eq name request.name) refl (steal_settles names (settle_name lists name) request)
+steal_processes : (names : List (List ℕ)) (lists : Lists) (request : PendingRow) (requests : List PendingRow) (low high : ℕ)
+    → among request.name names ≡ true → locks request.name lists.held ≡ [] → lists.pending ≡ request ∷ requests → Between low high requests → Between low high (process_queues lists names).pending
+steal_processes [] lists request requests low high listed none front rest = absurd (cc)
+steal_processes (name ∷ names) lists request requests low high listed none front rest = at_name (bytes_eq name request.name) refl (steal_processes names (process_queue lists name) request)
   where
     count : ℕ
     count = length (grants (locks name lists.held) (queue name lists.pending))
 
     at_name : (b : Bool) → bytes_eq name request.name ≡ b
-        → ((others : List PendingRow) (low high : ℕ) → among request.name names ≡ true → locks request.name (settle_name lists name).held ≡ [] → (settle_name lists name).pending ≡ request ∷ others → Between low high others → Between low high (settle_names (settle_name lists name) names).pending)
-        → Between low high (settle_names (settle_name lists name) names).pending
+        → ((others : List PendingRow) (low high : ℕ) → among request.name names ≡ true → locks request.name (process_queue lists name).held ≡ [] → (process_queue lists name).pending ≡ request ∷ others → Between low high others → Between low high (process_queues (process_queue lists name) names).pending)
+        → Between low high (process_queues (process_queue lists name) names).pending
     at_name true is more =
         let same : name ≡ request.name = same_text name request.name (sym is) in
         let own : bytes_eq request.name name ≡ true = rw same (same_bytes request.name) in
@@ -90,12 +90,12 @@ steal_settles (name ∷ names) lists request requests low high listed none front
         let first : queue name (request ∷ requests) ≡ request ∷ queue name requests = rw own refl in
         let granted = front_granted request (queue name requests) in
         let counted : count ≡ suc granted.0 = rw (empty, front, first) granted.1 in
-        let gone : (settle_name lists name).pending ≡ without_first name granted.0 requests = rw (counted, front) (rw own refl) in
-        settles_between names (settle_name lists name) low high (rw gone (without_between name granted.0 low high requests rest))
+        let gone : (process_queue lists name).pending ≡ without_first name granted.0 requests = rw (counted, front) (rw own refl) in
+        processes_between names (process_queue lists name) low high (rw gone (without_between name granted.0 low high requests rest))
     at_name false is more =
         let other : bytes_eq request.name name ≡ false = other_bytes request.name name is in
-        let stays : (settle_name lists name).pending ≡ request ∷ without_first name count requests = ap (λ (p : List PendingRow). without_first name count p) front ∙ passes count other in
-        more (without_first name count requests) low high (rw is at listed) (locks_unsettled lists name request.name is ∙ none) stays (without_between name count low high requests rest)
+        let stays : (process_queue lists name).pending ≡ request ∷ without_first name count requests = ap (λ (p : List PendingRow). without_first name count p) front ∙ passes count other in
+        more (without_first name count requests) low high (rw is at listed) (locks_unprocessed lists name request.name is ∙ none) stays (without_between name count low high requests rest)
       where
         passes : (k : ℕ) → bytes_eq request.name name ≡ false → without_first name k (request ∷ requests) ≡ request ∷ without_first name k requests
         passes zero other = refl
@@ -105,12 +105,12 @@ steal_settles (name ∷ names) lists request requests low high listed none front
 abbrev IsRising : State → Type 0
 IsRising s = Between 0 s.next.request s.pending
 
-rising_settled : (s : State) (ends : List Change) (answer : Reply) → IsRising s → IsRising (settled s ends answer).state
-rising_settled s ends answer rest = settles_between s.names (lists_of s.held s.pending ends) 0 s.next.request rest
+rising_processed : (s : State) (ends : List Change) (answer : Reply) → IsRising s → IsRising (after_processing s ends answer).state
+rising_processed s ends answer rest = processes_between s.names (lists_of s.held s.pending ends) 0 s.next.request rest
 
 rising_stolen : (s : State) (request : PendingRow) → IsRising s → IsRising (stealing_request s request).state
 rising_stolen s request rest =
-    steal_settles (with_name request.name s.names) (lists_of (steal_locks s request).held (request ∷ s.pending) (lock_ends Stolen (locks request.name s.held))) request s.pending 0 (s.next.request + 1)
+    steal_processes (with_name request.name s.names) (lists_of (steal_locks s request).held (request ∷ s.pending) (lock_ends Stolen (locks request.name s.held))) request s.pending 0 (s.next.request + 1)
     (among_added request.name s.names) (none_left (λ (lock : HeldRow). bytes_eq lock.name request.name) s.held) refl
     (higher 0 s.next.request (s.next.request + 1) s.pending (omega arith) rest)
 
@@ -121,7 +121,7 @@ rising_request s agent ask rest =
     (rising_stolen s request rest)
     (either IsRising (ask.if_available && not (available s request)) (unavailable s request) (plain_request s request)
     (higher 0 s.next.request (s.next.request + 1) s.pending (omega arith) rest)
-    (rising_settled (enqueue s request) [] reply.Done (push_between 0 s.next.request s.pending request refl rest)))
+    (rising_processed (enqueue s request) [] reply.Done (push_between 0 s.next.request s.pending request refl rest)))
 
 rising_accepted : (s : State) (command : Command) → IsRising s → IsRising (accepted s command).state
 rising_accepted s (Enter kind) rest = rest
@@ -129,10 +129,10 @@ rising_accepted s (SetActive agent active) rest = rest
 rising_accepted s (NewSignal agent) rest = rest
 rising_accepted s (Request agent ask) rest = rising_request s agent ask rest
 rising_accepted s (Take id) rest = either IsRising (list_any (is_untaken id) s.held) _ _ rest rest
-rising_accepted s (Release agent id) rest = either IsRising (list_any (is_lock_of agent id) s.held) _ _ (rising_settled (without_lock s agent id) (lock_ends Released (filter (is_lock_of agent id) s.held)) reply.Done rest) rest
+rising_accepted s (Release agent id) rest = either IsRising (list_any (is_lock_of agent id) s.held) _ _ (rising_processed (without_lock s agent id) (lock_ends Released (filter (is_lock_of agent id) s.held)) reply.Done rest) rest
 rising_accepted s (Abort agent signal reason) rest = either IsRising (is_some (reason_in s.signals agent signal)) _ _ rest
-    (rising_settled (with_aborted s agent signal reason) (abort_ends s agent signal reason) reply.Done (filter_between (λ request. not (is_waiting_on agent signal request)) 0 s.next.request s.pending rest))
-rising_accepted s (Terminate agent) rest = rising_settled (without_agent s agent) (terminate_ends s agent) reply.Done (filter_between (λ request. not (request.agent == agent)) 0 s.next.request s.pending rest)
+    (rising_processed (with_aborted s agent signal reason) (abort_ends s agent signal reason) reply.Done (filter_between (λ request. not (is_waiting_on agent signal request)) 0 s.next.request s.pending rest))
+rising_accepted s (Terminate agent) rest = rising_processed (without_agent s agent) (terminate_ends s agent) reply.Done (filter_between (λ request. not (request.agent == agent)) 0 s.next.request s.pending rest)
 rising_accepted s (Query agent) rest = rest
 
 above : (low high : ℕ) (requests : List PendingRow) → Between (suc low) high requests → All (λ later. low < later.number) requests

@@ -23,9 +23,9 @@ use Rattle.wl_machine.specs.declared.command.Reply.TheVariants as reply
 use Rattle.wl_machine.specs.State.{State}
 use Rattle.wl_machine.specs.Grants.{locks, lists_of}
 use Rattle.wl_machine.specs.Refusals.{refusal, has_agent, has_signal, reason_in, live_count, request_refusals, unknown_signal, aborted_signal, aborted_refusal}
-use Rattle.wl_machine.specs.Step.{Outcome, settled, accepted, step, unless_refused, is_untaken, with_taken, is_lock_of, is_signal, is_waiting_on, is_abortable, with_reason, with_active, new_request, available, request_step, steal_locks, enqueue, stealing_request, plain_request, unavailable, without_lock, with_aborted, without_agent, lock_ends, abort_ends, terminate_ends}
+use Rattle.wl_machine.specs.Step.{StepResult, after_processing, accepted, step, unless_refused, is_untaken, with_taken, is_lock_of, is_signal, is_waiting_on, is_abortable, with_reason, with_active, new_request, available, request_step, steal_locks, enqueue, stealing_request, plain_request, unavailable, without_lock, with_aborted, without_agent, lock_ends, abort_ends, terminate_ends}
 use Rattle.wl_machine.specs.Standing.{is_abortable_signal, IsStanding, OpeningStands, StandsAfterEach, AbortedHaveNone}
-use Rattle.wl_machine.proofs.Claims.{Hold, Keeps, wait_none, wait_all, hold_none, hold_all, wait_left, hold_left, wait_as, hold_as, wait_append, settles_keep}
+use Rattle.wl_machine.proofs.Claims.{Hold, Keeps, wait_none, wait_all, hold_none, hold_all, wait_left, hold_left, wait_as, hold_as, wait_append, processes_keep}
 use Rattle.wl_machine.proofs.Lists.{any_map, any_same, and_first, and_second}
 use Rattle.wl_machine.proofs.OneMove.{accepted_numbered}
 use Rattle.wl_machine.proofs.Runs.{either}
@@ -34,9 +34,9 @@ use Rattle.wl_machine.proofs.Runs.{either}
 abbrev Firm : State → Type 0
 Firm s = Keeps (is_abortable_signal s) 65536 (lists_of s.held s.pending [])
 
-firm_settled : (s : State) (ends : List Change) (answer : Reply) → Firm s → Firm (settled s ends answer).state
-firm_settled s ends answer firm =
-    let end = settles_keep s.names (is_abortable_signal s) 65536 (lists_of s.held s.pending ends) (record { few = firm.few; waiting = firm.waiting; holding = firm.holding }) in
+firm_processed : (s : State) (ends : List Change) (answer : Reply) → Firm s → Firm (after_processing s ends answer).state
+firm_processed s ends answer firm =
+    let end = processes_keep s.names (is_abortable_signal s) 65536 (lists_of s.held s.pending ends) (record { few = firm.few; waiting = firm.waiting; holding = firm.holding }) in
     record { few = end.few; waiting = end.waiting; holding = end.holding }
 
 fewer : {X : Type 0} (p : X → Bool) (xs : List X) → length (filter p xs) ≤ length xs
@@ -126,22 +126,22 @@ let_in s agent ask none =
     at_signal (Some k) known there unaborted = rw (known, not_not (has_signal s agent k) (not_refused _ NoSuchSignal there)) (no_reason (reason_in s.signals agent k) unaborted)
 
 firm_request : (s : State) (agent : ℕ) (ask : Ask) → LetIn s agent ask → Firm s → Firm (request_step s agent ask).state
-firm_request s agent ask entered firm =
+firm_request s agent ask is_accepted firm =
     let request = new_request s agent ask in
-    let few = entered.few in
+    let few = is_accepted.few in
     let more = length-append s.pending (request ∷ []) in
     let left = fewer (λ lock. not (bytes_eq lock.name request.name)) s.held in
     either Firm ask.steal (stealing_request s request) (cond (ask.if_available && not (available s request)) (unavailable s request) (plain_request s request))
-    (firm_settled (steal_locks s request) (lock_ends Stolen (locks request.name s.held)) reply.Done (record {
+    (firm_processed (steal_locks s request) (lock_ends Stolen (locks request.name s.held)) reply.Done (record {
       few = omega (arith, few, left);
-      waiting = (entered.signal, firm.waiting);
+      waiting = (is_accepted.signal, firm.waiting);
       holding = hold_left (is_abortable_signal s) (is_abortable_signal s) (λ lock. not (bytes_eq lock.name request.name)) s.held (λ l p t is. is) firm.holding;
     }))
     (either Firm (ask.if_available && not (available s request)) (unavailable s request) (plain_request s request)
     (record { few = firm.few; waiting = firm.waiting; holding = firm.holding })
-    (firm_settled (enqueue s request) [] reply.Done (record {
+    (firm_processed (enqueue s request) [] reply.Done (record {
       few = omega (arith, few, more);
-      waiting = wait_append (is_abortable_signal s) s.pending (request ∷ []) firm.waiting (entered.signal, tt);
+      waiting = wait_append (is_abortable_signal s) s.pending (request ∷ []) firm.waiting (is_accepted.signal, tt);
       holding = firm.holding;
     })))
 
@@ -162,7 +162,7 @@ firm_release s agent id firm =
     let left = fewer (λ lock. not (is_lock_of agent id lock)) s.held in
     let few = firm.few in
     either Firm (list_any (is_lock_of agent id) s.held) _ _
-    (firm_settled (without_lock s agent id) (lock_ends Released (filter (is_lock_of agent id) s.held)) reply.Done (record {
+    (firm_processed (without_lock s agent id) (lock_ends Released (filter (is_lock_of agent id) s.held)) reply.Done (record {
       few = omega (arith, few, left);
       waiting = firm.waiting;
       holding = hold_left (is_abortable_signal s) (is_abortable_signal s) (λ lock. not (is_lock_of agent id lock)) s.held (λ l p t is. is) firm.holding;
@@ -211,7 +211,7 @@ firm_abort s agent signal reason firm =
     let holds = fewer (λ lock. not (is_abortable agent signal lock)) s.held in
     let few = firm.few in
     either Firm (is_some (reason_in s.signals agent signal)) _ _ firm
-    (firm_settled t (abort_ends s agent signal reason) reply.Done (record {
+    (firm_processed t (abort_ends s agent signal reason) reply.Done (record {
       few = omega (arith, few, waits, holds);
       waiting = wait_left (is_abortable_signal s) (is_abortable_signal t) (λ request. not (is_waiting_on agent signal request)) s.pending (λ r p is. other_signal s agent signal reason r.agent r.signal (untrue (is_waiting_on agent signal r) p) is) firm.waiting;
       holding = hold_left (is_abortable_signal s) (is_abortable_signal t) (λ lock. not (is_abortable agent signal lock)) s.held
@@ -260,7 +260,7 @@ firm_terminate s agent firm =
     let waits = fewer (λ request. not (request.agent == agent)) s.pending in
     let holds = fewer (λ lock. not (lock.agent == agent)) s.held in
     let few = firm.few in
-    firm_settled t (terminate_ends s agent) reply.Done (record {
+    firm_processed t (terminate_ends s agent) reply.Done (record {
       few = omega (arith, few, waits, holds);
       waiting = wait_left (is_abortable_signal s) (is_abortable_signal t) (λ request. not (request.agent == agent)) s.pending (λ r p is. other_agent s agent r.agent r.signal (untrue (r.agent == agent) p) is) firm.waiting;
       holding = hold_left (is_abortable_signal s) (is_abortable_signal t) (λ lock. not (lock.agent == agent)) s.held (λ l p untaken is. other_agent s agent l.agent l.signal (untrue (l.agent == agent) p) is) firm.holding;
@@ -324,4 +324,4 @@ aborted_have_none s agent signal standing closed = none_in s.held (hold_all (is_
             untaken false free was = was
 
 pub standing_by_step : (s : State) (command : Command) (new : State) (answer : Reply) (changes : List Change) → step s command ≡ record { state = new; reply = answer; changes = changes } → IsStanding s → IsStanding new
-standing_by_step s command new answer changes gives standing = subst (λ (o : Outcome). IsStanding o.state) gives (stands_after_each s command standing)
+standing_by_step s command new answer changes gives standing = subst (λ (o : StepResult). IsStanding o.state) gives (stands_after_each s command standing)

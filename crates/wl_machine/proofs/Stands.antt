@@ -10,7 +10,7 @@ use Rattle.wl_types.specs.declared.phases.Phase.{Phase}
 use Rattle.wl_types.specs.declared.phases.Phase.TheVariants.{Pending, Granted, Taken}
 use Rattle.wl_machine.specs.declared.rows.HeldRow.{HeldRow}
 use Rattle.wl_machine.specs.declared.rows.PendingRow.{PendingRow}
-use Rattle.wl_machine.specs.Grants.{grants, without_first, granted_lock, grant_change, locks, queue, Lists, lists_of, settle_name, settle_names}
+use Rattle.wl_machine.specs.Grants.{grants, without_first, granted_lock, grant_change, locks, queue, Lists, lists_of, process_queue, process_queues}
 use Rattle.wl_machine.specs.Step.{lock_ends, request_ends}
 use Rattle.wl_machine.specs.Laws.{phases_of, are_moves}
 use Rattle.wl_machine.proofs.Lists.{filter_map, filters_commute, map_twice}
@@ -167,8 +167,8 @@ phases_map id f xs = ap (map (λ (c : Change). c.phase)) (filter_map (λ (c : Ch
 pub moved_as : (phase : Phase) (one two : List Phase) (held held' : List HeldRow) (pending pending' : List PendingRow) → one ≡ two → held ≡ held' → pending ≡ pending' → Moved phase two held' pending' → Moved phase one held pending
 moved_as phase one two held held' pending pending' events locks requests moved = rw (events, locks, requests) moved
 
-settle_told : (id : ℕ) (phase : Phase) (lists : Lists) (name : List ℕ) → Told id phase lists → Told id phase (settle_name lists name)
-settle_told id phase lists name told =
+process_told : (id : ℕ) (phase : Phase) (lists : Lists) (name : List ℕ) → Told id phase lists → Told id phase (process_queue lists name)
+process_told id phase lists name told =
     let granted = grants (locks name lists.held) (queue name lists.pending) in
     let count = length granted in
     let first : first_requests name count lists.pending ≡ granted = first_granted name (locks name lists.held) lists.pending in
@@ -184,9 +184,9 @@ settle_told id phase lists name told =
     (join phase (phases_of id lists.changes) (map (λ request. Granted) (cond parted.granted (waiting_of id lists.pending) [])) (held_of id lists.held) _ (waiting_of id lists.pending) _ told
     (grant parted.granted now (held_of id lists.held) (waiting_of id lists.pending) told.stands))
 
-pub settles_told : (names : List (List ℕ)) (id : ℕ) (phase : Phase) (lists : Lists) → Told id phase lists → Told id phase (settle_names lists names)
-settles_told [] id phase lists told = told
-settles_told (name ∷ names) id phase lists told = settles_told names id phase (settle_name lists name) (settle_told id phase lists name told)
+pub processes_told : (names : List (List ℕ)) (id : ℕ) (phase : Phase) (lists : Lists) → Told id phase lists → Told id phase (process_queues lists names)
+processes_told [] id phase lists told = told
+processes_told (name ∷ names) id phase lists told = processes_told names id phase (process_queue lists name) (process_told id phase lists name told)
 
 pub lock_phases : (id : ℕ) (p : HeldRow → Bool) (end : Phase) (held : List HeldRow) → phases_of id (lock_ends end (filter p held)) ≡ map (λ lock. end) (filter p (held_of id held))
 lock_phases id p end held =

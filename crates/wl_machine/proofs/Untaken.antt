@@ -15,11 +15,11 @@ use Rattle.wl_machine.specs.declared.command.Command.TheVariants.{Take}
 use Rattle.wl_machine.specs.declared.command.Reply.{Reply}
 use Rattle.wl_machine.specs.declared.command.Reply.TheVariants as reply
 use Rattle.wl_machine.specs.State.{State}
-use Rattle.wl_machine.specs.Step.{Outcome, Gives, is_abortable, is_waiting_on, is_signal, is_untaken, with_taken, with_aborted, untaken_numbers, lock_ends, request_ends, abort_ends, settled}
+use Rattle.wl_machine.specs.Step.{StepResult, Gives, is_abortable, is_waiting_on, is_signal, is_untaken, with_taken, with_aborted, untaken_numbers, lock_ends, request_ends, abort_ends, after_processing}
 use Rattle.wl_machine.specs.Laws.{phases_of}
 use Rattle.wl_machine.specs.OneMove.{lock_phase, held_phases, pending_phases, phases_in, MovesOnce, is_plain_move, IsNumbered}
 use Rattle.wl_machine.specs.Standing.{is_in, AbortEndsUntaken}
-use Rattle.wl_machine.proofs.SettlingMoves.{settled_moves, settled_none, phases_of-append}
+use Rattle.wl_machine.proofs.ProcessingMoves.{processed_moves, processed_none, phases_of-append}
 use Rattle.wl_machine.proofs.EndMoves.{no_lock, no_request, requests_end, both_end}
 use Rattle.wl_machine.proofs.OneMove.{take_takes_one, take_lists}
 
@@ -156,13 +156,13 @@ untaken_granted s agent signal id num has =
 pub taken_untaken : (s : State) (agent signal taken : ℕ) (new : State) (answer : Reply) (changes : List Change) → IsNumbered s → is_in taken (untaken_numbers s agent signal) ≡ true → Gives s (Take taken) new answer changes
     → untaken_numbers new agent signal ≡ without taken (untaken_numbers s agent signal)
 taken_untaken s agent signal taken new answer changes num has gives =
-    ap (λ (t : State). untaken_numbers t agent signal) (sym (ap (λ (o : Outcome). o.state) gives) ∙ take_lists s taken) ∙ take_without agent signal taken s.held (held_most s num) has
+    ap (λ (t : State). untaken_numbers t agent signal) (sym (ap (λ (o : StepResult). o.state) gives) ∙ take_lists s taken) ∙ take_without agent signal taken s.held (held_most s num) has
 
 -- the taken lock's phase, and the others'
 pub taken_phases : (s : State) (agent signal taken : ℕ) (new : State) (answer : Reply) (changes : List Change) (id : ℕ) → IsNumbered s → is_in taken (untaken_numbers s agent signal) ≡ true → Gives s (Take taken) new answer changes
     → phases_in new id ≡ cond (id == taken) (Taken ∷ []) (phases_in s id)
 taken_phases s agent signal taken new answer changes id num has gives =
-    ap (λ (t : State). phases_in t id) (sym (ap (λ (o : Outcome). o.state) gives)) ∙ take_takes_one s taken id
+    ap (λ (t : State). phases_in t id) (sym (ap (λ (o : StepResult). o.state) gives)) ∙ take_takes_one s taken id
     ∙ dite (ℕ_discrete id taken) (λ e. rw (eq-eqb id taken e) (rw (ap (phases_in s) e, untaken_granted s agent signal taken num has) refl)) (λ n. rw (ne_eqb id taken n) refl)
 
 -- the lock of a number that is among the chosen ends, and is the only one of the number
@@ -213,26 +213,26 @@ abort_ends_untaken s agent signal reason id num free = record { untaken = λ has
     mid : State
     mid = with_aborted s agent signal reason
 
-    outcome : Outcome
-    outcome = settled mid (abort_ends s agent signal reason) (reply.Aborted abort_answer.Done)
+    step_result : StepResult
+    step_result = after_processing mid (abort_ends s agent signal reason) (reply.Aborted abort_answer.Done)
 
     pending_most : length (pending_phases id s.pending) ≤ 1
     pending_most = let most = num.one id in let both = length-append (held_phases id s.held) (pending_phases id s.pending) in omega (arith, most, both)
 
-    untaken : is_in id (untaken_numbers s agent signal) ≡ true → (phases_in s id ≡ Granted ∷ []) × (phases_of id outcome.changes ≡ Aborted reason ∷ []) × (phases_in outcome.state id ≡ [])
+    untaken : is_in id (untaken_numbers s agent signal) ≡ true → (phases_in s id ≡ Granted ∷ []) × (phases_of id step_result.changes ≡ Aborted reason ∷ []) × (phases_in step_result.state id ≡ [])
     untaken has =
         let held = granted_in agent signal id s.held (held_most s num) has in
         let alone : pending_phases id s.pending ≡ [] = no_more Granted (pending_phases id s.pending) (rw held at (num.one id)) in
         let none = no_request (is_waiting_on agent signal) (Aborted reason) id s.pending alone in
         let one = one_ends agent signal (Aborted reason) id s.held (held_most s num) has in
         let ends : phases_of id (abort_ends s agent signal reason) ≡ Aborted reason ∷ [] = phases_of-append id requests locks ∙ rw (none.0, one.0) refl in
-        let gone = settled_none id mid (abort_ends s agent signal reason) (reply.Aborted abort_answer.Done) (rw (one.1, none.1) refl) in
+        let gone = processed_none id mid (abort_ends s agent signal reason) (reply.Aborted abort_answer.Done) (rw (one.1, none.1) refl) in
         (untaken_granted s agent signal id num has, gone.0 ∙ ends, gone.1)
 
-    others : is_in id (untaken_numbers s agent signal) ≡ false → MovesOnce is_plain_move (phases_in s id) (phases_of id outcome.changes) (phases_in outcome.state id)
+    others : is_in id (untaken_numbers s agent signal) ≡ false → MovesOnce is_plain_move (phases_in s id) (phases_of id step_result.changes) (phases_in step_result.state id)
     others out =
         let stays = one_stays agent signal (Aborted reason) id s.held out in
-        settled_moves is_plain_move id mid (abort_ends s agent signal reason) (reply.Aborted abort_answer.Done) (phases_in s id) refl (num.one id)
+        processed_moves is_plain_move id mid (abort_ends s agent signal reason) (reply.Aborted abort_answer.Done) (phases_in s id) refl (num.one id)
         (rw (phases_of-append id requests locks)
         (both_end is_plain_move (held_phases id s.held) (pending_phases id s.pending) _ _ _ _ (num.one id) (inl stays)
         (requests_end is_plain_move (is_waiting_on agent signal) (Aborted reason) id s.pending refl refl pending_most)))
@@ -240,7 +240,7 @@ abort_ends_untaken s agent signal reason id num free = record { untaken = λ has
 -- a take of one of them answers Taken
 pub untaken_taken : (s : State) (agent signal id : ℕ) (new : State) (answer : TakeAnswer) (changes : List Change) → is_in id (untaken_numbers s agent signal) ≡ true → Gives s (Take id) new (reply.Took answer) changes → answer ≡ take_answer.Taken
 untaken_taken s agent signal id new answer changes has gives =
-    let said : reply.Took take_answer.Taken ≡ reply.Took answer = rw (untaken_any s.held has) at (ap (λ (o : Outcome). o.reply) gives) in
+    let said : reply.Took take_answer.Taken ≡ reply.Took answer = rw (untaken_any s.held has) at (ap (λ (o : StepResult). o.reply) gives) in
     cc
   where
     untaken_any : (held : List HeldRow) → is_in id (chosen agent signal held) ≡ true → list_any (is_untaken id) held ≡ true

@@ -79,8 +79,8 @@ abbrev pub lists_of : List HeldRow → List PendingRow → List Change → Lists
 lists_of held pending changes = record { held = held; pending = pending; changes = changes }
 
 -- what one name's queue grants leaves the pending list and goes, untaken, to the end of the held list
-abbrev pub settle_name : Lists → List ℕ → Lists
-settle_name lists name =
+abbrev pub process_queue : Lists → List ℕ → Lists
+process_queue lists name =
     let granted = grants (locks name lists.held) (queue name lists.pending) in
     record {
       held = lists.held ++ map granted_lock granted;
@@ -89,9 +89,9 @@ settle_name lists name =
     }
 
 -- name by name, in order
-abbrev pub settle_names : Lists → List (List ℕ) → Lists
-settle_names lists [] = lists
-settle_names lists (name ∷ names) = settle_names (settle_name lists name) names
+abbrev pub process_queues : Lists → List (List ℕ) → Lists
+process_queues lists [] = lists
+process_queues lists (name ∷ names) = process_queues (process_queue lists name) names
 
 -- whether a name is in use: it has a lock or a request
 abbrev pub in_use : List HeldRow → List PendingRow → List ℕ → Bool

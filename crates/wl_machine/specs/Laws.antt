@@ -17,7 +17,7 @@ use Rattle.wl_types.specs.declared.answers.TakeAnswer.TheVariants.{Taken}
 use Rattle.wl_machine.specs.State.{State, opening}
 use Rattle.wl_machine.specs.Grants.{is_exclusive, any_exclusive, is_empty, grants, locks, queue, granted_lock}
 use Rattle.wl_machine.specs.Same.{same_state}
-use Rattle.wl_machine.specs.Step.{Outcome, step, state_after, is_signal}
+use Rattle.wl_machine.specs.Step.{StepResult, step, state_after, is_signal}
 
 -- standard, "grantable": whether a request at the front of its queue may be granted beside these locks of its name
 abbrev pub is_grantable : List HeldRow → PendingRow → Bool
@@ -53,12 +53,12 @@ abbrev pub take_changes : Command → Reply → List Change
 take_changes (Take id) (Took Taken) = record { id = id; phase = phase.Taken } ∷ []
 take_changes command reply = []
 
-abbrev pub all_changes : Command → Outcome → List Change
-all_changes command outcome = outcome.changes ++ take_changes command outcome.reply
+abbrev pub all_changes : Command → StepResult → List Change
+all_changes command step_result = step_result.changes ++ take_changes command step_result.reply
 
 abbrev pub history : List Command → State → List Change
 history [] s = []
-history (command ∷ commands) s = let outcome = step s command in all_changes command outcome ++ history commands outcome.state
+history (command ∷ commands) s = let step_result = step s command in all_changes command step_result ++ history commands step_result.state
 
 -- the phases that a request comes to
 abbrev pub phases_of : ℕ → List Change → List Phase
@@ -87,8 +87,8 @@ without_flag aside lock = record lock { taken = lock.taken && not (aside lock.nu
 abbrev pub without_flags : (ℕ → Bool) → State → State
 without_flags aside s = record s { held = map (without_flag aside) s.held }
 
-abbrev pub outcome_without_flags : (ℕ → Bool) → Outcome → Outcome
-outcome_without_flags aside outcome = record outcome { state = without_flags aside outcome.state }
+abbrev pub step_result_without_flags : (ℕ → Bool) → StepResult → StepResult
+step_result_without_flags aside step_result = record step_result { state = without_flags aside step_result.state }
 
 -- whether the command asks for the flag of a lock put aside: it takes the lock, or aborts its signal
 abbrev pub asks_for_flag : (ℕ → Bool) → State → Command → Bool
@@ -102,7 +102,7 @@ asks_for_flag aside s command = false
 abbrev pub FlagsPlayNoPart : Type 0
 FlagsPlayNoPart = (aside : ℕ → Bool) (s t : State) (command : Command) →
     without_flags aside s ≡ without_flags aside t → asks_for_flag aside s command ≡ false →
-    outcome_without_flags aside (step s command) ≡ outcome_without_flags aside (step t command)
+    step_result_without_flags aside (step s command) ≡ step_result_without_flags aside (step t command)
 
 -- states compare as the same just where they are equal
 abbrev pub SameIsEqual : Type 0

@@ -52,10 +52,10 @@ abbrev pub table_of : Command → Phase → Phase → Bool
 table_of (Abort agent signal reason) = is_move
 table_of command = is_plain_move
 
--- the request that a command adds, as it enters
-abbrev pub entering : State → Command → ℕ → List Phase
-entering s (Request agent ask) id = if s.next.request == id then Pending ∷ [] else []
-entering s command id = []
+-- the request that a command adds, pending
+abbrev pub added_phases : State → Command → ℕ → List Phase
+added_phases s (Request agent ask) id = if s.next.request == id then Pending ∷ [] else []
+added_phases s command id = []
 
 abbrev pub is_take : Command → Bool
 is_take (Take id) = true
@@ -68,7 +68,7 @@ taken_from phase = phase
 -- a command that nothing refuses, but a take, moves each request once at most
 abbrev pub RequestsMoveOnce : Type 0
 RequestsMoveOnce = (s : State) (command : Command) (id : ℕ) → IsNumbered s → is_take command ≡ false
-    → MovesOnce (table_of command) (phases_in s id ++ entering s command id) (phases_of id (accepted s command).changes) (phases_in (accepted s command).state id)
+    → MovesOnce (table_of command) (phases_in s id ++ added_phases s command id) (phases_of id (accepted s command).changes) (phases_in (accepted s command).state id)
 
 -- numbers stay apart, and below the next one
 abbrev pub NumbersStayApart : Type 0

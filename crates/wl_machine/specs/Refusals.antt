@@ -63,8 +63,8 @@ abbrev pub signals_of : ℕ → List SignalRow → List SignalRow
 signals_of agent signals = filter (λ row. row.agent == agent) signals
 
 -- numbers are below 2 ^ 53
-abbrev pub spent : ℕ → Bool
-spent next = nat_le 9007199254740992 next
+abbrev pub is_spent : ℕ → Bool
+is_spent next = nat_le 9007199254740992 next
 
 -- the requests that are live
 abbrev pub live_count : State → ℕ
@@ -82,15 +82,15 @@ request_refusals s agent ask =
     ∷ aborted_signal s agent ask.signal
     ∷ refuse_if (is_long ask.name) NameTooLong
     ∷ refuse_if (nat_le 65536 (live_count s)) TooManyRequests
-    ∷ refuse_if (spent s.next.request) NumbersSpent
+    ∷ refuse_if (is_spent s.next.request) NumbersSpent
     ∷ []
 
 -- the refusals of each command, in their order
 abbrev pub refusals : State → Command → List (Option Refusal)
-refusals s (Enter kind) = refuse_if (nat_le 4096 (length s.agents)) TooManyAgents ∷ refuse_if (spent s.next.agent) NumbersSpent ∷ []
+refusals s (Enter kind) = refuse_if (nat_le 4096 (length s.agents)) TooManyAgents ∷ refuse_if (is_spent s.next.agent) NumbersSpent ∷ []
 refusals s (SetActive agent active) = known_agent s agent ∷ refuse_if (is_worker s agent) NotAWindow ∷ []
 refusals s (NewSignal agent) =
-    known_agent s agent ∷ refuse_if (nat_le 1024 (length (signals_of agent s.signals))) TooManySignals ∷ refuse_if (spent s.next.signal) NumbersSpent ∷ []
+    known_agent s agent ∷ refuse_if (nat_le 1024 (length (signals_of agent s.signals))) TooManySignals ∷ refuse_if (is_spent s.next.signal) NumbersSpent ∷ []
 refusals s (Request agent ask) = request_refusals s agent ask
 refusals s (Take id) = []
 refusals s (Release agent id) = []

@@ -25,23 +25,23 @@ use Rattle.wl_types.specs.declared.answers.TakeAnswer.TheVariants as take_answer
 use Rattle.wl_types.specs.declared.answers.ReleaseAnswer.TheVariants as release_answer
 use Rattle.wl_types.specs.declared.answers.AbortAnswer.TheVariants as abort_answer
 use Rattle.wl_machine.specs.State.{State}
-use Rattle.wl_machine.specs.Grants.{is_empty, grants, locks, queue, settle_names, in_use}
+use Rattle.wl_machine.specs.Grants.{is_empty, grants, locks, queue, process_queues, in_use}
 use Rattle.wl_machine.specs.Refusals.{refusal, reason_in}
 
-pub record Outcome : Type 0 where
+pub record StepResult : Type 0 where
   pub state : State
   pub reply : Reply
   pub changes : List Change
 
 -- nothing changes
-abbrev pub no_changes : State → Reply → Outcome
+abbrev pub no_changes : State → Reply → StepResult
 no_changes s reply = record { state = s; reply = reply; changes = [] }
 
 -- Web Locks, "process the lock request queue": the queues of all names are processed, after these ends. Then each name that
 -- is out of use leaves (own: the standard keeps empty queues)
-abbrev pub settled : State → List Change → Reply → Outcome
-settled s ends reply =
-    let lists = settle_names (record { held = s.held; pending = s.pending; changes = ends }) s.names in
+abbrev pub after_processing : State → List Change → Reply → StepResult
+after_processing s ends reply =
+    let lists = process_queues (record { held = s.held; pending = s.pending; changes = ends }) s.names in
     record {
       state = record s { names = filter (in_use lists.held lists.pending) s.names; held = lists.held; pending = lists.pending };
       reply = reply;
@@ -81,11 +81,11 @@ available s request = is_empty (queue request.name s.pending) && not (is_empty (
 abbrev pub enqueue : State → PendingRow → State
 enqueue s request = record (numbered s) { names = with_name request.name s.names; pending = s.pending ++ request ∷ [] }
 
-abbrev pub plain_request : State → PendingRow → Outcome
-plain_request s request = settled (enqueue s request) [] (reply.Request request.number)
+abbrev pub plain_request : State → PendingRow → StepResult
+plain_request s request = after_processing (enqueue s request) [] (reply.Request request.number)
 
 -- with ifAvailable, and not to be granted at once: nothing else happens
-abbrev pub unavailable : State → PendingRow → Outcome
+abbrev pub unavailable : State → PendingRow → StepResult
 unavailable s request = record {
   state = numbered s;
   reply = reply.Request request.number;
@@ -100,11 +100,11 @@ steal_locks s request = record (numbered s) {
   pending = request ∷ s.pending;
 }
 
-abbrev pub stealing_request : State → PendingRow → Outcome
+abbrev pub stealing_request : State → PendingRow → StepResult
 stealing_request s request =
-    settled (steal_locks s request) (lock_ends Stolen (locks request.name s.held)) (reply.Request request.number)
+    after_processing (steal_locks s request) (lock_ends Stolen (locks request.name s.held)) (reply.Request request.number)
 
-abbrev pub request_step : State → ℕ → Ask → Outcome
+abbrev pub request_step : State → ℕ → Ask → StepResult
 request_step s agent ask =
     let request = new_request s agent ask in
     if ask.steal then stealing_request s request
@@ -117,10 +117,10 @@ is_lock_of agent id lock = lock.number == id && lock.agent == agent
 abbrev pub without_lock : State → ℕ → ℕ → State
 without_lock s agent id = record s { held = filter (λ lock. not (is_lock_of agent id lock)) s.held }
 
-abbrev pub release_step : State → ℕ → ℕ → Outcome
+abbrev pub release_step : State → ℕ → ℕ → StepResult
 release_step s agent id =
     if list_any (is_lock_of agent id) s.held
-    then settled (without_lock s agent id) (lock_ends Released (filter (is_lock_of agent id) s.held))
+    then after_processing (without_lock s agent id) (lock_ends Released (filter (is_lock_of agent id) s.held))
     (reply.Released release_answer.Released)
     else no_changes s (reply.Released release_answer.NotHeld)
 
@@ -132,7 +132,7 @@ is_untaken id lock = lock.number == id && not lock.taken
 abbrev pub with_taken : ℕ → HeldRow → HeldRow
 with_taken id lock = record lock { taken = lock.taken || lock.number == id }
 
-abbrev pub take_step : State → ℕ → Outcome
+abbrev pub take_step : State → ℕ → StepResult
 take_step s id =
     if list_any (is_untaken id) s.held
     then no_changes (record s { held = map (with_taken id) s.held }) (reply.Took take_answer.Taken)
@@ -171,11 +171,11 @@ abort_ends s agent signal reason =
     request_ends (Aborted reason) (filter (is_waiting_on agent signal) s.pending)
     ++ lock_ends (Aborted reason) (filter (is_abortable agent signal) s.held)
 
-abbrev pub abort_step : State → ℕ → ℕ → Reason → Outcome
+abbrev pub abort_step : State → ℕ → ℕ → Reason → StepResult
 abort_step s agent signal reason =
     if is_some (reason_in s.signals agent signal)
     then no_changes s (reply.Aborted abort_answer.AlreadyAborted)
-    else settled (with_aborted s agent signal reason) (abort_ends s agent signal reason) (reply.Aborted abort_answer.Done)
+    else after_processing (with_aborted s agent signal reason) (abort_ends s agent signal reason) (reply.Aborted abort_answer.Done)
 
 -- Web Locks, "agent termination": the agent, its signals, requests and locks are gone. The reason that its requests get is (own)
 abbrev pub without_agent : State → ℕ → State
@@ -191,8 +191,8 @@ terminate_ends s agent =
     request_ends (Aborted AbortError) (filter (λ request. request.agent == agent) s.pending)
     ++ lock_ends Released (filter (λ lock. lock.agent == agent) s.held)
 
-abbrev pub terminate_step : State → ℕ → Outcome
-terminate_step s agent = settled (without_agent s agent) (terminate_ends s agent) reply.Done
+abbrev pub terminate_step : State → ℕ → StepResult
+terminate_step s agent = after_processing (without_agent s agent) (terminate_ends s agent) reply.Done
 
 -- Web Locks, "snapshot the lock state": the locks in the order of their grants, and queue after queue
 abbrev pub lock_info : HeldRow → LockInfo
@@ -208,14 +208,14 @@ snapshot_of s = record {
 }
 
 -- an agent opens, makes a signal, or is made active or inactive (own)
-abbrev pub enter_step : State → Kind → Outcome
-enter_step s kind =
+abbrev pub open_step : State → Kind → StepResult
+open_step s kind =
     no_changes (record s {
       agents = s.agents ++ record { number = s.next.agent; kind = kind; active = true } ∷ [];
       next = record s.next { agent = s.next.agent + 1 };
     }) (reply.Agent s.next.agent)
 
-abbrev pub signal_step : State → ℕ → Outcome
+abbrev pub signal_step : State → ℕ → StepResult
 signal_step s agent =
     no_changes (record s {
       signals = s.signals ++ record { agent = agent; number = s.next.signal; reason = None } ∷ [];
@@ -225,13 +225,13 @@ signal_step s agent =
 abbrev pub with_active : ℕ → Bool → AgentRow → AgentRow
 with_active agent active row = if row.number == agent then record row { active = active } else row
 
-abbrev pub active_step : State → ℕ → Bool → Outcome
+abbrev pub active_step : State → ℕ → Bool → StepResult
 active_step s agent active =
     no_changes (record s { agents = map (with_active agent active) s.agents }) reply.Done
 
 -- a command that nothing refuses
-abbrev pub accepted : State → Command → Outcome
-accepted s (Enter kind) = enter_step s kind
+abbrev pub accepted : State → Command → StepResult
+accepted s (Enter kind) = open_step s kind
 accepted s (SetActive agent active) = active_step s agent active
 accepted s (NewSignal agent) = signal_step s agent
 accepted s (Request agent ask) = request_step s agent ask
@@ -242,11 +242,11 @@ accepted s (Terminate agent) = terminate_step s agent
 accepted s (Query agent) = no_changes s (reply.Seen (snapshot_of s))
 
 -- a refusal changes nothing
-abbrev pub unless_refused : Option Refusal → State → Command → Outcome
+abbrev pub unless_refused : Option Refusal → State → Command → StepResult
 unless_refused None s command = accepted s command
 unless_refused (Some refusal) s command = no_changes s (reply.Refused refusal)
 
-abbrev pub step : State → Command → Outcome
+abbrev pub step : State → Command → StepResult
 step s command = unless_refused (refusal s command) s command
 
 -- the replies to a list of commands, and the state after it

@@ -17,7 +17,7 @@ use Rattle.wl_machine.specs.declared.command.Command.TheVariants.{Take, Abort}
 use Rattle.wl_machine.specs.declared.command.Reply.TheVariants as reply
 use Rattle.wl_machine.specs.State.{State}
 use Rattle.wl_machine.specs.Refusals.{refusal, has_agent, has_signal, reason_in}
-use Rattle.wl_machine.specs.Step.{Outcome, Gives, step, abort_step, state_after, untaken_numbers}
+use Rattle.wl_machine.specs.Step.{StepResult, Gives, step, abort_step, state_after, untaken_numbers}
 use Rattle.wl_machine.specs.Laws.{phases_of}
 use Rattle.wl_machine.specs.OneMove.{phases_in, MovesOnce, is_plain_move, taken_from}
 use Rattle.wl_machine.specs.Standing.{IsStanding, is_in, is_abortable_signal}
@@ -26,13 +26,13 @@ use Rattle.wl_machine.proofs.Standing.{aborted_have_none}
 use Rattle.wl_machine.proofs.Untaken.{abort_ends_untaken}
 use Rattle.wl_journal.specs.Books.{Book, Appends}
 use Rattle.wl_journal.specs.History.{recorded}
-use Rattle.wl_manager.specs.Keepers.{Kept, phases_at, cells_at, MaySettle, after}
+use Rattle.wl_manager.specs.Keepers.{Kept, phases_at, cells_at, MayPublishAll, after}
 use Rattle.wl_manager.specs.Agents.{entries_of_abort}
 use Rattle.wl_manager.specs.Locked.{Inner, IsKept, Stays}
 use Rattle.wl_manager.specs.Aborts.{Found, numbers_of, taken, aborted, take_entry, with_takes, TriedAll, Aborts}
 use Rattle.wl_manager.proofs.Aborting.{both_append, left_aborted}
 use Rattle.wl_manager.proofs.Cutting.{still_cut}
-use Rattle.wl_manager.proofs.Keeping.{LetGoBy, Grounds, ready_abort, kept_on, kept_off, may_follow}
+use Rattle.wl_manager.proofs.Keeping.{DroppedBy, Grounds, ready_abort, kept_on, kept_off, may_follow}
 
 -- takes leave all but the locks
 record Same (s t : State) : Type 0 where
@@ -109,21 +109,21 @@ abort_ends s agent signal reason new answer changes id standing gives = at_reaso
     at_reason false is =
         let law = abort_ends_untaken s agent signal reason id standing.numbered is in
         record {
-          untaken = λ has. sym (ap (λ (o : Outcome). phases_of id o.changes) done) ∙ (law.untaken has).1;
-          others = λ out. subst (λ (o : Outcome). MovesOnce is_plain_move (phases_in s id) (phases_of id o.changes) (phases_in o.state id)) done (law.others out);
+          untaken = λ has. sym (ap (λ (o : StepResult). phases_of id o.changes) done) ∙ (law.untaken has).1;
+          others = λ out. subst (λ (o : StepResult). MovesOnce is_plain_move (phases_in s id) (phases_of id o.changes) (phases_in o.state id)) done (law.others out);
         }
     at_reason true is =
         let none : untaken_numbers s agent signal ≡ [] = aborted_have_none s agent signal standing (closed_by s agent signal is) in
         let same : record { state = s; reply = reply.Aborted _; changes = [] } ≡ record { state = new; reply = reply.Aborted answer; changes = changes } = rw is at done in
         record {
           untaken = λ has. absurd (true≢false (sym has ∙ ap (is_in id) none));
-          others = λ out. inl (sym (ap (λ (o : Outcome). phases_of id o.changes) same), sym (ap (λ (o : Outcome). phases_in o.state id) same));
+          others = λ out. inl (sym (ap (λ (o : StepResult). phases_of id o.changes) same), sym (ap (λ (o : StepResult). phases_in o.state id) same));
         }
 
--- its changes may be settled
-pub settles_aborted : (old : Book) (old_kept : Kept) (agent signal : ℕ) (reason : Reason) (mid : Book) (mid_kept : Kept) (found : Found) (new : Book) (answer : AbortAnswer) (changes : List Change) → TriedAll old old_kept agent signal reason mid mid_kept found
-    → Gives mid.state (Abort agent signal reason) new.state (reply.Aborted answer) new.recent → changes ≡ new.recent → (id : ℕ) → MaySettle (phases_at id mid_kept) (phases_of id changes)
-settles_aborted old old_kept agent signal reason mid mid_kept found new answer changes tried gives told id = at_number (is_in id (aborted found)) refl
+-- its changes may be published
+pub publishes_aborted : (old : Book) (old_kept : Kept) (agent signal : ℕ) (reason : Reason) (mid : Book) (mid_kept : Kept) (found : Found) (new : Book) (answer : AbortAnswer) (changes : List Change) → TriedAll old old_kept agent signal reason mid mid_kept found
+    → Gives mid.state (Abort agent signal reason) new.state (reply.Aborted answer) new.recent → changes ≡ new.recent → (id : ℕ) → MayPublishAll (phases_at id mid_kept) (phases_of id changes)
+publishes_aborted old old_kept agent signal reason mid mid_kept found new answer changes tried gives told id = at_number (is_in id (aborted found)) refl
   where
     ends : Ends mid.state agent signal reason new.state new.recent id
     ends = abort_ends mid.state agent signal reason new.state answer new.recent id tried.standing gives
@@ -131,7 +131,7 @@ settles_aborted old old_kept agent signal reason mid mid_kept found new answer c
     left : is_in id (untaken_numbers mid.state agent signal) ≡ is_in id (aborted found)
     left = left_aborted old old_kept agent signal reason mid mid_kept found tried id
 
-    at_number : (b : Bool) → is_in id (aborted found) ≡ b → MaySettle (phases_at id mid_kept) (phases_of id changes)
+    at_number : (b : Bool) → is_in id (aborted found) ≡ b → MayPublishAll (phases_at id mid_kept) (phases_of id changes)
     at_number true is =
         let now : phases_at id mid_kept ≡ phase.Aborted reason ∷ [] = tried.phases id ∙ rw is refl in
         rw (told, now, ends.untaken (left ∙ is)) ((phase.Aborted reason, refl, inl refl), refl)
@@ -139,11 +139,11 @@ settles_aborted old old_kept agent signal reason mid mid_kept found new answer c
         let now : phases_at id mid_kept ≡ phases_in mid.state id = tried.phases id ∙ rw is refl in
         rw (told, now) (may_follow (phases_in mid.state id) (phases_of id new.recent) (phases_in new.state id) (ends.others (left ∙ is)))
 
--- and bring each keeper where its request is
+-- and publish where each request is
 follows : (old : Book) (old_kept : Kept) (agent signal : ℕ) (reason : Reason) (mid : Book) (mid_kept : Kept) (found : Found) (new : Book) (answer : AbortAnswer) (changes : List Change) (new_kept : Kept) → TriedAll old old_kept agent signal reason mid mid_kept found
     → Gives mid.state (Abort agent signal reason) new.state (reply.Aborted answer) new.recent → changes ≡ new.recent → ((id : ℕ) → phases_at id new_kept ≡ after (phases_of id changes) (phases_at id mid_kept))
     → (id : ℕ) → phases_at id new_kept ≡ after (phases_of id new.recent) (phases_in mid.state id ++ [])
-follows old old_kept agent signal reason mid mid_kept found new answer changes new_kept tried gives told settles id = at_number (is_in id (aborted found)) refl
+follows old old_kept agent signal reason mid mid_kept found new answer changes new_kept tried gives told publishes id = at_number (is_in id (aborted found)) refl
   where
     ends : Ends mid.state agent signal reason new.state new.recent id
     ends = abort_ends mid.state agent signal reason new.state answer new.recent id tried.standing gives
@@ -152,10 +152,10 @@ follows old old_kept agent signal reason mid mid_kept found new answer changes n
     left = left_aborted old old_kept agent signal reason mid mid_kept found tried id
 
     at_number : (b : Bool) → is_in id (aborted found) ≡ b → phases_at id new_kept ≡ after (phases_of id new.recent) (phases_in mid.state id ++ [])
-    at_number true is = settles id ∙ rw (told, ends.untaken (left ∙ is)) refl
+    at_number true is = publishes id ∙ rw (told, ends.untaken (left ∙ is)) refl
     at_number false is =
         let now : phases_at id mid_kept ≡ phases_in mid.state id = tried.phases id ∙ rw is refl in
-        settles id ∙ rw (told, now, append-nil (phases_in mid.state id)) refl
+        publishes id ∙ rw (told, now, append-nil (phases_in mid.state id)) refl
 
 -- what holds between the takes that were found and the abort itself
 halfway : (counts keeps_all : Bool) (all : ℕ) (old : Inner) (old_kept : Kept) (agent signal : ℕ) (reason : Reason) (mid : Book) (mid_kept : Kept) (found : Found) → IsKept counts keeps_all all old → TriedAll old.book old_kept agent signal reason mid mid_kept found
@@ -176,9 +176,9 @@ pub kept_aborted : (counts keeps_all : Bool) (all : ℕ) (old new : Inner) (old_
     → Gives mid.state (Abort agent signal reason) new.book.state (reply.Aborted answer) new.book.recent → Appends mid new.book (recorded (Abort agent signal reason) (reply.Aborted answer)) → changes ≡ new.book.recent
     → ((id : ℕ) → phases_at id new.kept ≡ after (phases_of id changes) (phases_at id mid_kept)) → new.next ≡ old.next → new.opened ≡ old.opened
     → (counts ≡ true → new.total ≡ old.total + length (taken found) + length (recorded (Abort agent signal reason) (reply.Aborted answer))) → (counts ≡ true → new.parts + new.opened ≡ all + new.handed) → IsKept counts keeps_all all new
-kept_aborted counts keeps_all all old new old_kept agent signal reason mid mid_kept found answer changes kept tried gives adds told settles next opened count share =
+kept_aborted counts keeps_all all old new old_kept agent signal reason mid mid_kept found answer changes kept tried gives adds told publishes next opened count share =
     kept_on counts keeps_all all (record old { book = mid; kept = mid_kept; total = old.total + length (taken found) }) new (Abort agent signal reason) (reply.Aborted answer) (halfway counts keeps_all all old old_kept agent signal reason mid mid_kept found kept tried) gives refl refl adds
-    (follows old.book old_kept agent signal reason mid mid_kept found new.book answer changes new.kept tried gives told settles) (omega (arith, next)) (omega (arith, opened)) count share
+    (follows old.book old_kept agent signal reason mid mid_kept found new.book answer changes new.kept tried gives told publishes) (omega (arith, next)) (omega (arith, opened)) count share
 
 -- a second abort finds nothing
 again_finds : (old : Book) (old_kept : Kept) (agent signal : ℕ) (reason : Reason) (mid : Book) (mid_kept : Kept) (found : Found) (new : State) (answer : AbortAnswer) (changes : List Change) → TriedAll old old_kept agent signal reason mid mid_kept found → IsStanding old.state
@@ -194,9 +194,9 @@ again_finds old old_kept agent signal reason mid mid_kept found new answer chang
 
     at_reason : (b : Bool) → is_some (reason_in mid.state.signals agent signal) ≡ b → is_some (reason_in mid.state.signals agent signal) ≡ true
     at_reason true is = is
-    at_reason false is = absurd (let said : reply.Aborted abort_answer.Done ≡ reply.Aborted abort_answer.AlreadyAborted = (rw is at (ap (λ (o : Outcome). o.reply) done)) ∙ ap (λ (a : AbortAnswer). reply.Aborted a) again in cc)
+    at_reason false is = absurd (let said : reply.Aborted abort_answer.Done ≡ reply.Aborted abort_answer.AlreadyAborted = (rw is at (ap (λ (o : StepResult). o.reply) done)) ∙ ap (λ (a : AbortAnswer). reply.Aborted a) again in cc)
 
-pub does_aborted : (counts keeps_all : Bool) (all : ℕ) (old was new : Inner) (old_kept : Kept) (agent signal : ℕ) (reason : Reason) (mid : Book) (mid_kept : Kept) (found : Found) (answer : AbortAnswer) (before : List Change) → old ≡ was → IsKept counts keeps_all all old → LetGoBy old before old_kept
+pub does_aborted : (counts keeps_all : Bool) (all : ℕ) (old was new : Inner) (old_kept : Kept) (agent signal : ℕ) (reason : Reason) (mid : Book) (mid_kept : Kept) (found : Found) (answer : AbortAnswer) (before : List Change) → old ≡ was → IsKept counts keeps_all all old → DroppedBy old before old_kept
     → TriedAll old.book old_kept agent signal reason mid mid_kept found → Gives mid.state (Abort agent signal reason) new.book.state (reply.Aborted answer) new.book.recent → Appends mid new.book (recorded (Abort agent signal reason) (reply.Aborted answer))
     → ((id : ℕ) → cells_at id new.kept ≡ cells_at id mid_kept) → Aborts was new agent signal reason answer found
 does_aborted counts keeps_all all old was new old_kept agent signal reason mid mid_kept found answer before is kept left tried gives adds cells =
@@ -234,7 +234,7 @@ kept_unaborted counts keeps_all all old new old_kept agent signal reason mid fou
     let nothing = nothing_found old old_kept agent signal reason mid new.kept found new.book tried none same adds in
     kept_off counts keeps_all all old new kept nothing.state quiet nothing.appends nothing.phases
 
-pub stays_unaborted : (counts keeps_all : Bool) (all : ℕ) (old was new : Inner) (old_kept : Kept) (agent signal : ℕ) (reason : Reason) (mid : Book) (found : Found) (r : Refusal) (before : List Change) → old ≡ was → IsKept counts keeps_all all old → LetGoBy old before old_kept → TriedAll old.book old_kept agent signal reason mid new.kept found
+pub stays_unaborted : (counts keeps_all : Bool) (all : ℕ) (old was new : Inner) (old_kept : Kept) (agent signal : ℕ) (reason : Reason) (mid : Book) (found : Found) (r : Refusal) (before : List Change) → old ≡ was → IsKept counts keeps_all all old → DroppedBy old before old_kept → TriedAll old.book old_kept agent signal reason mid new.kept found
     → refusal mid.state (Abort agent signal reason) ≡ Some r → new.book.state ≡ mid.state → Appends mid new.book [] → new.next ≡ old.next → new.opened ≡ old.opened → new.handed ≡ old.handed → Stays was new
 stays_unaborted counts keeps_all all old was new old_kept agent signal reason mid found r before is kept left tried refused same adds next opened handed =
     let none = (refused_finds old.book old_kept agent signal reason mid new.kept found r tried kept.standing refused).0 in

@@ -16,7 +16,7 @@ use Rattle.wl_machine.specs.declared.command.Reply.TheVariants as reply
 use Rattle.wl_machine.specs.State.{State}
 use Rattle.wl_machine.specs.declared.rows.HeldRow.{HeldRow}
 use Rattle.wl_machine.specs.Least.{IsLeast, above}
-use Rattle.wl_machine.specs.Step.{Outcome, Gives, step, state_after, is_abortable, untaken_numbers}
+use Rattle.wl_machine.specs.Step.{StepResult, Gives, step, state_after, is_abortable, untaken_numbers}
 use Rattle.wl_machine.specs.OneMove.{phases_in}
 use Rattle.wl_machine.specs.Standing.{IsStanding, is_in}
 use Rattle.wl_machine.proofs.Standing.{standing_by_step}
@@ -56,13 +56,13 @@ one_more (c ∷ commands) s command = one_more commands (step s c).state command
 -- nothing was tried
 pub untried : (book : Book) (kept : Kept) (agent signal : ℕ) (reason : Reason) → IsStanding book.state → phases_in book.state 0 ≡ [] → ((id : ℕ) → phases_at id kept ≡ phases_in book.state id)
     → Tried book kept agent signal reason book kept [] (up_to 0 (untaken_numbers book.state agent signal))
-untried book kept agent signal reason standing from_one settled = record {
+untried book kept agent signal reason standing from_one published = record {
   order = record { rising = none_rise; same = λ id. sym (in_filter (λ n. nat_le n 0) (untaken_numbers book.state agent signal) id ∙ none_low id (ℕ_discrete id 0) (is_in id (untaken_numbers book.state agent signal)) refl) };
   left = sym (all_left (untaken_numbers book.state agent signal));
   state = refl;
   appends = record { base = refl; entries = sym (append-nil book.entries); total = omega arith };
   standing = standing;
-  phases = settled;
+  phases = published;
   cells = λ id. refl;
 }
   where
@@ -164,7 +164,7 @@ module _ (old : Book) (old_kept : Kept) (agent signal : ℕ) (reason : Reason) (
         order = next_order all left found after tried.order tried.left id least true;
         left = taken_untaken new.state agent signal id now.state (reply.Took answer) now.recent tried.standing.numbered has gives
             ∙ (left_without all (taken found) id left (untaken_distinct new.state agent signal tried.standing.numbered) tried.left ∙ ap (λ (ts : List ℕ). filter (λ n. not (is_in n ts)) all) (sym grown));
-        state = sym (ap (λ (o : Outcome). o.state) gives) ∙ (ap (λ (s : State). (step s (Take id)).state) tried.state ∙ (sym (one_more (map (λ n. Take n) (taken found)) old.state (Take id))
+        state = sym (ap (λ (o : StepResult). o.state) gives) ∙ (ap (λ (s : State). (step s (Take id)).state) tried.state ∙ (sym (one_more (map (λ n. Take n) (taken found)) old.state (Take id))
             ∙ ap (λ (cs : List Command). state_after cs old.state) (sym (ap (map (λ n. Take n)) grown ∙ map-append (λ n. Take n) (taken found) (id ∷ [])))));
         appends = subst (λ (es : List Entry). Appends old now es) (sym (ap (map take_entry) grown ∙ map-append take_entry (taken found) (id ∷ []))) (both_append old new now (map take_entry (taken found)) (take_entry id ∷ []) tried.appends added);
         standing = standing_by_step new.state (Take id) now.state (reply.Took answer) now.recent gives tried.standing;

@@ -1,4 +1,4 @@
-mod Settling
+mod Publishing
 mod Cutting
 pub mod Keeping
 mod Trying

@@ -8,7 +8,7 @@ use Rattle.wl_machine.specs.declared.rows.HeldRow.{HeldRow}
 use Rattle.wl_machine.specs.declared.rows.PendingRow.{PendingRow}
 use Rattle.wl_machine.specs.State.{State}
 use Rattle.wl_manager.specs.declared.lock_list.LockList.{LockList}
-use Rattle.wl_manager.specs.Listing.{Listed, Lists, listed, of_lock, of_request}
+use Rattle.wl_manager.specs.Listing.{Listed, Lists, as_listed, of_lock, of_request}
 
 -- the room that the locks leave
 room_left : (most h : ℕ) → most - min most h ≡ most - h
@@ -32,7 +32,7 @@ left_over most h p = by (cases_lt h most)
 
 pub lists : (s t : State) → t ≡ s → (xs : List HeldRow) → xs ≡ t.held → (ys : List PendingRow) → ys ≡ t.pending → (most a b : ℕ) (list : LockList)
     → a ≡ min most (length xs) → b ≡ min (most - a) (length ys)
-    → map listed list.held.items ≡ map of_lock (take a xs) → map listed list.pending.items ≡ map of_request (take b ys)
+    → map as_listed list.held.items ≡ map of_lock (take a xs) → map as_listed list.pending.items ≡ map of_request (take b ys)
     → list.left_out ≡ length xs - a + (length ys - b) → Lists s most list
 lists s t same xs xs_are ys ys_are most a b list a_is b_is held pending left_out =
     let h : xs ≡ s.held = xs_are ∙ ap (λ (u : State). u.held) same in
@@ -50,8 +50,8 @@ lists s t same xs xs_are ys ys_are most a b list a_is b_is held pending left_out
 -- a list has no more rows than were asked for
 pub few_rows : (s : State) (most : ℕ) (list : LockList) → Lists s most list → length list.held.items + length list.pending.items ≤ most
 few_rows s most list lists =
-    let locks : length list.held.items ≡ min most (length s.held) = sym (length-map list.held.items listed) ∙ ap (λ (rows : List Listed). length rows) lists.held ∙ length-map (take most s.held) of_lock ∙ length-take most s.held in
-    let requests : length list.pending.items ≡ min (most - length s.held) (length s.pending) = sym (length-map list.pending.items listed) ∙ ap (λ (rows : List Listed). length rows) lists.pending ∙ length-map (take (most - length s.held) s.pending) of_request ∙ length-take (most - length s.held) s.pending in
+    let locks : length list.held.items ≡ min most (length s.held) = sym (length-map list.held.items as_listed) ∙ ap (λ (rows : List Listed). length rows) lists.held ∙ length-map (take most s.held) of_lock ∙ length-take most s.held in
+    let requests : length list.pending.items ≡ min (most - length s.held) (length s.pending) = sym (length-map list.pending.items as_listed) ∙ ap (λ (rows : List Listed). length rows) lists.pending ∙ length-map (take (most - length s.held) s.pending) of_request ∙ length-take (most - length s.held) s.pending in
     let all : min most (length s.held) ≤ most = min-le_left most (length s.held) in
     let each : min most (length s.held) ≤ length s.held = min-le_right most (length s.held) in
     let rest : min (most - length s.held) (length s.pending) ≤ most - length s.held = min-le_left (most - length s.held) (length s.pending) in

@@ -37,14 +37,14 @@ cells_at id kept = cells_of_seat (seat_at id kept)
 abbrev pub ends_request : ℕ → List Change → Bool
 ends_request id changes = list_any (λ change. change.id == id && is_end change.phase) changes
 
--- there is one keeper, and it is at the phase or may settle it
-abbrev pub MayBring : List Phase → Phase → Type 0
-MayBring before to = (from : Phase) × (before ≡ from ∷ []) × ((from ≡ to) ⊎ IsTrue (may_settle from to))
+-- there is one keeper, and it is at the phase or may publish it
+abbrev pub MayPublish : List Phase → Phase → Type 0
+MayPublish before to = (from : Phase) × (before ≡ from ∷ []) × ((from ≡ to) ⊎ IsTrue (may_settle from to))
 
--- what changes of one number find: none, or one that the keeper may be brought to
-abbrev pub MaySettle : List Phase → List Phase → Type 0
-MaySettle before [] = Unit {0}
-MaySettle before (to ∷ more) = MayBring before to × (more ≡ [])
+-- what changes of one number find: none, or one that the keeper may publish
+abbrev pub MayPublishAll : List Phase → List Phase → Type 0
+MayPublishAll before [] = Unit {0}
+MayPublishAll before (to ∷ more) = MayPublish before to × (more ≡ [])
 
 -- the phases after changes of one number
 abbrev pub after : List Phase → List Phase → List Phase

@@ -17,8 +17,8 @@ pub record Listed : Type 0 where
   pub mode : Mode
   pub granted : Bool
 
-abbrev pub listed : LockRow → Listed
-listed row = record { client = row.client; request = row.request; name = row.name; mode = row.mode; granted = is_some row.since_granted }
+abbrev pub as_listed : LockRow → Listed
+as_listed row = record { client = row.client; request = row.request; name = row.name; mode = row.mode; granted = is_some row.since_granted }
 
 abbrev pub of_lock : HeldRow → Listed
 of_lock lock = record { client = lock.agent; request = lock.number; name = lock.name; mode = lock.mode; granted = true }
@@ -28,8 +28,8 @@ of_request request = record { client = request.agent; request = request.number; 
 
 -- the list is of this state: its first rows, at most so many, and how many there are beside them
 pub record Lists (s : State) (most : ℕ) (list : LockList) : Type 0 where
-  pub held : map listed list.held.items ≡ map of_lock (take most s.held)
-  pub pending : map listed list.pending.items ≡ map of_request (take (most - length s.held) s.pending)
+  pub held : map as_listed list.held.items ≡ map of_lock (take most s.held)
+  pub pending : map as_listed list.pending.items ≡ map of_request (take (most - length s.held) s.pending)
   pub left_out : list.left_out ≡ length s.held + length s.pending - most
 
 -- it is of some state of the machine

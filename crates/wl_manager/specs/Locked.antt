@@ -66,7 +66,7 @@ pub record IsKept (counts keeps_all : Bool) (all : ℕ) (l : Inner) : Type 0 whe
   pub numbers : l.next ≡ l.book.state.next.request
   pub from_one : (1 ≤ l.next) × (phases_in l.book.state 0 ≡ [])
   pub agents : l.book.state.next.agent ≡ l.opened + 1
-  pub settled : (id : ℕ) → phases_at id l.kept ≡ phases_in l.book.state id ++ ends_in id l.book.recent
+  pub published : (id : ℕ) → phases_at id l.kept ≡ phases_in l.book.state id ++ ends_in id l.book.recent
   pub fresh : (id : ℕ) → l.book.state.next.request ≤ id → phases_of id l.book.recent ≡ []
   pub counted : counts ≡ true → l.total ≡ l.book.total
   pub shared : counts ≡ true → l.parts + l.opened ≡ all + l.handed

@@ -17,8 +17,8 @@ use wl_core::LockCore;
 use wl_journal::Sight;
 use wl_types::{AbortAnswer, Ask, Change, Reason, Refusal, ReleaseAnswer};
 
-/// A window or worker that opened. Each call but `client`, `changed` and `is_rung` takes the manager's lock, and is one
-/// event of the machine.
+/// A window or worker that opened. Each call but `client`, `changed_requests` and `is_rung` takes the manager's lock,
+/// and is one event of the machine.
 ///
 /// Where shares are counted, an agent's share has as many entries as its calls recorded. An agent should end by
 /// `terminate`: one that is dropped stays in the manager, with its locks.
@@ -42,11 +42,12 @@ impl<C: LockCore, T: Count> Agent<C, T> {
     /// Puts the numbers of the requests that changed since the last such call in place of those that the list has, in
     /// no order and some more than once. Answers whether these are all: else any request may have changed. It takes no
     /// lock of the manager, and waits for nobody.
-    pub fn changed(&self, numbers: &mut Vec<u64>) -> bool {
+    pub fn changed_requests(&self, numbers: &mut Vec<u64>) -> bool {
         self.inbox.collect(numbers)
     }
 
-    /// Whether a request changed since `changed` was last called. A bell that the agent was opened with was rung then.
+    /// Whether a request changed since `changed_requests` was last called. A bell that the agent was opened with was
+    /// rung then.
     pub fn is_rung(&self) -> bool {
         self.inbox.is_rung()
     }
@@ -64,7 +65,7 @@ impl<C: LockCore, T: Count> Agent<C, T> {
         // Made before the lock is taken, so that others wait for less.
         let asking = Asking::new(self.manager.alloc, ask, &self.inbox);
         let mut locked = self.manager.lock(rt);
-        let (number, owner) = match locked.request_made(self.number, ask, asking, &mut self.share) {
+        let (number, owner) = match locked.request_with(self.number, ask, asking, &mut self.share) {
             Ok(made) => made,
             Err(refusal) => return Err(refusal),
         };

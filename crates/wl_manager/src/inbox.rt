@@ -29,7 +29,7 @@ impl Inbox {
         Ok(inbox)
     }
 
-    /// Adds the number of a request that changed. Its cell is settled by then, so that whoever collects the number
+    /// Adds the number of a request that changed. Its phase is published by then, so that whoever collects the number
     /// finds the new phase. The first one since the last `collect` rings the bell.
     pub(crate) fn add(&self, number: u64) {
         if self.changed.add(number) {

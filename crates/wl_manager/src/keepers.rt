@@ -5,7 +5,7 @@ ghost use Rattle.std.specs.Bool.{OnTrue, OnFalse};
 ghost use Rattle.wl_types.specs.declared.phases.Phase.TheVariants.{Granted, Taken, Aborted};
 ghost use Rattle.wl_machine.specs.Laws.{phases_of};
 ghost use Rattle.wl_cell.specs.Seats.{may_settle};
-ghost use Rattle.wl_manager.specs.Keepers.{seat_at, phases_at, cells_at, ends_request, MayBring, MaySettle, after};
+ghost use Rattle.wl_manager.specs.Keepers.{seat_at, phases_at, cells_at, ends_request, MayPublish, MayPublishAll, after};
 
 use crate::coarse_clock::CoarseClock;
 use crate::inbox::Inbox;
@@ -40,8 +40,8 @@ impl Model for Place {
 }
 
 impl Place {
-    /// Settles the cell, if it isn't at the phase, and then adds the request to the agent's inbox.
-    fn bring(&mut self, id: u64, phase: Phase, now: u64)
+    /// Publishes the phase in the cell, if it isn't there, and then adds the request to the agent's inbox.
+    fn publish(&mut self, id: u64, phase: Phase, now: u64)
         requires { (self.old.phase ≡ phase) ⊎ IsTrue (may_settle self.old.phase phase) }
         ensures { self.new ≡ record self.old { phase = phase } }
     {
@@ -127,15 +127,15 @@ impl Keepers {
         Ok(())
     }
 
-    /// Lets the keeper of this number go.
+    /// Drops the keeper of this number.
     pub(crate) fn remove(&mut self, id: u64)
         ensures { (other : ℕ) → seat_at other self.new ≡ (if other == id then None else seat_at other self.old) }
     {
         self.kept.remove(&id);
     }
 
-    /// Lets the keepers of the requests that these changes end go.
-    pub(crate) fn let_go(&mut self, changes: &[Change])
+    /// Drops the keepers of the requests that these changes end.
+    pub(crate) fn drop_ended(&mut self, changes: &[Change])
         ensures { (id : ℕ) → seat_at id self.new ≡ (if ends_request id changes.now then None else seat_at id self.old) }
     {
         let mut i = 0;
@@ -147,25 +147,25 @@ impl Keepers {
         }
     }
 
-    /// Settles the cell of this number, if it isn't at the phase, and adds it to its agent's inbox.
-    pub(crate) fn bring(&mut self, id: u64, phase: Phase)
-        requires { MayBring (phases_at id self.old) phase }
+    /// Publishes the phase in the cell of this number, if it isn't there, and adds it to its agent's inbox.
+    pub(crate) fn publish(&mut self, id: u64, phase: Phase)
+        requires { MayPublish (phases_at id self.old) phase }
         ensures phases { (other : ℕ) → phases_at other self.new ≡ (if other == id then phase ∷ [] else phases_at other self.old) }
         ensures cells { (other : ℕ) → cells_at other self.new ≡ cells_at other self.old }
     {
         let now = self.now();
-        self.kept.get_mut(&id).unwrap().bring(id, phase, now);
+        self.kept.get_mut(&id).unwrap().publish(id, phase, now);
     }
 
-    /// Settles the cells of all these changes, in their order.
-    pub(crate) fn settle_all(&mut self, changes: &[Change])
-        requires { (id : ℕ) → MaySettle (phases_at id self.old) (phases_of id changes.now) }
+    /// Publishes all these changes in their cells, in their order.
+    pub(crate) fn publish_all(&mut self, changes: &[Change])
+        requires { (id : ℕ) → MayPublishAll (phases_at id self.old) (phases_of id changes.now) }
         ensures phases { (id : ℕ) → phases_at id self.new ≡ after (phases_of id changes.now) (phases_at id self.old) }
         ensures cells { (id : ℕ) → cells_at id self.new ≡ cells_at id self.old }
     {
         let mut i = 0;
         while i < changes.len() {
-            self.bring(changes[i].id, changes[i].phase);
+            self.publish(changes[i].id, changes[i].phase);
             i += 1;
         }
     }

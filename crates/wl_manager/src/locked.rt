@@ -27,8 +27,8 @@ pub use tally::{Leaving, TallyFault};
 
 /// A journal, the keepers of its requests, and what was counted. Its type says what holds whenever the lock is free.
 ///
-/// Each command does the machine's step, settles the cells of its changes, ends before grants, and adds to the
-/// caller's share what it recorded. A refused one leaves everything as it was, but that it may let go the keepers of
+/// Each command does the machine's step, publishes its changes in their cells, ends before grants, and adds to the
+/// caller's share what it recorded. A refused one leaves everything as it was, but that it may drop the keepers of
 /// requests that have ended.
 #[derive(Drop)]
 pub struct Locked<C: LockCore, T: Count> {
@@ -94,9 +94,9 @@ impl<C: LockCore, T: Count> Locked<C, T> {
         ensures refused { IfErr result (λ r. r ≡ refused_or_memory (refusal self.old.book.state (Command.Enter kind))) }
         ensures unchanged { OnErr result (Stays self.old self.new) }
     {
-        self.keepers.let_go(self.book.changes());
+        self.keepers.drop_ended(self.book.changes());
         let agent = self.book.open(kind)?;
-        self.keepers.settle_all(self.book.changes());
+        self.keepers.publish_all(self.book.changes());
         let mut share = T::split(&mut self.share);
         T::add(&mut self.total, &mut share, 1);
         self.opened += 1;

@@ -53,7 +53,7 @@ pub struct Manager<C: LockCore, T: Count> {
     pub(crate) alloc: Global,
     pub(crate) locked: Mutex<Locked<C, T>>,
     // Notified after each command that changed a request for which somebody may wait.
-    pub(crate) settled: Condvar,
+    pub(crate) published: Condvar,
 }
 
 impl<C: LockCore, T: Count> Manager<C, T> {
@@ -87,7 +87,7 @@ impl<C: LockCore, T: Count> Manager<C, T> {
         let manager = Manager {
             alloc,
             locked: Mutex::new(Locked::new(alloc, seed, total, share, clock)),
-            settled: Condvar::new(),
+            published: Condvar::new(),
         };
         Ok(Arc::new(alloc, manager)?)
     }
@@ -155,7 +155,7 @@ impl<C: LockCore, T: Count> Manager<C, T> {
     /// Wakes those that wait, where there is something that they may wait for. Called without the lock.
     pub(crate) fn wake(&self, tells: bool) {
         if tells {
-            self.settled.notify_all();
+            self.published.notify_all();
         }
     }
 

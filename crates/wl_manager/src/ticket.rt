@@ -57,7 +57,7 @@ impl<C: LockCore, T: Count> Ticket<C, T> {
 
     /// The first phase that isn't Pending. It takes nothing, and nothing says that it returns.
     pub fn wait<R: Wait>(&mut self, rt: &R) -> Phase
-        ensures settled { result ≢ Pending }
+        ensures published { result ≢ Pending }
         ensures later { Reaches self.old.owner.seen result }
         ensures number { self.new.number ≡ self.old.number }
     {
@@ -68,7 +68,7 @@ impl<C: LockCore, T: Count> Ticket<C, T> {
             if phase != Phase::Pending {
                 return phase;
             }
-            locked = manager.settled.wait(rt, locked);
+            locked = manager.published.wait(rt, locked);
         }
         unreachable!()
     }

@@ -19,7 +19,7 @@ use std::test::Fail;
 use wl_core::{Command, LockCore, PlainCore};
 use wl_journal::{Entry, audit};
 use wl_manager::{Agent, Count, Loose, Manager, Ticket, Visitor};
-use wl_samples::opening;
+use wl_test_support::opening;
 use wl_types::{Kind, Memory};
 
 type Plain = Manager<PlainCore, Loose>;
@@ -67,7 +67,7 @@ fn takes(entries: &[Entry]) -> usize {
     takes
 }
 
-fn summed<C: LockCore, T: Count, R: Wait>(rt: &R, manager: &Manager<C, T>) -> Sum {
+fn sum_up<C: LockCore, T: Count, R: Wait>(rt: &R, manager: &Manager<C, T>) -> Sum {
     let mut sum = Sum {
         entries: 0,
         takes: 0,
@@ -96,7 +96,7 @@ impl Visitor for Audit {
     }
 }
 
-fn audited<C: LockCore, T: Count, R: Wait>(
+fn audit_book<C: LockCore, T: Count, R: Wait>(
     rt: &R,
     alloc: Global,
     manager: &Manager<C, T>,

@@ -28,6 +28,6 @@ pub fn assert_rows<D: Driver, R: Wait + Abort>(
 }
 
 /// An answer as Rust shows it.
-pub fn told<T: Debug>(alloc: Global, answer: &T) -> Result<String, Memory> {
+pub fn show<T: Debug>(alloc: Global, answer: &T) -> Result<String, Memory> {
     Ok(format!(in alloc; "{answer:?}")?)
 }

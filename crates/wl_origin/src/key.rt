@@ -3,7 +3,7 @@
 ghost use Rattle.std.specs.Prelude.{◌≡◌, string_bytes, IfOk};
 ghost use Rattle.wl_origin.specs.Origin.{tuple_text};
 
-use crate::written::written;
+use crate::serialize::serialize;
 use std::alloc::Global;
 use std::cmp::Ordering;
 use std::hash::{Hash, Hasher};
@@ -52,7 +52,7 @@ impl OriginKey {
     pub fn text(&self, alloc: Global) -> Result<String, Memory>
         ensures { IfOk result (λ text. string_bytes text ≡ tuple_text self.now) }
     {
-        written(alloc, self.scheme.as_str(), self.host.as_str(), self.port)
+        serialize(alloc, self.scheme.as_str(), self.host.as_str(), self.port)
     }
 }
 

@@ -27,8 +27,8 @@ abbrev pub entries_of : Core → ℕ
 entries_of core = unwrap_or core.entries 0
 
 -- the origins that have a line: those where something was recorded
-abbrev pub audited : List (ManagerKey × Core) → List (ManagerKey × Core)
-audited cores = filter (λ origin. not (entries_of origin.1 == 0)) cores
+abbrev pub with_entries : List (ManagerKey × Core) → List (ManagerKey × Core)
+with_entries cores = filter (λ origin. not (entries_of origin.1 == 0)) cores
 
 -- what every line has
 abbrev pub audit_members : ℕ → Bool → List ℕ → Members
@@ -46,11 +46,11 @@ audit_line key entries = compact_text (audit_value key.bucket entries true (tupl
 
 -- the lines of these origins
 abbrev pub audit_text : List (ManagerKey × Core) → List ℕ
-audit_text cores = flat_map (λ origin. audit_line origin.0 (entries_of origin.1)) (audited cores)
+audit_text cores = flat_map (λ origin. audit_line origin.0 (entries_of origin.1)) (with_entries cores)
 
 -- the lines of all these origins were written, which are n
 pub record WritesOrigins (cores : List (ManagerKey × Core)) (n : ℕ) (old new : Option (List ℕ)) : Type 0 where
-  pub count : n ≡ length (audited cores)
+  pub count : n ≡ length (with_entries cores)
   pub written : Appends old new (audit_text cores)
 
 -- the lines of the first of these origins were written
@@ -66,7 +66,7 @@ pub record WritesWithin (cores : List (ManagerKey × Core)) (n : ℕ) (old new :
   pub origin : ManagerKey × Core
   pub back : List (ManagerKey × Core)
   pub split : cores ≡ front ++ origin ∷ back
-  pub count : n ≡ length (audited front)
+  pub count : n ≡ length (with_entries front)
   pub part : List ℕ
   pub more : List ℕ
   pub some : 0 < length more
@@ -112,7 +112,7 @@ CountsDone lines (LineTooLong n) old new = AnswersAtOnce (LineTooLong n) old new
 
 -- of one more origin the line was written, if it has one, and with it n were
 pub record WritesNext (before : ℕ) (origin : ManagerKey × Core) (n : ℕ) (old new : Option (List ℕ)) : Type 0 where
-  pub count : n ≡ before + length (audited (origin ∷ []))
+  pub count : n ≡ before + length (with_entries (origin ∷ []))
   pub written : Appends old new (audit_text (origin ∷ []))
 
 -- the line of one origin was not written, after so many lines of the script, and so many other origins
@@ -125,8 +125,8 @@ IsUnwritten lines written origin old (LineTooLong n) new = ⊥
 IsUnwritten lines written origin old (TooManyTurns n) new = ⊥
 
 -- what is seen of a book
-abbrev pub seen : Book → Core
-seen book = record { state = book.state; entries = Some book.total }
+abbrev pub core_of : Book → Core
+core_of book = record { state = book.state; entries = Some book.total }
 
-abbrev pub all_seen : List (ManagerKey × Book) → List (ManagerKey × Core)
-all_seen books = map (λ origin. (origin.0, seen origin.1)) books
+abbrev pub cores_of : List (ManagerKey × Book) → List (ManagerKey × Core)
+cores_of books = map (λ origin. (origin.0, core_of origin.1)) books

@@ -4,7 +4,7 @@ ghost use Rattle.std.specs.Prelude.{◌≡◌, ◌+◌, ◌<◌, ◌≤◌, ◌^
 ghost use Rattle.serde_json.specs.Data.{member, object, string};
 ghost use Rattle.serde_json.specs.View.{view};
 ghost use Rattle.wl_origin.specs.Origin.{tuple_text};
-ghost use Rattle.wl_script.specs.Audits.{Audited, CountsDone, LeavesAudit, LeavesOrigins, IsUnwritten, WritesNext, WritesOrigins, all_seen, audit_line, audit_members, audit_value, recording, seen};
+ghost use Rattle.wl_script.specs.Audits.{Audited, CountsDone, LeavesAudit, LeavesOrigins, IsUnwritten, WritesNext, WritesOrigins, cores_of, audit_line, audit_members, audit_value, recording, core_of};
 ghost use Rattle.wl_script.specs.Faults.{is_read, is_write, IsTooManyTurns};
 ghost use Rattle.wl_script.specs.Leaves.{GaveBytes};
 ghost use Rattle.wl_script.specs.Lines.{lines};
@@ -109,9 +109,9 @@ fn write_origin<W: Output>(
     written: u64,
 ) -> Result<u64, ScriptFault>
     requires { written + 1 < 2 ^ 64 }
-    ensures ok { IfOk result (λ n. WritesNext written (key.now, seen book.now) n (W.held writer.old) (W.held writer.new)) }
+    ensures ok { IfOk result (λ n. WritesNext written (key.now, core_of book.now) n (W.held writer.old) (W.held writer.new)) }
     ensures err { IfErr result (λ fault.
-        IsUnwritten lines written (key.now, seen book.now) (W.held writer.old) fault (W.held writer.new)) }
+        IsUnwritten lines written (key.now, core_of book.now) (W.held writer.old) fault (W.held writer.new)) }
     ensures counted { Counts (W.failures writer.old) (W.failures writer.new) (is_write result) }
 {
     if book.total() == 0 {
@@ -133,9 +133,9 @@ fn write_origins<W: Output>(
     books: &[(ManagerKey, Book<IndexCore>)],
     lines: u64,
 ) -> Result<u64, ScriptFault>
-    ensures ok { IfOk result (λ n. WritesOrigins (all_seen books.now) n (W.held writer.old) (W.held writer.new)) }
+    ensures ok { IfOk result (λ n. WritesOrigins (cores_of books.now) n (W.held writer.old) (W.held writer.new)) }
     ensures err { IfErr result (λ fault.
-        LeavesOrigins lines (all_seen books.now) fault (W.held writer.old) (W.held writer.new)) }
+        LeavesOrigins lines (cores_of books.now) fault (W.held writer.old) (W.held writer.new)) }
     ensures counted { Counts (W.failures writer.old) (W.failures writer.new) (is_write result) }
 {
     let mut written = 0;
@@ -150,8 +150,8 @@ fn write_origins<W: Output>(
 /// with its bucket where that isn't `default`. Limits are those of `run`.
 ///
 /// A fault carries the lines of the script that were done, and `Write` the managers that were written whole. Before the
-/// end of the script nothing is written. A bucket of an origin has a line once an agent has entered it; opaque origins
-/// have none.
+/// end of the script nothing is written. A bucket of an origin has a line once an agent has opened there; opaque
+/// origins have none.
 pub fn audit<S: RandomSource + AllocGlobal, R: Input, W: Output>(
     rt: &S,
     reader: &mut R,

@@ -3,7 +3,7 @@
 use std::alloc::{AllocError, Global};
 use std::test::Fail;
 use wl_origin::{BucketFault, BucketName, ManagerFault, ManagerKey, manager_of, manager_of_text};
-use wl_samples::{key_in, refused};
+use wl_test_support::{fail_refused, key_in};
 use wl_types::{Memory, Text};
 
 /// Texts, and whether they are names. The longest name has 64 bytes.
@@ -119,7 +119,10 @@ const MANAGERS: [(&str, &str, &str); 8] = [
 ];
 
 /// What was found of a URL and a bucket, as text.
-fn told(alloc: Global, found: &Result<Option<ManagerKey>, ManagerFault>) -> Result<String, Memory> {
+fn show_manager(
+    alloc: Global,
+    found: &Result<Option<ManagerKey>, ManagerFault>,
+) -> Result<String, Memory> {
     match found {
         Ok(Some(key)) => key_told(alloc, key),
         Ok(None) => Ok("opaque".to_string(alloc)?),
@@ -133,12 +136,12 @@ fn key_told(alloc: Global, key: &ManagerKey) -> Result<String, Memory> {
 }
 
 fn lent(alloc: Global, url: &str, bucket: &str) -> Result<String, Memory> {
-    told(alloc, &manager_of(alloc, url, bucket))
+    show_manager(alloc, &manager_of(alloc, url, bucket))
 }
 
 fn handed_over(alloc: Global, url: &str, bucket: &str) -> Result<String, Memory> {
     let bucket = Text::of(alloc, bucket)?;
-    told(alloc, &manager_of_text(alloc, url, bucket))
+    show_manager(alloc, &manager_of_text(alloc, url, bucket))
 }
 
 #[test]
@@ -230,7 +233,7 @@ fn a_refused_growth_names_no_bucket(rt: HostRuntime) -> Result<(), Fail> {
         }
         Err(fault) => {
             let is_next_made = BucketName::of(rt.alloc(), "inbox").is_ok();
-            refused(is_told && fault == BucketFault::Memory && is_next_made)
+            fail_refused(is_told && fault == BucketFault::Memory && is_next_made)
         }
     }
 }

@@ -11,12 +11,12 @@ use wl_codec::{Body, CodecFault, Line, Message, Reading, read_line, read_message
 use wl_types::{Ask, Memory};
 
 /// Reads the messages of a list, and gives the list as it came out. Each row is a message, an arrow and what it is, as
-/// `told` says it.
+/// `show_reading` says it.
 fn read_messages(alloc: Global, list: &str) -> Result<String, Memory> {
     let mut came = String::new(alloc);
     for row in list.lines() {
         let (text, _) = row.split_once(" -> ").unwrap_or((row, ""));
-        let read = told(alloc, &read_message(alloc, text.as_bytes())?)?;
+        let read = show_reading(alloc, &read_message(alloc, text.as_bytes())?)?;
         write!(came, "{text} -> {read}\n")?;
     }
     Ok(came)
@@ -27,32 +27,32 @@ fn read_lines(alloc: Global, list: &str) -> Result<String, Memory> {
     let mut came = String::new(alloc);
     for row in list.lines() {
         let (text, _) = row.split_once(" -> ").unwrap_or((row, ""));
-        let read = line_told(alloc, &read_line(alloc, text.as_bytes())?)?;
+        let read = show_line(alloc, &read_line(alloc, text.as_bytes())?)?;
         write!(came, "{text} -> {read}\n")?;
     }
     Ok(came)
 }
 
 /// A message's id and what it asks, or the id, where it has one, and the name and rule of its fault.
-fn told(alloc: Global, reading: &Reading) -> Result<String, Memory> {
+fn show_reading(alloc: Global, reading: &Reading) -> Result<String, Memory> {
     match reading {
-        Reading::Good(message) => asked(alloc, message),
+        Reading::Good(message) => show_message(alloc, message),
         Reading::Bad(id, fault) => wrong(alloc, *id, *fault),
     }
 }
 
 /// The same of a line, with its label before it.
-fn line_told(alloc: Global, line: &Line) -> Result<String, Memory> {
+fn show_line(alloc: Global, line: &Line) -> Result<String, Memory> {
     match line {
         Line::Good(label, message) => {
-            let asked = asked(alloc, message)?;
+            let asked = show_message(alloc, message)?;
             Ok(format!(in alloc; "{}: {asked}", label.as_str())?)
         }
         Line::Bad(id, fault) => wrong(alloc, *id, *fault),
     }
 }
 
-fn asked(alloc: Global, message: &Message) -> Result<String, Memory> {
+fn show_message(alloc: Global, message: &Message) -> Result<String, Memory> {
     let id = message.id;
     Ok(match &message.body {
         Body::Enter { url, kind, bucket } => {

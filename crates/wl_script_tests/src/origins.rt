@@ -4,7 +4,7 @@ use std::alloc::Global;
 use std::test::Fail;
 use wl_core::{PlainCore, Realm};
 use wl_origin::{KeyFault, OriginKey, Standing, key_of};
-use wl_samples::{key, origin_key, refused};
+use wl_test_support::{fail_refused, key, origin_key};
 use wl_types::Memory;
 
 /// Each URL with the text of its origin, `opaque` where that has none, or what is wrong with it.
@@ -129,15 +129,15 @@ fn keys_are_ordered_by_scheme_then_host_then_port(rt: HostRuntime) -> Result<(),
 fn try_key(alloc: Global) -> Result<(), Fail> {
     match key_of(alloc, "https://a.test/") {
         Ok(Standing::Tuple(_)) => Ok(()),
-        Ok(Standing::Opaque) | Err(KeyFault::BadUrl) => refused(false),
-        Err(KeyFault::Memory) => refused(key_of(alloc, "https://a.test/").is_ok()),
+        Ok(Standing::Opaque) | Err(KeyFault::BadUrl) => fail_refused(false),
+        Err(KeyFault::Memory) => fail_refused(key_of(alloc, "https://a.test/").is_ok()),
     }
 }
 
 fn try_text(alloc: Global, key: &OriginKey) -> Result<(), Fail> {
     match key.text(alloc) {
         Ok(_) => Ok(()),
-        Err(Memory) => refused(key.text(alloc)?.as_str() == "https://a.test"),
+        Err(Memory) => fail_refused(key.text(alloc)?.as_str() == "https://a.test"),
     }
 }
 
@@ -149,7 +149,7 @@ fn try_core(alloc: Global) -> Result<(), Fail> {
     }
     let is_as_before = realm.is_empty();
     realm.add(key(alloc, "https://a.test/")?, ())?;
-    refused(is_as_before && realm.len() == 1)
+    fail_refused(is_as_before && realm.len() == 1)
 }
 
 #[test]

@@ -4,7 +4,7 @@ use std::alloc::Global;
 use std::test::Fail;
 use wl_core::{Command, LockCore, PlainCore, Realm, Reply};
 use wl_origin::ManagerKey;
-use wl_samples::{ask, key_in, told};
+use wl_test_support::{ask, key_in, show};
 use wl_types::{Kind, Memory, Mode};
 
 /// A key that is there keeps its core. Agents and requests are numbered apart. A call that names no bucket means
@@ -86,16 +86,16 @@ fn answer_at(
     let command = match word {
         "open" => Command::Enter(Kind::Window),
         "request" => Command::Request(1, ask(alloc, "db", Mode::Exclusive)?),
-        _ => return shown(alloc, realm.core(key)),
+        _ => return show_first(alloc, realm.core(key)),
     };
-    told(alloc, &realm.apply(key, &command))
+    show(alloc, &realm.apply(key, &command))
 }
 
 /// What the first agent of a core sees.
-fn shown(alloc: Global, core: &PlainCore) -> Result<String, Memory> {
+fn show_first(alloc: Global, core: &PlainCore) -> Result<String, Memory> {
     match core.snapshot(1) {
-        Ok(snapshot) => told(alloc, &Reply::Seen(snapshot)),
-        Err(refusal) => told(alloc, &Reply::Refused(refusal)),
+        Ok(snapshot) => show(alloc, &Reply::Seen(snapshot)),
+        Err(refusal) => show(alloc, &Reply::Refused(refusal)),
     }
 }
 
@@ -106,7 +106,7 @@ fn first(alloc: Global, realm: &Realm<PlainCore>) -> Result<String, Memory> {
     }
     let (key, core) = realm.nth(0);
     let origin = key.origin.text(alloc)?;
-    let seen = shown(alloc, core)?;
+    let seen = show_first(alloc, core)?;
     Ok(format!(in alloc; "{origin} {} {seen}", key.bucket.as_str())?)
 }
 

@@ -8,7 +8,7 @@ mod upkeep;
 use finishing::finish_all;
 use std::test::Fail;
 use wl_codec::Outcome;
-use wl_session::tells;
+use wl_session::carries_notices;
 
 /// The second request waits, and is aborted.
 const EACH_PHASE_ONCE: &str =
@@ -97,7 +97,7 @@ fn a_fault_tells_nothing_and_keeps_the_list(rt: HostRuntime) -> Result<(), Fail>
 
 #[test]
 fn replies_that_tell(rt: HostRuntime) {
-    assert!(rt; tells(&Outcome::Polled) && !tells(&Outcome::Closed));
+    assert!(rt; carries_notices(&Outcome::Polled) && !carries_notices(&Outcome::Closed));
 }
 
 /// What a session plans to do, with the id of the reply, before it is open, while it is and when it is closed.

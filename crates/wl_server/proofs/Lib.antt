@@ -1,6 +1,6 @@
 mod Talks
 mod Answering
-mod Looks
+mod Observed
 mod Words
 mod Parts
 mod Sockets

@@ -10,7 +10,7 @@ use Rattle.wl_codec.specs.declared.reply.Outcome.{Outcome}
 use Rattle.wl_codec.specs.declared.reply.Outcome.TheVariants as outcome
 use Rattle.wl_session.specs.Planned.{plan_for}
 use Rattle.wl_session.specs.Step.{State, reply, after}
-use Rattle.wl_session.specs.Told.{Look, IsByNumber, Fits, has_news}
+use Rattle.wl_session.specs.LastReported.{RequestPhase, IsByNumber, Fits, has_due_notices}
 use Rattle.wl_session.specs.declared.plan.Action.{Action}
 use Rattle.wl_session.specs.declared.plan.Action.TheVariants.{Act, Answer}
 use Rattle.wl_session.specs.declared.plan.Plan.{Plan}
@@ -43,21 +43,21 @@ plan_of s message = plan_for s.is_open (message_reading message)
 -- what they were told of: grants were taken first.
 pub record Answers (old : State) (message text : List ℕ) (new : State) : Type 0 where
   pub outcome : Outcome
-  pub looks : List Look
+  pub observed : List RequestPhase
   pub fits : IsOutcome (plan_of old message).action outcome
-  pub by_number : IsByNumber looks
-  pub fit : All (Fits outcome old.told) looks
-  pub taken : All (λ look. look.1 ≢ Granted) looks
-  pub told : text ≡ reply_text (reply old (plan_of old message).id outcome looks)
-  pub left : new ≡ after old outcome looks
+  pub by_number : IsByNumber observed
+  pub fit : All (Fits outcome old.last_reported) observed
+  pub taken : All (λ observation. observation.1 ≢ Granted) observed
+  pub text_is : text ≡ reply_text (reply old (plan_of old message).id outcome observed)
+  pub left : new ≡ after old outcome observed
 
 -- The text is the reply to a poll that nobody sent, without an id, and of what was found of the requests, which fits what they were
--- told of, something is news: grants were taken first.
-pub record Tells (old : State) (text : List ℕ) (new : State) : Type 0 where
-  pub looks : List Look
-  pub by_number : IsByNumber looks
-  pub fit : All (Fits outcome.Polled old.told) looks
-  pub taken : All (λ look. look.1 ≢ Granted) looks
-  pub news : has_news outcome.Polled old.told looks ≡ true
-  pub told : text ≡ reply_text (reply old None outcome.Polled looks)
-  pub left : new ≡ after old outcome.Polled looks
+-- told of, something is due a notice: grants were taken first.
+pub record PushesText (old : State) (text : List ℕ) (new : State) : Type 0 where
+  pub observed : List RequestPhase
+  pub by_number : IsByNumber observed
+  pub fit : All (Fits outcome.Polled old.last_reported) observed
+  pub taken : All (λ observation. observation.1 ≢ Granted) observed
+  pub has_due : has_due_notices outcome.Polled old.last_reported observed ≡ true
+  pub text_is : text ≡ reply_text (reply old None outcome.Polled observed)
+  pub left : new ≡ after old outcome.Polled observed

@@ -7,7 +7,7 @@ use Rattle.wl_session.specs.Step.{closed}
 use Rattle.wl_server.specs.declared.fault.ServeEnd.{ServeEnd}
 use Rattle.wl_server.specs.declared.fault.ServeFault.TheVariants.{Handshake, Memory}
 use Rattle.wl_server.specs.declared.socket.Socket.{Socket}
-use Rattle.wl_server.specs.declared.visit.Visit.{Visit}
+use Rattle.wl_server.specs.declared.peer_speaker.PeerSpeaker.{PeerSpeaker}
 use Rattle.wl_server.specs.Peers.{Answers}
 use Rattle.wl_server.specs.Sockets.{Hears, Sends}
 use Rattle.wl_server.specs.Talks.{Talked}
@@ -23,10 +23,10 @@ module _ {S : Type 0} (remaining contents : S → Option (List ℕ)) where
   -- the handshake failed, and nothing was said; or a peer that didn't open yet answered the messages of such a socket
   abbrev pub IsServed : ServeEnd → Type 0
   IsServed end = ((end.answered ≡ 0) × ((end.fault ≡ Some Handshake) ⊎ (end.fault ≡ Some Memory)))
-      ⊎ ((link new : Socket S) × (visit : Visit) × Begins link.inner × (visit.peer ≡ closed)
-      × Talked (λ old message new. Hears (λ line. remaining line.stream) old.inner message new.inner)
+      ⊎ ((transport new : Socket S) × (peer_speaker : PeerSpeaker) × Begins transport.inner × (peer_speaker.peer ≡ closed)
+      × Talked (λ old message new. Hears (λ peer_stream. remaining peer_stream.stream) old.inner message new.inner)
       (λ old new. Unit {0})
-      (λ old words new. Sends (λ line. if line.is_left then None else contents line.stream) old.inner (text words) new.inner)
+      (λ old words new. Sends (λ peer_stream. if peer_stream.is_left then None else contents peer_stream.stream) old.inner (text words) new.inner)
       (λ old fault new. Unit {0})
       (λ old message words new. Answers old.peer message words new.peer)
-      link visit end new)
+      transport peer_speaker end new)

@@ -5,8 +5,8 @@ use Rattle.wl_server.specs.declared.fault.ServeFault.{ServeFault}
 use Rattle.wl_server.specs.declared.fault.ServeFault.TheVariants.{Memory}
 use Rattle.wl_server.specs.declared.talk.Turn.{Turn}
 use Rattle.wl_server.specs.declared.talk.Turn.TheVariants.{Went, Ended}
-use Rattle.wl_server.specs.declared.link.Data.{Data}
-use Rattle.wl_server.specs.declared.link.Data.TheVariants.{Text, Binary}
+use Rattle.wl_server.specs.declared.transport.Data.{Data}
+use Rattle.wl_server.specs.declared.transport.Data.TheVariants.{Text, Binary}
 
 abbrev pub data_bytes : Data → List ℕ
 data_bytes (Text bytes) = bytes
@@ -27,8 +27,8 @@ module _ {L P : Type 0} (hears : L → List ℕ → L → Type 0) (says : L → 
   Exchanged old (e ∷ es) new = (next : L × P) × Exchanges old e next × Exchanged next es new
 
 module _ {L P : Type 0} (hears : L → List ℕ → L → Type 0) (closes : L → L → Type 0) (says : L → List ℕ → L → Type 0) (fails : L → ServeFault → L → Type 0) (answers : P → List ℕ → List ℕ → P → Type 0) where
-  -- The peer closed, before its next message or before the reply to it; or the link failed, where the next message was due or its
-  -- reply; or there was no memory for the reply.
+  -- The peer closed, before its next message or before the reply to it; or the transport failed, where the next message was due
+  -- or its reply; or there was no memory for the reply.
   abbrev pub Ends : L → Option ServeFault → L → Type 0
   Ends old None new = closes old new ⊎ ((message : List ℕ) × (came : L) × hears old message came × closes came new)
   Ends old (Some fault) new = fails old fault new
@@ -40,9 +40,9 @@ module _ {L P : Type 0} (hears : L → List ℕ → L → Type 0) (closes : L �
   Turns old (Ended fault) new = Ends old.0 fault new
 
   -- The messages were answered in turn, and each reply was sent before the next message was taken; then the conversation ended.
-  pub record Talked (link : L) (speaker : P) (end : ServeEnd) (new : L) : Type 0 where
+  pub record Talked (transport : L) (speaker : P) (end : ServeEnd) (new : L) : Type 0 where
     pub exchanges : List Exchange
     pub last : L × P
-    pub exchanged : Exchanged hears says answers (link, speaker) exchanges last
+    pub exchanged : Exchanged hears says answers (transport, speaker) exchanges last
     pub count : end.answered ≡ min (length exchanges) (2 ^ 64 - 1)
     pub ends : Ends last.0 end.fault new

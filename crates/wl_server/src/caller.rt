@@ -136,7 +136,7 @@ impl<S: Read + Write + Drop, K: MaskKeys + Drop> Asker for Caller<S, K> {
 
 impl<S: Read + Write + Drop, K: MaskKeys + Drop> Caller<S, K> {
     /// Sends a close frame, and reads until the connection ends.
-    pub fn leave<R: Wait>(&mut self, rt: &R) {
+    pub fn close<R: Wait>(&mut self, rt: &R) {
         if self.socket.close(None).is_err() {
             return;
         }

@@ -110,7 +110,7 @@ pub fn fenced_text(
     fences: &[Fence],
     text: String,
 ) -> Result<String, Memory>
-    ensures { IfOk result (λ told. string_bytes told ≡ fenced epoch fences.now (string_bytes text)) }
+    ensures { IfOk result (λ last_reported. string_bytes last_reported ≡ fenced epoch fences.now (string_bytes text)) }
 {
     let Some((first, rest)) = fences.split_first() else {
         return Ok(text);
@@ -118,10 +118,10 @@ pub fn fenced_text(
     let Some(members) = text.as_str().strip_prefix("{") else {
         return Ok(text);
     };
-    let mut told = String::new(alloc);
-    told.push_str("{")?;
-    put_fences(&mut told, epoch, first, rest)?;
-    told.push_str(",")?;
-    told.push_str(members)?;
-    Ok(told)
+    let mut last_reported = String::new(alloc);
+    last_reported.push_str("{")?;
+    put_fences(&mut last_reported, epoch, first, rest)?;
+    last_reported.push_str(",")?;
+    last_reported.push_str(members)?;
+    Ok(last_reported)
 }

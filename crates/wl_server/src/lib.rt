@@ -5,25 +5,25 @@
 //! and writes their replies.
 #![tactic(auto)]
 
-mod acting;
 mod asking;
 mod caller;
-mod crowd;
-mod entered;
+mod connection_limit;
+mod dispatch;
 mod fault;
 mod fences;
 mod lines;
-mod link;
 mod listening;
+mod open_client;
 mod opener;
 mod peer;
+mod peer_speaker;
 mod piece;
 mod relaying;
 mod requests;
 mod serving;
 mod socket;
 mod talk;
-mod visit;
+mod transport;
 mod writing;
 
 pub use crate::fault::{ListenFault, RelayFault, ServeEnd, ServeFault, Served};

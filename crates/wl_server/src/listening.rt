@@ -3,8 +3,8 @@
 ghost use Rattle.std.specs.Prelude.{◌≡◌, ◌<◌, IfOk, IfErr};
 ghost use Rattle.wl_server.specs.Listening.{ended};
 
-use crate::crowd::Crowd;
-use crate::serving::serve_gated;
+use crate::connection_limit::ConnectionLimit;
+use crate::serving::serve_with_hooks;
 use crate::talk::Gate;
 use crate::{ListenFault, Served};
 use std::alloc::Global;
@@ -18,17 +18,19 @@ use wl_service::Service;
 /// What the threads of the connections share.
 #[derive(Drop)]
 struct Hall {
-    crowd: Mutex<Crowd>,
+    connection_limit: Mutex<ConnectionLimit>,
     // Notified after each connection that ended.
     left: Condvar,
 }
 
 /// Waits until another connection may run, and counts it.
 fn come_in<R: Wait>(rt: &R, hall: &Hall) {
-    let mut crowd = hall
-        .left
-        .wait_while(rt, hall.crowd.lock(rt), |crowd| crowd.is_full());
-    crowd.begin();
+    let mut connection_limit = hall.left.wait_while(
+        rt,
+        hall.connection_limit.lock(rt),
+        |connection_limit| connection_limit.is_full(),
+    );
+    connection_limit.begin();
 }
 
 /// Serves a connection, and counts its end.
@@ -41,8 +43,8 @@ fn run_one<R: Wait, G: Gate>(
     service: &Service,
     hall: &Hall,
 ) {
-    let end = serve_gated(rt, alloc, stream, gate, connection, service);
-    hall.crowd.lock(rt).end(end.fault.is_some());
+    let end = serve_with_hooks(rt, alloc, stream, gate, connection, service);
+    hall.connection_limit.lock(rt).end(end.fault.is_some());
     hall.left.notify_one();
 }
 
@@ -63,7 +65,7 @@ where
     ensures few { IfErr result (λ fault. ended fault < n) }
 {
     let hall = Hall {
-        crowd: Mutex::new(Crowd::new()),
+        connection_limit: Mutex::new(ConnectionLimit::new()),
         left: Condvar::new(),
     };
     let shared = &hall;
@@ -100,6 +102,6 @@ where
     come?;
     Ok(Served {
         connections: n,
-        failed: hall.crowd.into_inner().failed(),
+        failed: hall.connection_limit.into_inner().count_failed(),
     })
 }

@@ -2,11 +2,11 @@
 
 ghost use Rattle.std.specs.Prelude.{◌≡◌, IfOk, IfSome, IfNone, string_bytes};
 ghost use Rattle.wl_session.specs.Step.{closed};
-ghost use Rattle.wl_server.specs.Peers.{Answers, Tells};
+ghost use Rattle.wl_server.specs.Peers.{Answers, PushesText};
 
-use crate::acting::outcome_of;
-use crate::entered::Entered;
+use crate::dispatch::outcome_of;
 use crate::fences::{Fence, FenceCounter};
+use crate::open_client::OpenClient;
 use crate::opener::{NoAnswer, Opener};
 use crate::requests::Requests;
 use std::alloc::Global;
@@ -25,7 +25,7 @@ use wl_types::Memory;
 pub struct Peer {
     alloc: Global,
     session: Session,
-    entered: Option<Entered>,
+    open_client: Option<OpenClient>,
     requests: Requests,
 }
 
@@ -46,7 +46,7 @@ impl Peer {
     }
 
     /// A peer that didn't open yet, and whose grants have fences by this counter.
-    pub fn fenced(alloc: Global, counter: FenceCounter) -> Peer
+    pub fn with_fences(alloc: Global, counter: FenceCounter) -> Peer
         ensures { result ≡ closed }
     {
         Peer::with(alloc, Some(counter))
@@ -58,7 +58,7 @@ impl Peer {
         Peer {
             alloc,
             session: Session::new(alloc),
-            entered: None,
+            open_client: None,
             requests: Requests::new(alloc, counter),
         }
     }
@@ -131,27 +131,33 @@ impl Peer {
     {
         let reading = read_message_with(self.alloc, message, scratch)?;
         let Plan { id, action } = self.session.plan(reading);
-        let outcome = outcome_of(rt, opener, &mut self.entered, &mut self.requests, action)?;
-        let looks = self
+        let outcome = outcome_of(
+            rt,
+            opener,
+            &mut self.open_client,
+            &mut self.requests,
+            action,
+        )?;
+        let observed = self
             .requests
-            .looks(self.entered.as_ref(), &self.session, &outcome)?;
-        let text = self.session.finish_changed(id, outcome, &looks)?;
-        self.requests.tell(&looks);
+            .observe(self.open_client.as_ref(), &self.session, &outcome)?;
+        let text = self.session.finish_changed(id, outcome, &observed)?;
+        self.requests.report(&observed);
         Ok(text)
     }
 
-    /// What became of the agent's requests since it was last told, as a text; none where nothing is to be told. Where
-    /// there is no memory for it, the agent was terminated.
-    pub fn tell<R: Wait, O: Opener>(
+    /// What became of the agent's requests since they were last reported, as a text; none where nothing is to be
+    /// pushed. Where there is no memory for it, the agent was terminated.
+    pub fn push<R: Wait, O: Opener>(
         self,
         rt: &R,
         opener: &O,
     ) -> Result<(Peer, Option<String>), Memory>
-        ensures text { IfOk result (λ said. IfSome said.1 (λ text. Tells self (string_bytes text) said.0)) }
+        ensures text { IfOk result (λ said. IfSome said.1 (λ text. PushesText self (string_bytes text) said.0)) }
         ensures none { IfOk result (λ said. IfNone said.1 (said.0 ≡ self)) }
     {
         let mut peer = self;
-        match peer.news() {
+        match peer.push_text() {
             Ok(text) => Ok((peer, text)),
             Err(Memory) => {
                 peer.end_by(rt, opener);
@@ -160,53 +166,53 @@ impl Peer {
         }
     }
 
-    fn news(&mut self) -> Result<Option<String>, Memory>
-        ensures text { IfOk result (λ told. IfSome told (λ text. Tells self.old (string_bytes text) self.new)) }
-        ensures none { IfOk result (λ told. IfNone told (self.new ≡ self.old)) }
+    fn push_text(&mut self) -> Result<Option<String>, Memory>
+        ensures text { IfOk result (λ said. IfSome said (λ text. PushesText self.old (string_bytes text) self.new)) }
+        ensures none { IfOk result (λ said. IfNone said (self.new ≡ self.old)) }
     {
         let outcome = Outcome::Polled;
-        let looks = self
+        let observed = self
             .requests
-            .looks(self.entered.as_ref(), &self.session, &outcome)?;
-        if !self.session.has_notices(&outcome, &looks) {
+            .observe(self.open_client.as_ref(), &self.session, &outcome)?;
+        if !self.session.has_notices(&outcome, &observed) {
             return Ok(None);
         }
-        let text = self.session.finish_changed(None, outcome, &looks)?;
-        self.requests.tell(&looks);
+        let text = self.session.finish_changed(None, outcome, &observed)?;
+        self.requests.report(&observed);
         Ok(Some(text))
     }
 
     /// Whether a request may have changed since the agent's requests were last looked at.
     pub fn is_rung(&self) -> bool {
-        match &self.entered {
-            Some(entered) => entered.client().is_rung(),
+        match &self.open_client {
+            Some(open_client) => open_client.client().is_rung(),
             None => false,
         }
     }
 
     /// `end_by`, where the service keeps each manager.
     pub fn end<R: Wait>(self, rt: &R) {
-        if let Some(entered) = self.entered() {
-            let _ = entered.terminate(rt);
+        if let Some(open_client) = self.into_client() {
+            let _ = open_client.terminate(rt);
         }
     }
 
     /// Terminates the agent, if there is one.
     pub fn end_by<R: Wait, O: Opener>(self, rt: &R, opener: &O) {
-        if let Some(entered) = self.entered() {
-            let _ = entered.end(rt, opener);
+        if let Some(open_client) = self.into_client() {
+            let _ = open_client.end(rt, opener);
         }
     }
 
     /// The client, if there is one. The tickets are gone, and hold no manager any more.
-    fn entered(self) -> Option<Entered> {
+    fn into_client(self) -> Option<OpenClient> {
         let Peer {
             alloc: _alloc,
             session: _session,
-            entered,
+            open_client,
             requests,
         } = self;
         drop(requests);
-        entered
+        open_client
     }
 }

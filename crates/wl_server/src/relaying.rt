@@ -103,7 +103,7 @@ pub fn relay<R: Wait + RandomSource, S: Read + Write + Drop, I: Read + Drop, O: 
     };
     let relayed = relay_lines(rt, alloc, &mut caller, reader, writer);
     if relayed.is_ok() {
-        caller.leave(rt);
+        caller.close(rt);
     }
     relayed
 }

@@ -1,43 +1,44 @@
-//! The requests of an agent whose end it wasn't told.
+//! The requests of an agent whose end wasn't reported to it.
 
 ghost use Rattle.std.specs.Prelude.{◌≡◌, ◌≢◌, All, Contains, IfOk, IfSome, OnOk};
 ghost use Rattle.wl_types.specs.declared.phases.Phase.TheVariants.{Granted, Taken};
-ghost use Rattle.wl_session.specs.Told.{Fits, IsByNumber};
+ghost use Rattle.wl_session.specs.LastReported.{Fits, IsByNumber};
 
-use crate::entered::Entered;
 use crate::fences::{Fence, FenceCounter};
+use crate::open_client::OpenClient;
 use std::alloc::Global;
 use std::collections::BTreeMap;
 use wl_cell::Taking;
 use wl_codec::Outcome;
 use wl_service::{Client, Ticket};
-use wl_session::{Session, tells};
+use wl_session::{Session, carries_notices};
 use wl_types::{Memory, Phase};
 
-/// A request, and the phase that was told last. Of a new one nothing was told.
+/// A request, and the phase that was last reported. Of a new one nothing was.
 #[derive(Drop)]
 pub struct Request {
     pub ticket: Ticket,
-    told: Option<Phase>,
+    last_reported: Option<Phase>,
     // Of its lock, once that was taken, where there are fences.
     token: Option<u64>,
 }
 
 impl Request {
-    /// The phase, if it is another than the one told, after a grant was taken. What doesn't fit what the session was
-    /// told isn't news: no cell gives such a phase, but no contract can say so of calls behind a lock that others share.
-    fn news(
+    /// The phase, if it is another than the one last reported, after a grant was taken. What doesn't fit what the
+    /// session was told isn't due: no cell gives such a phase, but no contract can say so of calls behind a lock that
+    /// others share.
+    fn change(
         &mut self,
         counter: Option<&FenceCounter>,
         session: &Session,
         outcome: &Outcome,
         number: u64,
     ) -> Option<Phase>
-        ensures { IfSome result (λ phase. Fits outcome.now session.now.told (number, phase) × (phase ≢ Granted)) }
+        ensures { IfSome result (λ phase. Fits outcome.now session.now.last_reported (number, phase) × (phase ≢ Granted)) }
     {
-        let phase = found(&mut self.ticket, counter, &mut self.token);
-        let is_told = self.told == Some(phase);
-        if is_told || !session.fits(outcome, (number, phase)) {
+        let phase = observe_phase(&mut self.ticket, counter, &mut self.token);
+        let is_reported = self.last_reported == Some(phase);
+        if is_reported || !session.fits(outcome, (number, phase)) {
             return None;
         }
         Some(phase)
@@ -53,13 +54,17 @@ pub struct Requests {
     numbers: Vec<u64>,
     // Where there are fences.
     counter: Option<FenceCounter>,
-    // Of the grants that the last looks found.
+    // Of the grants that were last observed.
     fences: Vec<Fence>,
 }
 
 /// The phase of a request. A grant is taken, and where that finds an end, the end is the phase. A lock that is taken
 /// has a token, where there are fences.
-fn found(ticket: &mut Ticket, counter: Option<&FenceCounter>, token: &mut Option<u64>) -> Phase
+fn observe_phase(
+    ticket: &mut Ticket,
+    counter: Option<&FenceCounter>,
+    token: &mut Option<u64>,
+) -> Phase
     ensures { result ≢ Granted }
 {
     match ticket.look() {
@@ -86,22 +91,22 @@ fn take(ticket: &mut Ticket) -> Phase
     }
 }
 
-/// The phase of the request of this number, if it is another than the one told, after a grant was taken.
-fn news_of(
+/// The phase of the request of this number, if it is another than the one last reported, after a grant was taken.
+fn change_of(
     requests: &mut BTreeMap<u64, Request>,
     counter: Option<&FenceCounter>,
     session: &Session,
     outcome: &Outcome,
     number: u64,
 ) -> Option<Phase>
-    ensures { IfSome result (λ phase. Fits outcome.now session.now.told (number, phase) × (phase ≢ Granted)) }
+    ensures { IfSome result (λ phase. Fits outcome.now session.now.last_reported (number, phase) × (phase ≢ Granted)) }
 {
     let request = requests.get_mut(&number)?;
-    request.news(counter, session, outcome, number)
+    request.change(counter, session, outcome, number)
 }
 
-/// The news of the requests of these numbers, which rise. One that comes again is passed over.
-fn changed_of(
+/// The changed requests of these numbers, which rise. One that comes again is passed over.
+fn observe_changed(
     alloc: Global,
     requests: &mut BTreeMap<u64, Request>,
     counter: Option<&FenceCounter>,
@@ -109,23 +114,23 @@ fn changed_of(
     outcome: &Outcome,
     numbers: &[u64],
 ) -> Result<Vec<(u64, Phase)>, Memory>
-    ensures by_number { IfOk result (λ looks. IsByNumber looks.items) }
-    ensures fit { IfOk result (λ looks. All (Fits outcome.now session.now.told) looks.items) }
-    ensures taken { IfOk result (λ looks. All (λ look. look.1 ≢ Granted) looks.items) }
+    ensures by_number { IfOk result (λ observed. IsByNumber observed.items) }
+    ensures fit { IfOk result (λ observed. All (Fits outcome.now session.now.last_reported) observed.items) }
+    ensures taken { IfOk result (λ observed. All (λ observation. observation.1 ≢ Granted) observed.items) }
 {
-    let mut looks = Vec::new(alloc);
+    let mut observed = Vec::new(alloc);
     let mut least = 0;
     for number in numbers {
         // No request has the greatest number.
         if *number < least || *number == u64::MAX {
             continue;
         }
-        if let Some(phase) = news_of(requests, counter, session, outcome, *number) {
-            looks.push((*number, phase))?;
+        if let Some(phase) = change_of(requests, counter, session, outcome, *number) {
+            observed.push((*number, phase))?;
         }
         least = *number + 1;
     }
-    Ok(looks)
+    Ok(observed)
 }
 
 impl Requests {
@@ -150,7 +155,7 @@ impl Requests {
         let number = ticket.number();
         let request = Request {
             ticket,
-            told: None,
+            last_reported: None,
             token: None,
         };
         match self.by_number.insert(number, request) {
@@ -164,7 +169,7 @@ impl Requests {
         self.by_number.get_mut(&number)
     }
 
-    /// The fences of the grants that the last looks found, by number.
+    /// The fences of the grants that were last observed, by number.
     pub fn fences(&self) -> &[Fence]
         ensures { result.now ≡ self.now.fences.items }
     {
@@ -173,34 +178,38 @@ impl Requests {
 
     /// What a reply of this outcome to this client looks at: nothing where it has no notices, else what changed. The
     /// fences are those of the grants in it.
-    pub fn looks(
+    pub fn observe(
         &mut self,
-        entered: Option<&Entered>,
+        open_client: Option<&OpenClient>,
         session: &Session,
         outcome: &Outcome,
     ) -> Result<Vec<(u64, Phase)>, Memory>
-        ensures by_number { IfOk result (λ looks. IsByNumber looks.items) }
-        ensures fit { IfOk result (λ looks. All (Fits outcome.now session.now.told) looks.items) }
-        ensures taken { IfOk result (λ looks. All (λ look. look.1 ≢ Granted) looks.items) }
-        ensures fenced { IfOk result (λ looks. All (λ fence. Contains looks.items (fence.request, Taken)) self.new.fences.items) }
+        ensures by_number { IfOk result (λ observed. IsByNumber observed.items) }
+        ensures fit { IfOk result (λ observed. All (Fits outcome.now session.now.last_reported) observed.items) }
+        ensures taken { IfOk result (λ observed. All (λ observation. observation.1 ≢ Granted) observed.items) }
+        ensures fenced { IfOk result (λ observed. All (λ fence. Contains observed.items (fence.request, Taken)) self.new.fences.items) }
     {
-        let looks = match entered {
-            Some(entered) if tells(outcome) => self.changed(entered.client(), session, outcome)?,
+        let observed = match open_client {
+            Some(open_client) if carries_notices(outcome) => self.changed_requests(
+                open_client.client(),
+                session,
+                outcome,
+            )?,
             _ => Vec::new(self.alloc),
         };
-        self.keep_fences(&looks)?;
-        Ok(looks)
+        self.keep_fences(&observed)?;
+        Ok(observed)
     }
 
     /// Keeps the fences of the grants among what was found, and no others.
-    fn keep_fences(&mut self, looks: &[(u64, Phase)]) -> Result<(), Memory>
-        ensures { OnOk result (All (λ fence. Contains looks.now (fence.request, Taken)) self.new.fences.items) }
+    fn keep_fences(&mut self, observed: &[(u64, Phase)]) -> Result<(), Memory>
+        ensures { OnOk result (All (λ fence. Contains observed.now (fence.request, Taken)) self.new.fences.items) }
     {
         self.fences.clear();
         if self.counter.is_none() {
             return Ok(());
         }
-        for (number, phase) in looks {
+        for (number, phase) in observed {
             let Phase::Taken = phase else {
                 continue;
             };
@@ -212,26 +221,26 @@ impl Requests {
         Ok(())
     }
 
-    /// The requests whose phase is another than the one told, by number, after each grant was taken. It looks at those
-    /// that the client says have changed, and at a new one; at all of them where the client can't say.
-    fn changed(
+    /// The requests whose phase is another than the one last reported, by number, after each grant was taken. It looks
+    /// at those that the client says have changed, and at a new one; at all of them where the client can't say.
+    fn changed_requests(
         &mut self,
         client: &Client,
         session: &Session,
         outcome: &Outcome,
     ) -> Result<Vec<(u64, Phase)>, Memory>
-        ensures by_number { IfOk result (λ looks. IsByNumber looks.items) }
-        ensures fit { IfOk result (λ looks. All (Fits outcome.now session.now.told) looks.items) }
-        ensures taken { IfOk result (λ looks. All (λ look. look.1 ≢ Granted) looks.items) }
+        ensures by_number { IfOk result (λ observed. IsByNumber observed.items) }
+        ensures fit { IfOk result (λ observed. All (Fits outcome.now session.now.last_reported) observed.items) }
+        ensures taken { IfOk result (λ observed. All (λ observation. observation.1 ≢ Granted) observed.items) }
     {
-        if !client.changed(&mut self.numbers) {
-            return self.changed_of_all(session, outcome);
+        if !client.changed_requests(&mut self.numbers) {
+            return self.observe_all(session, outcome);
         }
         if let Outcome::Request(number) = outcome {
             self.numbers.push(*number)?;
         }
         self.numbers.sort_unstable();
-        changed_of(
+        observe_changed(
             self.alloc,
             &mut self.by_number,
             self.counter.as_ref(),
@@ -241,36 +250,36 @@ impl Requests {
         )
     }
 
-    /// The same, by a look at each request.
-    fn changed_of_all(
+    /// The same, by looking at each request.
+    fn observe_all(
         &mut self,
         session: &Session,
         outcome: &Outcome,
     ) -> Result<Vec<(u64, Phase)>, Memory>
-        ensures by_number { IfOk result (λ looks. IsByNumber looks.items) }
-        ensures fit { IfOk result (λ looks. All (Fits outcome.now session.now.told) looks.items) }
-        ensures taken { IfOk result (λ looks. All (λ look. look.1 ≢ Granted) looks.items) }
+        ensures by_number { IfOk result (λ observed. IsByNumber observed.items) }
+        ensures fit { IfOk result (λ observed. All (Fits outcome.now session.now.last_reported) observed.items) }
+        ensures taken { IfOk result (λ observed. All (λ observation. observation.1 ≢ Granted) observed.items) }
     {
-        let mut looks = Vec::new(self.alloc);
+        let mut observed = Vec::new(self.alloc);
         for (number, request) in self.by_number.iter_mut() {
-            if let Some(phase) = request.news(self.counter.as_ref(), session, outcome, *number) {
-                looks.push((*number, phase))?;
+            if let Some(phase) = request.change(self.counter.as_ref(), session, outcome, *number) {
+                observed.push((*number, phase))?;
             }
         }
-        Ok(looks)
+        Ok(observed)
     }
 
     fn token_of(&self, number: u64) -> Option<u64> {
         self.by_number.get(&number)?.token
     }
 
-    /// What was found is told. An end leaves the requests.
-    pub fn tell(&mut self, looks: &[(u64, Phase)]) {
-        for look in looks {
-            if look.1.is_end() {
-                let _ = self.by_number.remove(&look.0);
-            } else if let Some(request) = self.by_number.get_mut(&look.0) {
-                request.told = Some(look.1);
+    /// What was observed is reported. An end leaves the requests.
+    pub fn report(&mut self, observed: &[(u64, Phase)]) {
+        for observation in observed {
+            if observation.1.is_end() {
+                let _ = self.by_number.remove(&observation.0);
+            } else if let Some(request) = self.by_number.get_mut(&observation.0) {
+                request.last_reported = Some(observation.1);
             }
         }
     }

@@ -3,9 +3,9 @@
 ghost use Rattle.wl_server.specs.Serving.{IsServed};
 
 use crate::peer::Peer;
+use crate::peer_speaker::PeerSpeaker;
 use crate::socket::accept;
 use crate::talk::{Gate, talk};
-use crate::visit::Visit;
 use crate::{ServeEnd, ServeFault};
 use std::alloc::Global;
 use std::io::{Read, Write};
@@ -13,10 +13,10 @@ use std::sync::Wait;
 use wl_codec::Scratch;
 use wl_service::Service;
 
-/// A gate that nobody stands at.
-pub struct Open;
+/// Hooks that are told nothing.
+pub struct NoHooks;
 
-impl Gate for Open {
+impl Gate for NoHooks {
     fn enter(&self, _connection: u64) {}
 
     fn answered(&self, _connection: u64, _count: u64) {}
@@ -32,11 +32,11 @@ pub fn serve_one<R: Wait, S: Read + Write + Drop>(
 ) -> ServeEnd
     ensures { IsServed S.remaining S.contents result }
 {
-    serve_gated(rt, alloc, stream, &Open, 1, service)
+    serve_with_hooks(rt, alloc, stream, &NoHooks, 1, service)
 }
 
 /// `serve_one`, with what is told of the connection of that number.
-pub fn serve_gated<R: Wait, S: Read + Write + Drop, G: Gate>(
+pub fn serve_with_hooks<R: Wait, S: Read + Write + Drop, G: Gate>(
     rt: &R,
     alloc: Global,
     stream: S,
@@ -50,12 +50,12 @@ pub fn serve_gated<R: Wait, S: Read + Write + Drop, G: Gate>(
     match accept(alloc, stream) {
         Ok(socket) => {
             let mut socket = socket;
-            let visit = Visit {
+            let peer_speaker = PeerSpeaker {
                 peer: Peer::new(alloc),
                 service,
                 scratch: Scratch::new(alloc),
             };
-            talk(rt, &mut socket, visit, gate, connection)
+            talk(rt, &mut socket, peer_speaker, gate, connection)
         }
         Err(fault) => ServeEnd {
             answered: 0,

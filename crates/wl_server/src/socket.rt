@@ -1,4 +1,4 @@
-//! A WebSocket as a link.
+//! A WebSocket as a transport.
 
 ghost use Rattle.std.specs.Prelude.{◌≡◌, ◌≤◌, ◌⊎◌, IfSome, IfNone, IfOk, IfErr};
 ghost use Rattle.tungstenite.specs.Content.{text, binary};
@@ -8,7 +8,7 @@ ghost use Rattle.wl_server.specs.Serving.{Begins};
 ghost use Rattle.wl_server.specs.declared.fault.ServeFault.TheVariants.{Handshake, Memory};
 
 use crate::ServeFault;
-use crate::link::{Data, Link, Sending};
+use crate::transport::{Data, Sending, Transport};
 use std::alloc::Global;
 use std::io;
 use std::io::{ErrorKind, Read, Write};
@@ -28,23 +28,23 @@ const UNREAD: u32 = 1_024;
 /// A stream, whose writes go nowhere once its peer has left: else the WebSocket would send before each read what it
 /// couldn't send.
 #[derive(Drop)]
-struct Line<S> {
+struct PeerStream<S> {
     stream: S,
     is_left: bool,
 }
 
-impl<S: Read> Read for Line<S> {
-    ghost remaining = { λ line. S.remaining line.stream };
+impl<S: Read> Read for PeerStream<S> {
+    ghost remaining = { λ peer_stream. S.remaining peer_stream.stream };
 
     fn read(&mut self, buf: &mut [u8]) -> io::Result<usize> {
         self.stream.read(buf)
     }
 }
 
-impl<S: Write> Write for Line<S> {
+impl<S: Write> Write for PeerStream<S> {
     ghost use Rattle.std.specs.Prelude.{None, if◌then◌else◌};
 
-    ghost contents = { λ line. if line.is_left then None else S.contents line.stream };
+    ghost contents = { λ peer_stream. if peer_stream.is_left then None else S.contents peer_stream.stream };
 
     fn write(&mut self, buf: &[u8]) -> io::Result<usize> {
         if self.is_left {
@@ -65,7 +65,7 @@ impl<S: Write> Write for Line<S> {
 #[derive(Drop)]
 pub struct Socket<S> {
     alloc: Global,
-    inner: WebSocket<Line<S>, NoMask>,
+    inner: WebSocket<PeerStream<S>, NoMask>,
     // The peer sent a close frame. Whatever fails from then on is no fault.
     closing: bool,
 }
@@ -75,11 +75,11 @@ pub fn accept<S: Read + Write + Drop>(alloc: Global, stream: S) -> Result<Socket
     ensures begins { IfOk result (λ socket. Begins socket.inner) }
     ensures fault { IfErr result (λ fault. (fault ≡ Handshake) ⊎ (fault ≡ Memory)) }
 {
-    let line = Line {
+    let peer_stream = PeerStream {
         stream,
         is_left: false,
     };
-    match tungstenite::accept(alloc, line) {
+    match tungstenite::accept(alloc, peer_stream) {
         Ok(accepted) => {
             let mut inner = accepted;
             inner.set_config(
@@ -131,7 +131,7 @@ fn has_left(error: &Error) -> bool {
 }
 
 impl<S: Read + Write + Drop> Socket<S> {
-    /// Whether a peer that has left sent a close frame, among what it sent last. The messages before it are let go.
+    /// Whether a peer that has left sent a close frame, among what it sent last. The messages before it are dropped.
     fn has_closed(&mut self) -> bool {
         self.inner.get_mut().is_left = true;
         for _ in 0..UNREAD {
@@ -145,16 +145,16 @@ impl<S: Read + Write + Drop> Socket<S> {
     }
 }
 
-impl<S: Read + Write + Drop> Link for Socket<S> {
+impl<S: Read + Write + Drop> Transport for Socket<S> {
     ghost use Rattle.std.specs.Prelude.{None, if◌then◌else◌};
     ghost use Rattle.tungstenite.specs.Content.{text};
     ghost use Rattle.wl_server.specs.Sockets.{Hears, Sends};
 
-    ghost hears = { λ old message new. Hears (λ line. S.remaining line.stream) old.inner message new.inner };
+    ghost hears = { λ old message new. Hears (λ peer_stream. S.remaining peer_stream.stream) old.inner message new.inner };
 
     ghost closes = { λ old new. Unit {0} };
 
-    ghost says = { λ old words new. Sends (λ line. if line.is_left then None else S.contents line.stream) old.inner (text words) new.inner };
+    ghost says = { λ old words new. Sends (λ peer_stream. if peer_stream.is_left then None else S.contents peer_stream.stream) old.inner (text words) new.inner };
 
     ghost fails = { λ old fault new. Unit {0} };
 

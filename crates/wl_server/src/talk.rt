@@ -2,7 +2,7 @@
 
 ghost use Rattle.wl_server.specs.Talks.{Turns, Talked};
 
-use crate::link::{Link, Sending, Speaker};
+use crate::transport::{Sending, Speaker, Transport};
 use crate::{ServeEnd, ServeFault};
 use std::sync::Wait;
 use wl_types::Memory;
@@ -26,10 +26,14 @@ pub enum Turn<P> {
 }
 
 /// Takes a message and sends its reply.
-pub fn take_turn<R: Wait, L: Link, P: Speaker>(rt: &R, link: &mut L, speaker: P) -> Turn<P>
-    ensures { Turns L.hears L.closes L.says L.fails P.answers (link.old, speaker) result link.new }
+pub fn take_turn<R: Wait, L: Transport, P: Speaker>(
+    rt: &R,
+    transport: &mut L,
+    speaker: P,
+) -> Turn<P>
+    ensures { Turns L.hears L.closes L.says L.fails P.answers (transport.old, speaker) result transport.new }
 {
-    let data = match link.receive(rt) {
+    let data = match transport.receive(rt) {
         Ok(Some(data)) => data,
         Ok(None) => {
             speaker.end(rt);
@@ -42,7 +46,7 @@ pub fn take_turn<R: Wait, L: Link, P: Speaker>(rt: &R, link: &mut L, speaker: P)
     };
     match speaker.answer(rt, data.bytes()) {
         Err(Memory) => Turn::Ended(Some(ServeFault::Memory)),
-        Ok((next, text)) => match link.send(text.as_str()) {
+        Ok((next, text)) => match transport.send(text.as_str()) {
             Ok(Sending::Sent) => Turn::Went(next),
             Ok(Sending::Closed) => {
                 next.end(rt);
@@ -58,19 +62,19 @@ pub fn take_turn<R: Wait, L: Link, P: Speaker>(rt: &R, link: &mut L, speaker: P)
 
 /// Answers the messages of a connection, each before the next is taken, until the connection ends. Then the speaker
 /// has ended too.
-pub fn talk<R: Wait, L: Link, P: Speaker, G: Gate>(
+pub fn talk<R: Wait, L: Transport, P: Speaker, G: Gate>(
     rt: &R,
-    link: &mut L,
+    transport: &mut L,
     speaker: P,
     gate: &G,
     connection: u64,
 ) -> ServeEnd
-    ensures { Talked L.hears L.closes L.says L.fails P.answers link.old speaker result link.new }
+    ensures { Talked L.hears L.closes L.says L.fails P.answers transport.old speaker result transport.new }
 {
     let mut speaker = speaker;
     let mut answered: u64 = 0;
     for _ in rt.forever() {
-        match take_turn(rt, link, speaker) {
+        match take_turn(rt, transport, speaker) {
             Turn::Ended(fault) => return ServeEnd { answered, fault },
             Turn::Went(next) => speaker = next,
         }

@@ -8,12 +8,12 @@
 //! - `relay MANNER PIECE ..`: relaying to a server over loopback, with the replies (`server::loopback`);
 //! - `relay_to HOST` and `relay_to_nobody`: relaying to what is no such server (`server::hosts`);
 //! - `serve_gated` and `serve_waiting`: what a gate is told of two connections, and whether the one goes on while the
-//!   other waits (`server::gates`);
+//!   other waits (`server::hooks`);
 //! - `serve_dropped`: a connection whose stream ends while somebody waits for its lock (`server::dropped`);
 //! - `serve_crowd COUNT` and `serve_nobody COUNT`: that many connections, or none of them (`server::crowds`).
 
 use crate::scene::Scene;
-use crate::server::{crowds, dropped, gates, hosts, loopback, streams};
+use crate::server::{crowds, dropped, hooks, hosts, loopback, streams};
 use crate::service::threads;
 use std::alloc::{AllocError, Global};
 use std::fmt::Debug;
@@ -76,8 +76,8 @@ where
         "relay" => loopback::relay_pieces(rt, alloc, service, call, came),
         "relay_to" => hosts::relay_to(rt, alloc, call, came),
         "relay_to_nobody" => hosts::relay_to_nobody(rt, alloc, came),
-        "serve_gated" => gates::serve_gated(rt, alloc, service, came),
-        "serve_waiting" => gates::serve_waiting(rt, alloc, service, came),
+        "serve_gated" => hooks::serve_gated(rt, alloc, service, came),
+        "serve_waiting" => hooks::serve_waiting(rt, alloc, service, came),
         "serve_dropped" => dropped::serve_dropped(rt, alloc, service, came),
         "serve_crowd" => crowds::serve_crowd(rt, alloc, service, call, came),
         "serve_nobody" => crowds::serve_nobody(rt, alloc, service, call, came),

@@ -19,8 +19,8 @@ use std::sync::Wait;
 use std::test::Fail;
 use wl_journal::{Entry, Sight};
 use wl_manager::{LockRow, Visitor};
-use wl_samples::{ask, key_in, origin_key};
 use wl_service::{Client, Keeping, OpenFault, Service, Ticket};
+use wl_test_support::{ask, key_in, origin_key};
 use wl_types::{Ask, Kind, Memory, Mode, Phase, Reason, Refusal, ReleaseAnswer, Text};
 
 #[derive(Drop)]
@@ -67,7 +67,7 @@ fn at<T>(items: &mut Vec<T>, place: usize) -> Option<&mut T> {
 }
 
 /// How many entries were seen, and how many locks are held.
-fn counted(seen: Result<Sight, Refusal>) -> Result<(u64, usize), Refusal> {
+fn count_sight(seen: Result<Sight, Refusal>) -> Result<(u64, usize), Refusal> {
     let sight = seen?;
     Ok((sight.seen, sight.snapshot.held.as_slice().len()))
 }
@@ -86,7 +86,7 @@ fn call_client<R: Wait>(
             show(came, Some(client.abort(rt, signal, reason(word(call, 3)))))
         }
         "set" => show(came, Some(client.set_active(rt, word(call, 2) == "active"))),
-        "query" => show(came, Some(counted(client.query(rt)))),
+        "query" => show(came, Some(count_sight(client.query(rt)))),
         _ => show(came, None::<u64>),
     }
 }

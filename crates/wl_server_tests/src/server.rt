@@ -5,8 +5,8 @@ pub mod dropped;
 mod endings;
 mod fences;
 mod frames;
-pub mod gates;
 mod growth;
+pub mod hooks;
 pub mod hosts;
 pub mod loopback;
 mod pushes;
@@ -21,9 +21,9 @@ use wl_server::Gate;
 const OPEN: &[u8] = b"{\"id\":1,\"op\":\"open\",\"url\":\"https://a.test/\"}";
 
 /// A gate that nobody stands at.
-struct NoGate;
+struct NoHooks;
 
-impl Gate for NoGate {
+impl Gate for NoHooks {
     fn enter(&self, _connection: u64) {}
 
     fn answered(&self, _connection: u64, _count: u64) {}

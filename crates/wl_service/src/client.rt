@@ -31,13 +31,13 @@ enum Side {
 
 /// A window or worker that opened: an agent of its origin's manager, or one of an opaque origin, which is refused.
 ///
-/// Each call of a managed client but `client`, `changed` and `is_rung` is its agent's, and takes its manager's lock; an
-/// opaque one takes none. A client should end by `Service::close`, or by `terminate` where its service keeps each
-/// manager: one that is dropped stays in its manager, with its locks.
+/// Each call of a managed client but `client`, `changed_requests` and `is_rung` is its agent's, and takes its manager's
+/// lock; an opaque one takes none. A client should end by `Service::close`, or by `terminate` where its service keeps
+/// each manager: one that is dropped stays in its manager, with its locks.
 #[derive(Drop)]
 pub struct Client {
     side: Side,
-    // By which its service finds its manager, if it lets go of those that have no client.
+    // By which its service finds its manager, if it drops those that have no client.
     key: Option<ManagerKey>,
 }
 
@@ -50,8 +50,8 @@ impl Model for Client {
 }
 
 impl Client {
-    /// An agent, and its manager's key where the service may let go of that.
-    pub(crate) fn managed(agent: Agent<Core, Recent>, key: Option<ManagerKey>) -> Client
+    /// An agent, and its manager's key where the service may drop that.
+    pub(crate) fn of_manager(agent: Agent<Core, Recent>, key: Option<ManagerKey>) -> Client
         ensures { result ≡ Managed agent.number }
     {
         Client {
@@ -83,11 +83,11 @@ impl Client {
     /// Puts the numbers of the requests that changed since the last such call in place of those that the list has, in
     /// no order and some more than once. Answers whether these are all: else any request may have changed. It takes no
     /// lock of the manager, and waits for nobody. An opaque client has no requests.
-    pub fn changed(&self, numbers: &mut Vec<u64>) -> bool
+    pub fn changed_requests(&self, numbers: &mut Vec<u64>) -> bool
         ensures opaque { IfOpaque self.now (λ kind active. (result ≡ true) × (numbers.new.items ≡ [])) }
     {
         match &self.side {
-            Side::Managed(agent) => agent.changed(numbers),
+            Side::Managed(agent) => agent.changed_requests(numbers),
             Side::Opaque(_) => {
                 numbers.clear();
                 true
@@ -95,7 +95,8 @@ impl Client {
         }
     }
 
-    /// Whether a request changed since `changed` was last called. A bell that the client was opened with was rung then.
+    /// Whether a request changed since `changed_requests` was last called. A bell that the client was opened with was
+    /// rung then.
     pub fn is_rung(&self) -> bool
         ensures opaque { IfOpaque self.now (λ kind active. result ≡ false) }
     {
@@ -192,11 +193,11 @@ impl Client {
     pub fn terminate<R: Wait>(self, rt: &R) -> Option<Leaving>
         ensures { is_some result ≡ is_some (number_of self) }
     {
-        self.leave(rt).0
+        self.close(rt).0
     }
 
     /// `terminate`, with the key of the manager that was left.
-    pub(crate) fn leave<R: Wait>(self, rt: &R) -> (Option<Leaving>, Option<ManagerKey>)
+    pub(crate) fn close<R: Wait>(self, rt: &R) -> (Option<Leaving>, Option<ManagerKey>)
         ensures { is_some result.0 ≡ is_some (number_of self) }
     {
         let Client { side, key } = self;

@@ -81,7 +81,7 @@ impl Directory {
     }
 
     /// The manager of the key, if it has one.
-    pub(crate) fn kept(&self, key: &ManagerKey) -> Option<&Shared>
+    pub(crate) fn find(&self, key: &ManagerKey) -> Option<&Shared>
         ensures { option_copied result ≡ kept_for self.now.managers.entries key.now }
     {
         self.managers.get(key)
@@ -94,7 +94,8 @@ impl Directory {
         self.managers.len()
     }
 
-    /// The first agent of a key that has no manager. Its manager enters last, so where something is refused none does.
+    /// The first agent of a key that has no manager. Its manager is added last, so where something is refused none
+    /// does.
     pub(crate) fn add<R: Wait>(
         &mut self,
         rt: &R,
@@ -173,7 +174,7 @@ impl Directory {
     }
 
     fn is_unused(&self, key: &ManagerKey) -> bool {
-        match self.kept(key) {
+        match self.find(key) {
             Some(manager) => Arc::strong_count(manager) == 1,
             None => false,
         }

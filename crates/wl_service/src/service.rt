@@ -139,10 +139,10 @@ impl Service {
     {
         let own = self.clients_key(&key)?;
         match self.open_agent(rt, key, kind, bell) {
-            Ok(agent) => Ok(Client::managed(agent, own)),
+            Ok(agent) => Ok(Client::of_manager(agent, own)),
             Err(fault) => {
                 // Its manager may have lost its last client meanwhile.
-                self.let_go(rt, own);
+                self.drop_if_unused(rt, own);
                 Err(fault)
             }
         }
@@ -172,7 +172,7 @@ impl Service {
         ensures { IfErr result (λ fault. (fault ≢ BadUrl) × (fault ≢ BadBucket)) }
     {
         let mut directory = self.directory.lock(rt);
-        if let Some(manager) = directory.kept(&key) {
+        if let Some(manager) = directory.find(&key) {
             let manager = Arc::try_clone(manager).map_err(|_| OpenFault::Memory)?;
             drop(directory);
             return Manager::open_heard(&manager, rt, kind, bell).map_err(fault_of);
@@ -191,13 +191,13 @@ impl Service {
     pub fn close<R: Wait>(&self, rt: &R, client: Client) -> Option<Leaving>
         ensures { is_some result ≡ is_some (number_of client) }
     {
-        let (leaving, key) = client.leave(rt);
-        self.let_go(rt, key);
+        let (leaving, key) = client.close(rt);
+        self.drop_if_unused(rt, key);
         leaving
     }
 
     /// Drops the key's manager, if nobody uses it.
-    fn let_go<R: Wait>(&self, rt: &R, key: Option<ManagerKey>) {
+    fn drop_if_unused<R: Wait>(&self, rt: &R, key: Option<ManagerKey>) {
         if let Some(key) = key {
             // It is dropped once the directory's lock is free.
             let unused = self.directory.lock(rt).take_unused(&key);
@@ -206,7 +206,7 @@ impl Service {
     }
 
     /// The same, unless the service keeps each manager.
-    pub(crate) fn let_go_of<R: Wait>(&self, rt: &R, key: &ManagerKey) {
+    pub(crate) fn drop_unused<R: Wait>(&self, rt: &R, key: &ManagerKey) {
         if let Keeping::Used { .. } = self.keeping {
             let unused = self.directory.lock(rt).take_unused(key);
             drop(unused);
@@ -229,7 +229,7 @@ impl Service {
     ) -> Result<bool, Memory>
         ensures { result ≢ Ok true → visitor.new ≡ visitor.old }
     {
-        let manager = match self.directory.lock(rt).kept(key) {
+        let manager = match self.directory.lock(rt).find(key) {
             Some(manager) => Arc::try_clone(manager)?,
             None => return Ok(false),
         };

@@ -21,7 +21,7 @@ const MOST_OF_ONE: usize = 1_000;
 const MOST_ROWS: usize = 10_000;
 
 /// How much room these rows take up: none where an origin is named.
-fn spent(only: Option<&OriginKey>, rows: usize) -> usize
+fn room_of(only: Option<&OriginKey>, rows: usize) -> usize
     ensures counted { option_copied only.entry ≡ None → result ≡ rows }
     ensures few { result ≤ rows }
 {
@@ -36,7 +36,7 @@ impl Service {
     /// of each, and 10,000 in all unless an origin is named. `now` is a time of the service's clock.
     ///
     /// Each manager is looked at under its own lock, while the directory's is free. One that loses its last client
-    /// meanwhile is let go of afterwards.
+    /// meanwhile is dropped afterwards.
     pub fn list_locks<R: Wait>(
         &self,
         rt: &R,
@@ -57,9 +57,9 @@ impl Service {
             };
             let listed = manager.list_locks(rt, room.min(MOST_OF_ONE), now);
             drop(manager);
-            self.let_go_of(rt, &key);
+            self.drop_unused(rt, &key);
             let locks = listed?;
-            let used = spent(only, locks.held.len() + locks.pending.len());
+            let used = room_of(only, locks.held.len() + locks.pending.len());
             room -= used;
             after = Some(key.copy(self.alloc)?);
             managers.push(ManagerLocks { key, locks })?;

@@ -8,11 +8,11 @@ use Rattle.wl_types.specs.declared.phases.Phase.TheVariants.{Pending, Granted, T
 use Rattle.wl_types.specs.Phases.{is_end}
 use Rattle.wl_codec.specs.declared.reply.Notice.{Notice}
 use Rattle.wl_codec.specs.declared.reply.Outcome.{Outcome}
-use Rattle.wl_session.specs.Told.{Look, IsFrom, is_live, put, phase_in, phase_told, is_new, is_news, notice, news}
-use Rattle.wl_session.specs.Entries.{Entry, Stands, told_of, found_of, told_before, looks_of, entry_notices, entries_left}
+use Rattle.wl_session.specs.LastReported.{RequestPhase, IsFrom, is_live, put, phase_in, reported_phase, is_new, is_notice_due, notice, due_notices}
+use Rattle.wl_session.specs.Entries.{Entry, Stands, last_reported_of, found_of, last_reported_before, observed_of, entry_notices, entries_left}
 use Rattle.wl_session.specs.Laws.{NoticesAreByRequest, LeftIsByRequest}
 use Rattle.wl_session.proofs.Order.{from_lower, put_over, put_first, fold_behind}
-use Rattle.wl_session.proofs.News.{is_due}
+use Rattle.wl_session.proofs.DueNotices.{is_due}
 
 -- some of the requests, each with a phase, are by number as all are
 kept_from : (b : Bool) (phase : Entry → Phase) (e : Entry) (es : List Entry) (low : ℕ) → low ≤ e.request → IsFrom (e.request + 1) (map (λ x. (x.request, phase x)) es)
@@ -20,44 +20,44 @@ kept_from : (b : Bool) (phase : Entry → Phase) (e : Entry) (es : List Entry) (
 kept_from true phase e es low le h = (le, h)
 kept_from false phase e es low le h = from_lower _ low (e.request + 1) (omega (arith, le)) h
 
-part_from : (p : Entry → Bool) (phase : Entry → Phase) (es : List Entry) (low : ℕ) → IsFrom low (map told_of es) → IsFrom low (map (λ e. (e.request, phase e)) (filter p es))
+part_from : (p : Entry → Bool) (phase : Entry → Phase) (es : List Entry) (low : ℕ) → IsFrom low (map last_reported_of es) → IsFrom low (map (λ e. (e.request, phase e)) (filter p es))
 part_from p phase [] low h = tt
 part_from p phase (e ∷ es) low h = kept_from (p e) phase e (filter p es) low h.0 (part_from p phase es (e.request + 1) h.1)
 
 -- ---- the list that is left
 
 -- one request more, which is new or was told, and is named or left out
-one_more : (is_new' is_named : Bool) (e : Entry) (listed named : List Entry) (rest : List Look)
-    → (is_new' ≡ true → is_named ≡ true) → (is_named ≡ false → e.found ≡ e.told)
-    → IsFrom (e.request + 1) (map told_of listed) → IsFrom (e.request + 1) (map found_of named)
-    → fold put (map told_of listed) (map found_of named) ≡ rest
-    → fold put (map told_of (cond (not is_new') (e ∷ listed) listed)) (map found_of (cond is_named (e ∷ named) named)) ≡ found_of e ∷ rest
+one_more : (is_new' is_named : Bool) (e : Entry) (listed named : List Entry) (rest : List RequestPhase)
+    → (is_new' ≡ true → is_named ≡ true) → (is_named ≡ false → e.found ≡ e.last_reported)
+    → IsFrom (e.request + 1) (map last_reported_of listed) → IsFrom (e.request + 1) (map found_of named)
+    → fold put (map last_reported_of listed) (map found_of named) ≡ rest
+    → fold put (map last_reported_of (cond (not is_new') (e ∷ listed) listed)) (map found_of (cond is_named (e ∷ named) named)) ≡ found_of e ∷ rest
 one_more true true e listed named rest n s t l is =
-    ap (λ (now : List Look). fold put now (map found_of named)) (put_first (map told_of listed) (found_of e) t)
-    ∙ fold_behind (found_of e) (map told_of listed) (map found_of named) l
-    ∙ ap (λ (ls : List Look). found_of e ∷ ls) is
+    ap (λ (now : List RequestPhase). fold put now (map found_of named)) (put_first (map last_reported_of listed) (found_of e) t)
+    ∙ fold_behind (found_of e) (map last_reported_of listed) (map found_of named) l
+    ∙ ap (λ (ls : List RequestPhase). found_of e ∷ ls) is
 one_more false true e listed named rest n s t l is =
-    ap (λ (now : List Look). fold put now (map found_of named)) (put_over (told_of e) (map told_of listed) (found_of e) refl t)
-    ∙ fold_behind (found_of e) (map told_of listed) (map found_of named) l
-    ∙ ap (λ (ls : List Look). found_of e ∷ ls) is
+    ap (λ (now : List RequestPhase). fold put now (map found_of named)) (put_over (last_reported_of e) (map last_reported_of listed) (found_of e) refl t)
+    ∙ fold_behind (found_of e) (map last_reported_of listed) (map found_of named) l
+    ∙ ap (λ (ls : List RequestPhase). found_of e ∷ ls) is
 one_more true false e listed named rest n s t l is = absurd (let wrong = n refl in cc)
 one_more false false e listed named rest n s t l is =
-    fold_behind (told_of e) (map told_of listed) (map found_of named) l
-    ∙ ap (λ (ls : List Look). told_of e ∷ ls) is
-    ∙ ap (λ (p : Phase). (let first : Look = (e.request, p) in first) ∷ rest) (sym (s refl))
+    fold_behind (last_reported_of e) (map last_reported_of listed) (map found_of named) l
+    ∙ ap (λ (ls : List RequestPhase). last_reported_of e ∷ ls) is
+    ∙ ap (λ (p : Phase). (let first : RequestPhase = (e.request, p) in first) ∷ rest) (sym (s refl))
 
 -- each request stands there with the phase found
-all_found : (o : Outcome) (es : List Entry) (low : ℕ) → IsFrom low (map told_of es) → AllByRecursion (Stands o) es → fold put (told_before o es) (looks_of es) ≡ map found_of es
+all_found : (o : Outcome) (es : List Entry) (low : ℕ) → IsFrom low (map last_reported_of es) → AllByRecursion (Stands o) es → fold put (last_reported_before o es) (observed_of es) ≡ map found_of es
 all_found o [] low h s = refl
 all_found o (e ∷ es) low h s =
     one_more (is_new o e.request) e.is_named e (filter (λ x. not (is_new o x.request)) es) (filter (λ x. x.is_named) es) (map found_of es)
     s.0.new_is_named s.0.left_out_is_same
-    (part_from (λ x. not (is_new o x.request)) (λ x. x.told) es (e.request + 1) h.1) (part_from (λ x. x.is_named) (λ x. x.found) es (e.request + 1) h.1)
+    (part_from (λ x. not (is_new o x.request)) (λ x. x.last_reported) es (e.request + 1) h.1) (part_from (λ x. x.is_named) (λ x. x.found) es (e.request + 1) h.1)
     (all_found o es (e.request + 1) h.1 s.1)
 
-left_at : (b : Bool) (e : Entry) (looks : List Look) (es : List Entry) → looks ≡ map found_of es → cond b (found_of e ∷ looks) looks ≡ map found_of (cond b (e ∷ es) es)
-left_at true e looks es h = ap (λ (ls : List Look). found_of e ∷ ls) h
-left_at false e looks es h = h
+left_at : (b : Bool) (e : Entry) (observed : List RequestPhase) (es : List Entry) → observed ≡ map found_of es → cond b (found_of e ∷ observed) observed ≡ map found_of (cond b (e ∷ es) es)
+left_at true e observed es h = ap (λ (ls : List RequestPhase). found_of e ∷ ls) h
+left_at false e observed es h = h
 
 live_found : (es : List Entry) → filter is_live (map found_of es) ≡ entries_left es
 live_found [] = refl
@@ -68,64 +68,64 @@ left_is_by_request o es h = ap (filter is_live) (all_found o es 0 h.0 (recursion
 
 -- ---- notices
 
-abbrev IsToldIn : Outcome → List Look → Entry → Type 0
-IsToldIn o told e = phase_told o told e.request ≡ e.told
+abbrev IsReportedIn : Outcome → List RequestPhase → Entry → Type 0
+IsReportedIn o last_reported e = reported_phase o last_reported e.request ≡ e.last_reported
 
 -- a request more, with a lower number, plays no part
-push_told : (o : Outcome) (l : Look) (told : List Look) (es : List Entry) → IsFrom (l.0 + 1) (map told_of es) → AllByRecursion (IsToldIn o told) es → AllByRecursion (IsToldIn o (l ∷ told)) es
-push_told o l told [] above h = tt
-push_told o l told (e ∷ es) above h =
+push_reported : (o : Outcome) (l : RequestPhase) (last_reported : List RequestPhase) (es : List Entry) → IsFrom (l.0 + 1) (map last_reported_of es) → AllByRecursion (IsReportedIn o last_reported) es → AllByRecursion (IsReportedIn o (l ∷ last_reported)) es
+push_reported o l last_reported [] above h = tt
+push_reported o l last_reported (e ∷ es) above h =
     let other : eqb l.0 e.request ≡ false = ne_eqb l.0 e.request (λ q. omega (arith, above.0)) in
-    (rw other h.0, push_told o l told es (from_lower _ (l.0 + 1) (e.request + 1) (omega (arith, above.0)) above.1) h.1)
+    (rw other h.0, push_reported o l last_reported es (from_lower _ (l.0 + 1) (e.request + 1) (omega (arith, above.0)) above.1) h.1)
 
-first_told : (b : Bool) (e : Entry) (es : List Entry) → (b ≡ true → e.told ≡ Pending) → cond b Pending (phase_in (map told_of (cond (not b) (e ∷ es) es)) e.request) ≡ e.told
-first_told true e es h = sym (h refl)
-first_told false e es h = rw (eq-eqb e.request e.request refl) refl
+first_reported : (b : Bool) (e : Entry) (es : List Entry) → (b ≡ true → e.last_reported ≡ Pending) → cond b Pending (phase_in (map last_reported_of (cond (not b) (e ∷ es) es)) e.request) ≡ e.last_reported
+first_reported true e es h = sym (h refl)
+first_reported false e es h = rw (eq-eqb e.request e.request refl) refl
 
-rest_told : (b : Bool) (o : Outcome) (e : Entry) (listed es : List Entry) → IsFrom (e.request + 1) (map told_of es) → AllByRecursion (IsToldIn o (map told_of listed)) es
-    → AllByRecursion (IsToldIn o (map told_of (cond (not b) (e ∷ listed) listed))) es
-rest_told true o e listed es above h = h
-rest_told false o e listed es above h = push_told o (told_of e) (map told_of listed) es above h
+rest_reported : (b : Bool) (o : Outcome) (e : Entry) (listed es : List Entry) → IsFrom (e.request + 1) (map last_reported_of es) → AllByRecursion (IsReportedIn o (map last_reported_of listed)) es
+    → AllByRecursion (IsReportedIn o (map last_reported_of (cond (not b) (e ∷ listed) listed))) es
+rest_reported true o e listed es above h = h
+rest_reported false o e listed es above h = push_reported o (last_reported_of e) (map last_reported_of listed) es above h
 
-each_told : (o : Outcome) (es : List Entry) (low : ℕ) → IsFrom low (map told_of es) → AllByRecursion (Stands o) es → AllByRecursion (IsToldIn o (told_before o es)) es
-each_told o [] low h s = tt
-each_told o (e ∷ es) low h s = (
-  first_told (is_new o e.request) e (filter (λ x. not (is_new o x.request)) es) s.0.new_is_pending,
-  rest_told (is_new o e.request) o e (filter (λ x. not (is_new o x.request)) es) es h.1 (each_told o es (e.request + 1) h.1 s.1),
+each_reported : (o : Outcome) (es : List Entry) (low : ℕ) → IsFrom low (map last_reported_of es) → AllByRecursion (Stands o) es → AllByRecursion (IsReportedIn o (last_reported_before o es)) es
+each_reported o [] low h s = tt
+each_reported o (e ∷ es) low h s = (
+  first_reported (is_new o e.request) e (filter (λ x. not (is_new o x.request)) es) s.0.new_is_pending,
+  rest_reported (is_new o e.request) o e (filter (λ x. not (is_new o x.request)) es) es h.1 (each_reported o es (e.request + 1) h.1 s.1),
 )
 
-no_news : (p : Phase) → is_end p ≡ false → is_news p p ≡ false
-no_news Pending live = refl
-no_news Granted live = refl
-no_news Taken live = refl
-no_news Unavailable live = absurd cc
-no_news (Aborted reason) live = absurd cc
-no_news Released live = refl
-no_news Stolen live = absurd cc
+no_notice : (p : Phase) → is_end p ≡ false → is_notice_due p p ≡ false
+no_notice Pending live = refl
+no_notice Granted live = refl
+no_notice Taken live = refl
+no_notice Unavailable live = absurd cc
+no_notice (Aborted reason) live = absurd cc
+no_notice Released live = refl
+no_notice Stolen live = absurd cc
 
-same_is_no_news : (told found : Phase) → is_end told ≡ false → found ≡ told → is_news told found ≡ false
-same_is_no_news told found live same = rw same (no_news told live)
+same_is_no_notice : (last_reported found : Phase) → is_end last_reported ≡ false → found ≡ last_reported → is_notice_due last_reported found ≡ false
+same_is_no_notice last_reported found live same = rw same (no_notice last_reported live)
 
 abbrev entry_notice : Entry → Notice
 entry_notice e = record { request = e.request; phase = e.found }
 
-noticed : (b : Bool) (e : Entry) (looks : List Look) (es : List Entry) → map notice looks ≡ map entry_notice es
-    → map notice (cond b (found_of e ∷ looks) looks) ≡ map entry_notice (cond b (e ∷ es) es)
-noticed true e looks es h = ap (λ (ns : List Notice). entry_notice e ∷ ns) h
-noticed false e looks es h = h
+noticed : (b : Bool) (e : Entry) (observed : List RequestPhase) (es : List Entry) → map notice observed ≡ map entry_notice es
+    → map notice (cond b (found_of e ∷ observed) observed) ≡ map entry_notice (cond b (e ∷ es) es)
+noticed true e observed es h = ap (λ (ns : List Notice). entry_notice e ∷ ns) h
+noticed false e observed es h = h
 
-one_noticed : (is_named : Bool) (o : Outcome) (told : List Look) (e : Entry) (named es : List Entry) → IsToldIn o told e → Stands o e → e.is_named ≡ is_named
-    → news o told (map found_of named) ≡ map entry_notice es
-    → news o told (map found_of (cond is_named (e ∷ named) named)) ≡ map entry_notice (cond (is_news e.told e.found) (e ∷ es) es)
-one_noticed true o told e named es t s is h = rw t (noticed (is_news e.told e.found) e (filter (is_due o told) (map found_of named)) es h)
-one_noticed false o told e named es t s is h = rw (same_is_no_news e.told e.found s.live (s.left_out_is_same is)) h
+one_noticed : (is_named : Bool) (o : Outcome) (last_reported : List RequestPhase) (e : Entry) (named es : List Entry) → IsReportedIn o last_reported e → Stands o e → e.is_named ≡ is_named
+    → due_notices o last_reported (map found_of named) ≡ map entry_notice es
+    → due_notices o last_reported (map found_of (cond is_named (e ∷ named) named)) ≡ map entry_notice (cond (is_notice_due e.last_reported e.found) (e ∷ es) es)
+one_noticed true o last_reported e named es t s is h = rw t (noticed (is_notice_due e.last_reported e.found) e (filter (is_due o last_reported) (map found_of named)) es h)
+one_noticed false o last_reported e named es t s is h = rw (same_is_no_notice e.last_reported e.found s.live (s.left_out_is_same is)) h
 
-notices_by_request : (o : Outcome) (told : List Look) (es : List Entry) → AllByRecursion (IsToldIn o told) es → AllByRecursion (Stands o) es → news o told (looks_of es) ≡ entry_notices es
-notices_by_request o told [] t s = refl
-notices_by_request o told (e ∷ es) t s =
-    one_noticed e.is_named o told e (filter (λ x. x.is_named) es) (filter (λ x. is_news x.told x.found) es) t.0 s.0 refl (notices_by_request o told es t.1 s.1)
+notices_by_request : (o : Outcome) (last_reported : List RequestPhase) (es : List Entry) → AllByRecursion (IsReportedIn o last_reported) es → AllByRecursion (Stands o) es → due_notices o last_reported (observed_of es) ≡ entry_notices es
+notices_by_request o last_reported [] t s = refl
+notices_by_request o last_reported (e ∷ es) t s =
+    one_noticed e.is_named o last_reported e (filter (λ x. x.is_named) es) (filter (λ x. is_notice_due x.last_reported x.found) es) t.0 s.0 refl (notices_by_request o last_reported es t.1 s.1)
 
 pub notices_are_by_request : NoticesAreByRequest
 notices_are_by_request o es h =
     let s = recursion_from_All _ _ h.1 in
-    notices_by_request o (told_before o es) es (each_told o es 0 h.0 s) s
+    notices_by_request o (last_reported_before o es) es (each_reported o es 0 h.0 s) s

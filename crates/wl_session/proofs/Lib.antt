@@ -2,6 +2,6 @@ pub mod Order
 pub mod Place
 pub mod Edits
 pub mod Fitting
-pub mod News
+pub mod DueNotices
 pub mod ByRequest
 pub mod Lookup

@@ -1,15 +1,15 @@
--- Lists by number as tables from numbers to phases, and looks that leave released requests out.
+-- Lists by number as tables from numbers to phases, and observations that leave released requests out.
 use Rattle.std.proofs.Common.{◌≡◌, ◌≢◌, ℕ, ◌+◌, ◌<◌, List, [], ◌∷◌, Bool, true, false, cond, Option, Some, None, map, filter, fold, eqb, refl, sym, ap, subst, inl, inr, ◌∙◌, arith}
 use Rattle.std.proofs.lemmas.Bool.{ne_eqb, eq-eqb, cases_eq, cases_lt}
 use Rattle.wl_types.specs.declared.phases.Phase.{Phase}
 use Rattle.wl_types.specs.declared.phases.Phase.TheVariants.{Released}
-use Rattle.wl_session.specs.Told.{Look, IsFrom, IsByNumber, is_live, put, released, completed, notice}
-use Rattle.wl_session.specs.Laws.{LooksAreLeft, LooksAreNews}
+use Rattle.wl_session.specs.LastReported.{RequestPhase, IsFrom, IsByNumber, is_live, put, as_released, with_released, notice}
+use Rattle.wl_session.specs.Laws.{ObservedAreLeft, ObservedDecideNotices}
 use Rattle.wl_session.proofs.Order.{from_filter, from_released, put_behind, put_over, put_ahead, by_number_put, by_number_fold}
-use Rattle.wl_session.proofs.News.{is_due}
+use Rattle.wl_session.proofs.DueNotices.{is_due}
 
 -- the phase of a number, where it stands in the list
-abbrev found_in : List Look → ℕ → Option Phase
+abbrev found_in : List RequestPhase → ℕ → Option Phase
 found_in [] n = None
 found_in (l ∷ ls) n = cond (eqb l.0 n) (Some l.1) (found_in ls n)
 
@@ -17,19 +17,19 @@ abbrev or_else : Option Phase → Option Phase → Option Phase
 or_else None other = other
 or_else (Some p) other = Some p
 
-first_found : (l : Look) (ls : List Look) → found_in (l ∷ ls) l.0 ≡ Some l.1
+first_found : (l : RequestPhase) (ls : List RequestPhase) → found_in (l ∷ ls) l.0 ≡ Some l.1
 first_found l ls = rw (eq-eqb l.0 l.0 refl) refl
 
-later_found : (l : Look) (ls : List Look) (n : ℕ) → l.0 ≢ n → found_in (l ∷ ls) n ≡ found_in ls n
+later_found : (l : RequestPhase) (ls : List RequestPhase) (n : ℕ) → l.0 ≢ n → found_in (l ∷ ls) n ≡ found_in ls n
 later_found l ls n other = rw (ne_eqb l.0 n other) refl
 
 -- nothing below the first
-absent : (ls : List Look) (low n : ℕ) → n < low → IsFrom low ls → found_in ls n ≡ None
+absent : (ls : List RequestPhase) (low n : ℕ) → n < low → IsFrom low ls → found_in ls n ≡ None
 absent [] low n lt h = refl
 absent (l ∷ ls) low n lt h = later_found l ls n (λ e. omega (arith, h.0)) ∙ absent ls (l.0 + 1) n (omega (arith, h.0)) h.1
 
 -- lists by number with the same phases are the same
-same_if_found : (xs ys : List Look) (low : ℕ) → IsFrom low xs → IsFrom low ys → ((n : ℕ) → found_in xs n ≡ found_in ys n) → xs ≡ ys
+same_if_found : (xs ys : List RequestPhase) (low : ℕ) → IsFrom low xs → IsFrom low ys → ((n : ℕ) → found_in xs n ≡ found_in ys n) → xs ≡ ys
 same_if_found [] [] low hx hy same = refl
 same_if_found [] (y ∷ ys) low hx hy same = absurd (let wrong = same y.0 ∙ first_found y ys in cc)
 same_if_found (x ∷ xs) [] low hx hy same = absurd (let wrong = sym (first_found x xs) ∙ same x.0 in cc)
@@ -40,12 +40,12 @@ same_if_found (x ∷ xs) (y ∷ ys) low hx hy same = elim (cases_lt x.0 y.0) [
     | inr le ↦
         let number : x.0 ≡ y.0 = omega arith in
         let phase : Some x.1 ≡ Some y.1 = sym (first_found x xs) ∙ same x.0 ∙ ap (found_in (y ∷ ys)) number ∙ first_found y ys in
-        let first : (let l : Look = (x.0, x.1) in l) ≡ (y.0, y.1) = cc in
+        let first : (let l : RequestPhase = (x.0, x.1) in l) ≡ (y.0, y.1) = cc in
         let rest : xs ≡ ys = same_if_found xs ys (x.0 + 1) hx.1 (subst (λ k. IsFrom (k + 1) ys) (sym number) hy.1) (later_same x y xs ys hx.1 hy.1 number same) in
         cc
   ]
 ] where
-  later_same : (x y : Look) (xs ys : List Look) → IsFrom (x.0 + 1) xs → IsFrom (y.0 + 1) ys → x.0 ≡ y.0 → ((n : ℕ) → found_in (x ∷ xs) n ≡ found_in (y ∷ ys) n) → (n : ℕ) → found_in xs n ≡ found_in ys n
+  later_same : (x y : RequestPhase) (xs ys : List RequestPhase) → IsFrom (x.0 + 1) xs → IsFrom (y.0 + 1) ys → x.0 ≡ y.0 → ((n : ℕ) → found_in (x ∷ xs) n ≡ found_in (y ∷ ys) n) → (n : ℕ) → found_in xs n ≡ found_in ys n
   later_same x y xs ys hx hy number same n = elim (cases_lt x.0 n) [
     | inl lt ↦ sym (later_found x xs n (λ e. omega arith)) ∙ same n ∙ later_found y ys n (λ e. omega arith)
     | inr ge ↦ absent xs (x.0 + 1) n (omega arith) hx ∙ sym (absent ys (y.0 + 1) n (omega arith) hy)
@@ -54,20 +54,20 @@ same_if_found (x ∷ xs) (y ∷ ys) low hx hy same = elim (cases_lt x.0 y.0) [
 -- ---- what is found after an edit
 
 -- what passes a test
-abbrev passed : (Look → Bool) → ℕ → Option Phase → Option Phase
+abbrev passed : (RequestPhase → Bool) → ℕ → Option Phase → Option Phase
 passed p n None = None
 passed p n (Some found) = cond (p (n, found)) (Some found) None
 
 -- the first look of a list, where the test is known
-in_filter_first : (p : Look → Bool) (b : Bool) (l : Look) (ls : List Look) → IsFrom (l.0 + 1) ls → p l ≡ b → found_in (cond b (l ∷ ls) ls) l.0 ≡ cond b (Some l.1) None
+in_filter_first : (p : RequestPhase → Bool) (b : Bool) (l : RequestPhase) (ls : List RequestPhase) → IsFrom (l.0 + 1) ls → p l ≡ b → found_in (cond b (l ∷ ls) ls) l.0 ≡ cond b (Some l.1) None
 in_filter_first p true l ls h is = first_found l ls
 in_filter_first p false l ls h is = absent ls (l.0 + 1) l.0 (omega arith) h
 
-in_filter_later : (b : Bool) (l : Look) (ls : List Look) (n : ℕ) → l.0 ≢ n → found_in (cond b (l ∷ ls) ls) n ≡ found_in ls n
+in_filter_later : (b : Bool) (l : RequestPhase) (ls : List RequestPhase) (n : ℕ) → l.0 ≢ n → found_in (cond b (l ∷ ls) ls) n ≡ found_in ls n
 in_filter_later true l ls n other = later_found l ls n other
 in_filter_later false l ls n other = refl
 
-in_filter : (p : Look → Bool) (ls : List Look) (low n : ℕ) → IsFrom low ls → found_in (filter p ls) n ≡ passed p n (found_in ls n)
+in_filter : (p : RequestPhase → Bool) (ls : List RequestPhase) (low n : ℕ) → IsFrom low ls → found_in (filter p ls) n ≡ passed p n (found_in ls n)
 in_filter p [] low n h = refl
 in_filter p (l ∷ ls) low n h = elim (cases_eq l.0 n) [
   | inl same ↦ subst (λ k. found_in (filter p (l ∷ ls)) k ≡ passed p k (found_in (l ∷ ls) k)) same
@@ -75,28 +75,28 @@ in_filter p (l ∷ ls) low n h = elim (cases_eq l.0 n) [
   | inr other ↦ in_filter_later (p l) l (filter p ls) n other ∙ in_filter p ls (l.0 + 1) n h.1 ∙ sym (ap (passed p n) (later_found l ls n other))
 ]
 
--- a look is found first
-in_put_same : (xs : List Look) (l : Look) (low : ℕ) → IsFrom low xs → found_in (put xs l) l.0 ≡ Some l.1
+-- an observation is found first
+in_put_same : (xs : List RequestPhase) (l : RequestPhase) (low : ℕ) → IsFrom low xs → found_in (put xs l) l.0 ≡ Some l.1
 in_put_same [] l low h = first_found l []
 in_put_same (x ∷ xs) l low h = elim (cases_lt x.0 l.0) [
-  | inl lt ↦ ap (λ (ls : List Look). found_in ls l.0) (put_behind x xs l lt) ∙ later_found x (put xs l) l.0 (λ e. omega arith) ∙ in_put_same xs l (x.0 + 1) h.1
+  | inl lt ↦ ap (λ (ls : List RequestPhase). found_in ls l.0) (put_behind x xs l lt) ∙ later_found x (put xs l) l.0 (λ e. omega arith) ∙ in_put_same xs l (x.0 + 1) h.1
   | inr ge ↦ elim (cases_lt l.0 x.0) [
-    | inl lt ↦ ap (λ (ls : List Look). found_in ls l.0) (put_ahead x xs l lt h.1) ∙ first_found l (x ∷ xs)
-    | inr le ↦ ap (λ (ls : List Look). found_in ls l.0) (put_over x xs l (omega arith) h.1) ∙ first_found l xs
+    | inl lt ↦ ap (λ (ls : List RequestPhase). found_in ls l.0) (put_ahead x xs l lt h.1) ∙ first_found l (x ∷ xs)
+    | inr le ↦ ap (λ (ls : List RequestPhase). found_in ls l.0) (put_over x xs l (omega arith) h.1) ∙ first_found l xs
   ]
 ]
 
-in_put_other : (xs : List Look) (l : Look) (low n : ℕ) → l.0 ≢ n → IsFrom low xs → found_in (put xs l) n ≡ found_in xs n
+in_put_other : (xs : List RequestPhase) (l : RequestPhase) (low n : ℕ) → l.0 ≢ n → IsFrom low xs → found_in (put xs l) n ≡ found_in xs n
 in_put_other [] l low n other h = later_found l [] n other
 in_put_other (x ∷ xs) l low n other h = elim (cases_lt x.0 l.0) [
-  | inl lt ↦ ap (λ (ls : List Look). found_in ls n) (put_behind x xs l lt) ∙ ap (λ (found : Option Phase). cond (eqb x.0 n) (Some x.1) found) (in_put_other xs l (x.0 + 1) n other h.1)
+  | inl lt ↦ ap (λ (ls : List RequestPhase). found_in ls n) (put_behind x xs l lt) ∙ ap (λ (found : Option Phase). cond (eqb x.0 n) (Some x.1) found) (in_put_other xs l (x.0 + 1) n other h.1)
   | inr ge ↦ elim (cases_lt l.0 x.0) [
-    | inl lt ↦ ap (λ (ls : List Look). found_in ls n) (put_ahead x xs l lt h.1) ∙ later_found l (x ∷ xs) n other
-    | inr le ↦ ap (λ (ls : List Look). found_in ls n) (put_over x xs l (omega arith) h.1) ∙ later_found l xs n other ∙ sym (later_found x xs n (λ e. other (omega arith)))
+    | inl lt ↦ ap (λ (ls : List RequestPhase). found_in ls n) (put_ahead x xs l lt h.1) ∙ later_found l (x ∷ xs) n other
+    | inr le ↦ ap (λ (ls : List RequestPhase). found_in ls n) (put_over x xs l (omega arith) h.1) ∙ later_found l xs n other ∙ sym (later_found x xs n (λ e. other (omega arith)))
   ]
 ]
 
-in_fold : (ls xs : List Look) (low n : ℕ) → IsFrom low ls → IsByNumber xs → found_in (fold put xs ls) n ≡ or_else (found_in ls n) (found_in xs n)
+in_fold : (ls xs : List RequestPhase) (low n : ℕ) → IsFrom low ls → IsByNumber xs → found_in (fold put xs ls) n ≡ or_else (found_in ls n) (found_in xs n)
 in_fold [] xs low n h hx = refl
 in_fold (l ∷ ls) xs low n h hx = elim (cases_eq l.0 n) [
   | inl same ↦ subst (λ k. found_in (fold put xs (l ∷ ls)) k ≡ or_else (found_in (l ∷ ls) k) (found_in xs k)) same
@@ -110,53 +110,53 @@ in_fold (l ∷ ls) xs low n h hx = elim (cases_eq l.0 n) [
 ]
 
 -- the phase of a number that was released, where it stands in the list
-abbrev let_go : Option Phase → Option Phase
-let_go None = None
-let_go (Some told) = Some Released
+abbrev without_end : Option Phase → Option Phase
+without_end None = None
+without_end (Some last_reported) = Some Released
 
-in_released : (ls : List Look) (n : ℕ) → found_in (map released ls) n ≡ let_go (found_in ls n)
+in_released : (ls : List RequestPhase) (n : ℕ) → found_in (map as_released ls) n ≡ without_end (found_in ls n)
 in_released [] n = refl
 in_released (l ∷ ls) n = first_or_later (eqb l.0 n) (in_released ls n) where
-  first_or_later : (b : Bool) → found_in (map released ls) n ≡ let_go (found_in ls n) → cond b (Some Released) (found_in (map released ls) n) ≡ let_go (cond b (Some l.1) (found_in ls n))
+  first_or_later : (b : Bool) → found_in (map as_released ls) n ≡ without_end (found_in ls n) → cond b (Some Released) (found_in (map as_released ls) n) ≡ without_end (cond b (Some l.1) (found_in ls n))
   first_or_later true rest = refl
   first_or_later false rest = rest
 
 -- ---- the laws
 
-in_completed : (told looks : List Look) (n : ℕ) → IsByNumber told → IsByNumber looks → found_in (completed told looks) n ≡ or_else (found_in looks n) (let_go (found_in told n))
-in_completed told looks n ht hl = in_fold looks (map released told) 0 n hl (from_released told 0 ht) ∙ ap (or_else (found_in looks n)) (in_released told n)
+in_completed : (last_reported observed : List RequestPhase) (n : ℕ) → IsByNumber last_reported → IsByNumber observed → found_in (with_released last_reported observed) n ≡ or_else (found_in observed n) (without_end (found_in last_reported n))
+in_completed last_reported observed n ht hl = in_fold observed (map as_released last_reported) 0 n hl (from_released last_reported 0 ht) ∙ ap (or_else (found_in observed n)) (in_released last_reported n)
 
-by_number_completed : (told looks : List Look) → IsByNumber told → IsByNumber (completed told looks)
-by_number_completed told looks ht = by_number_fold looks (map released told) (from_released told 0 ht)
+by_number_completed : (last_reported observed : List RequestPhase) → IsByNumber last_reported → IsByNumber (with_released last_reported observed)
+by_number_completed last_reported observed ht = by_number_fold observed (map as_released last_reported) (from_released last_reported 0 ht)
 
 -- where a released request fails a test, it plays no part in what passes it
-passed_released : (p : Look → Bool) (n : ℕ) (told found : Option Phase) → p (n, Released) ≡ false → passed p n (or_else found (let_go told)) ≡ passed p n found
+passed_released : (p : RequestPhase → Bool) (n : ℕ) (last_reported found : Option Phase) → p (n, Released) ≡ false → passed p n (or_else found (without_end last_reported)) ≡ passed p n found
 passed_released p n None None fails = refl
 passed_released p n (Some t) None fails = rw fails refl
-passed_released p n told (Some f) fails = refl
+passed_released p n last_reported (Some f) fails = refl
 
-without_released : (p : Look → Bool) (told looks : List Look) → IsByNumber told → IsByNumber looks → ((n : ℕ) → p (n, Released) ≡ false) → filter p (completed told looks) ≡ filter p looks
-without_released p told looks ht hl fails =
-    same_if_found (filter p (completed told looks)) (filter p looks) 0 (from_filter p _ 0 (by_number_completed told looks ht)) (from_filter p looks 0 hl) (λ n.
-    in_filter p (completed told looks) 0 n (by_number_completed told looks ht) ∙ ap (passed p n) (in_completed told looks n ht hl)
-    ∙ passed_released p n (found_in told n) (found_in looks n) (fails n) ∙ sym (in_filter p looks 0 n hl))
+without_released : (p : RequestPhase → Bool) (last_reported observed : List RequestPhase) → IsByNumber last_reported → IsByNumber observed → ((n : ℕ) → p (n, Released) ≡ false) → filter p (with_released last_reported observed) ≡ filter p observed
+without_released p last_reported observed ht hl fails =
+    same_if_found (filter p (with_released last_reported observed)) (filter p observed) 0 (from_filter p _ 0 (by_number_completed last_reported observed ht)) (from_filter p observed 0 hl) (λ n.
+    in_filter p (with_released last_reported observed) 0 n (by_number_completed last_reported observed ht) ∙ ap (passed p n) (in_completed last_reported observed n ht hl)
+    ∙ passed_released p n (found_in last_reported n) (found_in observed n) (fails n) ∙ sym (in_filter p observed 0 n hl))
 
 -- each request that was told is named
-none_left : (told found : Option Phase) → or_else (or_else found (let_go told)) told ≡ or_else found (let_go told)
+none_left : (last_reported found : Option Phase) → or_else (or_else found (without_end last_reported)) last_reported ≡ or_else found (without_end last_reported)
 none_left None None = refl
 none_left (Some t) None = refl
-none_left told (Some f) = refl
+none_left last_reported (Some f) = refl
 
-all_named : (told looks : List Look) → IsByNumber told → IsByNumber looks → fold put told (completed told looks) ≡ completed told looks
-all_named told looks ht hl =
-    let hc = by_number_completed told looks ht in
-    same_if_found (fold put told (completed told looks)) (completed told looks) 0 (by_number_fold (completed told looks) told ht) hc (λ n.
-    in_fold (completed told looks) told 0 n hc ht
-    ∙ ap (λ (found : Option Phase). or_else found (found_in told n)) (in_completed told looks n ht hl)
-    ∙ none_left (found_in told n) (found_in looks n) ∙ sym (in_completed told looks n ht hl))
+all_named : (last_reported observed : List RequestPhase) → IsByNumber last_reported → IsByNumber observed → fold put last_reported (with_released last_reported observed) ≡ with_released last_reported observed
+all_named last_reported observed ht hl =
+    let hc = by_number_completed last_reported observed ht in
+    same_if_found (fold put last_reported (with_released last_reported observed)) (with_released last_reported observed) 0 (by_number_fold (with_released last_reported observed) last_reported ht) hc (λ n.
+    in_fold (with_released last_reported observed) last_reported 0 n hc ht
+    ∙ ap (λ (found : Option Phase). or_else found (found_in last_reported n)) (in_completed last_reported observed n ht hl)
+    ∙ none_left (found_in last_reported n) (found_in observed n) ∙ sym (in_completed last_reported observed n ht hl))
 
-pub looks_are_left : LooksAreLeft
-looks_are_left told looks ht hl = ap (filter is_live) (all_named told looks ht hl) ∙ without_released is_live told looks ht hl (λ n. refl)
+pub observed_are_left : ObservedAreLeft
+observed_are_left last_reported observed ht hl = ap (filter is_live) (all_named last_reported observed ht hl) ∙ without_released is_live last_reported observed ht hl (λ n. refl)
 
-pub looks_are_news : LooksAreNews
-looks_are_news o told looks ht hl = ap (map notice) (without_released (is_due o told) told looks ht hl (λ n. refl))
+pub observed_decide_notices : ObservedDecideNotices
+observed_decide_notices o last_reported observed ht hl = ap (map notice) (without_released (is_due o last_reported) last_reported observed ht hl (λ n. refl))

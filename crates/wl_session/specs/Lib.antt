@@ -1,4 +1,4 @@
-pub mod Told
+pub mod LastReported
 pub mod Places
 pub mod Upkeep
 pub mod Step

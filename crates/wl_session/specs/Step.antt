@@ -4,50 +4,50 @@ use Rattle.wl_codec.specs.declared.reply.Notice.{Notice}
 use Rattle.wl_codec.specs.declared.reply.Outcome.{Outcome}
 use Rattle.wl_codec.specs.declared.reply.Outcome.TheVariants as outcome
 use Rattle.wl_codec.specs.declared.reply.WireReply.{WireReply}
-use Rattle.wl_session.specs.Told.{Look, news, still_told}
+use Rattle.wl_session.specs.LastReported.{RequestPhase, due_notices, with_observed}
 
--- whether the agent is open, and what it was told
+-- whether the agent is open, and what was last reported to it
 pub record State : Type 0 where
   pub is_open : Bool
-  pub told : List Look
+  pub last_reported : List RequestPhase
 
 abbrev pub closed : State
-closed = record { is_open = false; told = [] }
+closed = record { is_open = false; last_reported = [] }
 
 -- whether the reply has notices
-abbrev pub tells : Outcome → Bool
-tells (outcome.Client c) = false
-tells (outcome.Signal n) = true
-tells (outcome.Request n) = true
-tells (outcome.Release a) = true
-tells (outcome.Abort a) = true
-tells (outcome.Active b) = true
-tells (outcome.Seen s) = true
-tells outcome.Polled = true
-tells outcome.Closed = false
-tells (outcome.Refused r) = true
-tells (outcome.Fault f) = false
-tells outcome.NotOpen = false
-tells outcome.AlreadyOpen = false
-tells outcome.BadUrl = false
-tells outcome.BadBucket = false
+abbrev pub carries_notices : Outcome → Bool
+carries_notices (outcome.Client c) = false
+carries_notices (outcome.Signal n) = true
+carries_notices (outcome.Request n) = true
+carries_notices (outcome.Release a) = true
+carries_notices (outcome.Abort a) = true
+carries_notices (outcome.Active b) = true
+carries_notices (outcome.Seen s) = true
+carries_notices outcome.Polled = true
+carries_notices outcome.Closed = false
+carries_notices (outcome.Refused r) = true
+carries_notices (outcome.Fault f) = false
+carries_notices outcome.NotOpen = false
+carries_notices outcome.AlreadyOpen = false
+carries_notices outcome.BadUrl = false
+carries_notices outcome.BadBucket = false
 
-abbrev pub notices : List Look → Outcome → List Look → List Notice
-notices told o looks = if tells o then news o told looks else []
+abbrev pub notices : List RequestPhase → Outcome → List RequestPhase → List Notice
+notices last_reported o observed = if carries_notices o then due_notices o last_reported observed else []
 
-abbrev pub reply : State → Option ℕ → Outcome → List Look → WireReply
-reply s id o looks = record { id = id; notices = notices s.told o looks; outcome = o }
+abbrev pub reply : State → Option ℕ → Outcome → List RequestPhase → WireReply
+reply s id o observed = record { id = id; notices = notices s.last_reported o observed; outcome = o }
 
 -- An agent that opens or closes was told nothing.
-abbrev pub told_after : List Look → Outcome → List Look → List Look
-told_after told (outcome.Client c) looks = []
-told_after told outcome.Closed looks = []
-told_after told o looks = if tells o then still_told told looks else told
+abbrev pub last_reported_after : List RequestPhase → Outcome → List RequestPhase → List RequestPhase
+last_reported_after last_reported (outcome.Client c) observed = []
+last_reported_after last_reported outcome.Closed observed = []
+last_reported_after last_reported o observed = if carries_notices o then with_observed last_reported observed else last_reported
 
 abbrev pub opens : Bool → Outcome → Bool
 opens was (outcome.Client c) = true
 opens was outcome.Closed = false
 opens was o = was
 
-abbrev pub after : State → Outcome → List Look → State
-after s o looks = record { is_open = opens s.is_open o; told = told_after s.told o looks }
+abbrev pub after : State → Outcome → List RequestPhase → State
+after s o observed = record { is_open = opens s.is_open o; last_reported = last_reported_after s.last_reported o observed }

@@ -1,15 +1,15 @@
 //! What an outcome does to a session.
 
 ghost use Rattle.std.specs.Prelude.{◌≡◌};
-ghost use Rattle.wl_session.specs.Step.{opens, tells};
-ghost use Rattle.wl_session.specs.Told.{is_new};
+ghost use Rattle.wl_session.specs.Step.{opens, carries_notices};
+ghost use Rattle.wl_session.specs.LastReported.{is_new};
 
 use wl_codec::Outcome;
 
 /// Whether the reply of this outcome has notices. Before such a reply, and before no other, the caller takes the
 /// grants of the agent's requests and looks at their phases.
-pub fn tells(outcome: &Outcome) -> bool
-    ensures { result ≡ tells outcome.now }
+pub fn carries_notices(outcome: &Outcome) -> bool
+    ensures { result ≡ carries_notices outcome.now }
 {
     match outcome {
         Outcome::Signal(_)

@@ -1,21 +1,21 @@
-//! When ends leave a told list.
+//! When ends leave a reported list.
 
 ghost use Rattle.std.specs.Prelude.{◌≡◌, ◌+◌, ◌≤◌, Bool, true, false, length, filter, vec_len, vec_capacity, OnOk};
-ghost use Rattle.wl_session.specs.Told.{is_live, still_told};
+ghost use Rattle.wl_session.specs.LastReported.{is_live, with_observed};
 ghost use Rattle.wl_session.specs.Upkeep.{IsKept};
 
-use crate::told::{drop_ends, put_all, tell_at_once};
+use crate::last_reported::{drop_ends, put_all, report_at_once};
 use wl_types::{Memory, Phase};
 
-/// When the requests whose end was told leave a told list. What a session tells is the same either way.
+/// When the requests whose end was reported leave a reported list. What a session tells is the same either way.
 pub trait Upkeep {
     ghost AT_ONCE: { Bool };
 
-    /// Whether each end leaves as it is told. Elsewhere it keeps its place, as one of which nothing was told.
+    /// Whether each end leaves as it is reported. Elsewhere it keeps its place, as one of which nothing was reported.
     const AT_ONCE: bool;
 }
 
-/// Each end leaves as it is told, and what is behind it moves up: the list is the told list, and can be shown.
+/// Each end leaves as it is reported, and what is behind it moves up: the list is the reported list, and can be shown.
 #[derive(Drop)]
 pub struct AtOnce;
 
@@ -36,32 +36,35 @@ impl Upkeep for InTime {
     const AT_ONCE: bool = false;
 }
 
-/// Makes room for so many looks. Where ends stay, those of a full list leave first, and at least half of it is free
-/// then: before it is full again as many looks have come as pay for going over it.
-pub(crate) fn make_room<U: Upkeep>(told: &mut Vec<(u64, Phase)>, looks: usize) -> Result<(), Memory>
-    requires { IsKept U.AT_ONCE told.old.items }
-    ensures told { filter is_live told.new.items ≡ filter is_live told.old.items }
-    ensures kept { IsKept U.AT_ONCE told.new.items }
-    ensures room { OnOk result (vec_len told.new + looks ≤ vec_capacity told.new) }
+/// Makes room for so many observations. Where ends stay, those of a full list leave first, and at least half of it is
+/// free then: before it is full again as many observations have come as pay for going over it.
+pub(crate) fn make_room<U: Upkeep>(
+    last_reported: &mut Vec<(u64, Phase)>,
+    observed: usize,
+) -> Result<(), Memory>
+    requires { IsKept U.AT_ONCE last_reported.old.items }
+    ensures last_reported { filter is_live last_reported.new.items ≡ filter is_live last_reported.old.items }
+    ensures kept { IsKept U.AT_ONCE last_reported.new.items }
+    ensures room { OnOk result (vec_len last_reported.new + observed ≤ vec_capacity last_reported.new) }
 {
-    if !U::AT_ONCE && told.capacity() - told.len() < looks {
-        drop_ends(told);
-        told.reserve(told.len())?;
+    if !U::AT_ONCE && last_reported.capacity() - last_reported.len() < observed {
+        drop_ends(last_reported);
+        last_reported.reserve(last_reported.len())?;
     }
-    told.reserve(looks)?;
+    last_reported.reserve(observed)?;
     Ok(())
 }
 
 /// Puts what was found into a list with room for it. It needs no memory.
-pub(crate) fn tell<U: Upkeep>(told: &mut Vec<(u64, Phase)>, looks: &[(u64, Phase)])
-    requires kept { IsKept U.AT_ONCE told.old.items }
-    requires room { vec_len told.old + length looks.now ≤ vec_capacity told.old }
-    ensures told { filter is_live told.new.items ≡ still_told (filter is_live told.old.items) looks.now }
-    ensures kept { IsKept U.AT_ONCE told.new.items }
+pub(crate) fn report<U: Upkeep>(last_reported: &mut Vec<(u64, Phase)>, observed: &[(u64, Phase)])
+    requires kept { IsKept U.AT_ONCE last_reported.old.items }
+    requires room { vec_len last_reported.old + length observed.now ≤ vec_capacity last_reported.old }
+    ensures last_reported { filter is_live last_reported.new.items ≡ with_observed (filter is_live last_reported.old.items) observed.now }
+    ensures kept { IsKept U.AT_ONCE last_reported.new.items }
 {
     if U::AT_ONCE {
-        tell_at_once(told, looks);
+        report_at_once(last_reported, observed);
     } else {
-        put_all(told, looks);
+        put_all(last_reported, observed);
     }
 }

@@ -1,6 +1,6 @@
 //! Answering requests.
 
-use crate::gate::Gate;
+use crate::admission::Admission;
 use crate::overview::Overview;
 use crate::page::{PAGE, POLICY};
 use crate::routing::{Head, Refusal, Route, find_route, health_status};
@@ -18,7 +18,7 @@ use wl_types::Memory;
 pub(crate) struct Answerer<'a, R: Wait + Clock, O: Overview> {
     pub alloc: Global,
     pub rt: &'a R,
-    pub gate: &'a Gate,
+    pub admission: &'a Admission,
     pub overview: &'a O,
 }
 
@@ -63,8 +63,8 @@ impl<R: Wait + Clock, O: Overview> Answerer<'_, R, O> {
             hosts: hosts.as_slice(),
             authorizations: authorizations.as_slice(),
         };
-        let wanted = self.gate.wanted(rules.tokens.as_ref());
-        find_route(self.alloc, &self.gate.hosts, wanted, &head)
+        let wanted = self.admission.required_tokens(rules.tokens.as_ref());
+        find_route(self.alloc, &self.admission.hosts, wanted, &head)
     }
 
     fn answer_health(&self, response: &mut Response) -> Result<(), AllocError> {

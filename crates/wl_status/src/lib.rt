@@ -5,9 +5,9 @@
 //! `Overview` of the server.
 #![tactic(auto)]
 
+mod admission;
 mod answering;
 mod credentials;
-mod gate;
 mod hosts;
 mod metrics;
 mod overview;
@@ -16,7 +16,7 @@ mod routing;
 mod serving;
 mod visitor;
 
-pub use crate::gate::Gate;
+pub use crate::admission::Admission;
 pub use crate::hosts::Hosts;
 pub use crate::metrics::{Metric, Metrics};
 pub use crate::overview::Overview;

@@ -1,7 +1,7 @@
 //! The thread of a status server.
 
+use crate::admission::Admission;
 use crate::answering::Answerer;
-use crate::gate::Gate;
 use crate::overview::Overview;
 use crate::visitor::{Next, Visitor};
 use http_server::Service;
@@ -38,7 +38,7 @@ pub struct StatusServer {
     listener: TcpListener,
     address: SocketAddr,
     poll: Poll,
-    gate: Gate,
+    admission: Admission,
 }
 
 /// What ends a status server.
@@ -70,7 +70,7 @@ impl StatusServer {
     ) -> io::Result<StatusServer> {
         let mut listener = TcpListener::bind(net, address)?;
         let address = listener.local_addr()?;
-        let gate = Gate::of(alloc, address, names)?;
+        let admission = Admission::of(alloc, address, names)?;
         let poll = Poll::new(net)?;
         poll.registry()
             .register(&mut listener, Token(LISTENER), Interest::READABLE)?;
@@ -78,7 +78,7 @@ impl StatusServer {
             listener,
             address,
             poll,
-            gate,
+            admission,
         })
     }
 
@@ -116,7 +116,7 @@ impl StatusServer {
             let mut answerer = Answerer {
                 alloc,
                 rt,
-                gate: &self.gate,
+                admission: &self.admission,
                 overview,
             };
             is_busy = take_turns(&mut visitors, &mut answerer, now);

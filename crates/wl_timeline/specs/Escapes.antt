@@ -19,5 +19,5 @@ escaped_char c =
     else if is_unprintable c then 239 ∷ 191 ∷ 189 ∷ []
     else encode_utf8 c
 
-abbrev pub escaped : List ℕ → List ℕ
-escaped text = flat_map escaped_char (chars text)
+abbrev pub escape_text : List ℕ → List ℕ
+escape_text text = flat_map escaped_char (chars text)

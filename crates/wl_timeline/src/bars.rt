@@ -38,7 +38,7 @@ pub(crate) fn draw_bar(
     let top = y.saturating_add(15);
     draw_phases(out, scale, request, number, top)?;
     draw_end(out, scale, request, number, top.saturating_add(6))?;
-    draw_told(out, scale, request, number, top.saturating_add(13))?;
+    draw_reports(out, scale, request, number, top.saturating_add(13))?;
     out.push_str("</g>\n")?;
     Ok(())
 }
@@ -66,8 +66,8 @@ fn put_request(
         let (word, line) = (step_word(step), step.line);
         write!(out, "; {word} at line {line}")?;
     }
-    for told in &request.told {
-        let (word, line) = (told_word(told), told.line);
+    for report in &request.reports {
+        let (word, line) = (report_word(report), report.line);
         write!(out, "; told {word} at line {line}")?;
     }
     out.push_str("</title>")?;
@@ -85,10 +85,10 @@ fn step_word(step: &Step) -> &'static str {
 }
 
 /// The word by which a reply tells of a phase.
-fn told_word(told: &Step) -> &'static str {
-    match told.phase {
+fn report_word(report: &Step) -> &'static str {
+    match report.phase {
         Phase::Taken => "granted",
-        _ => step_word(told),
+        _ => step_word(report),
     }
 }
 
@@ -187,25 +187,25 @@ fn draw_end(
 }
 
 /// The lines at which the agent was told, and how far each was behind.
-fn draw_told(
+fn draw_reports(
     out: &mut String,
     scale: &Scale,
     request: &Request,
     number: u64,
     y: u64,
 ) -> Result<(), Memory> {
-    for told in &request.told {
-        let (word, line, x) = (told_word(told), told.line, scale.at(told.line));
+    for report in &request.reports {
+        let (word, line, x) = (report_word(report), report.line, scale.at(report.line));
         write!(
             out,
             "<path class=\"told\" data-request=\"{number}\" data-told=\"{word}\" data-line=\"{line}\""
         )?;
         write!(out, " transform=\"translate({x} {y})\" d=\"M0 0-4 8H4Z\"/>")?;
     }
-    if let (Some(last), Some(told)) = (request.steps.last(), request.told.last()) {
+    if let (Some(last), Some(report)) = (request.steps.last(), request.reports.last()) {
         let (from, to, y) = (
             scale.at(last.line),
-            scale.at(told.line),
+            scale.at(report.line),
             y.saturating_add(4),
         );
         if to > from {

@@ -2,7 +2,7 @@
 
 ghost use Rattle.std.specs.Prelude.{◌≡◌, IfOk, option_map, string_bytes, unwrap_or};
 ghost use Rattle.std.specs.Char.{encode_utf8};
-ghost use Rattle.wl_timeline.specs.Escapes.{escaped, escaped_char, is_unprintable};
+ghost use Rattle.wl_timeline.specs.Escapes.{escape_text, escaped_char, is_unprintable};
 
 use std::alloc::Global;
 use wl_types::Memory;
@@ -37,7 +37,7 @@ fn stand_in(c: char) -> Option<&'static str>
 
 /// The text, as it may stand between tags and in an attribute.
 pub(crate) fn escape(alloc: Global, text: &str) -> Result<String, Memory>
-    ensures { IfOk result (λ safe. string_bytes safe ≡ escaped text.now) }
+    ensures { IfOk result (λ safe. string_bytes safe ≡ escape_text text.now) }
 {
     let mut safe = String::new(alloc);
     for c in text.chars() {

@@ -167,7 +167,7 @@ impl History {
             return Ok(());
         };
         let manager = match client {
-            Some(_) => self.enter(url.as_str(), kind, bucket)?,
+            Some(_) => self.open_agent(url.as_str(), kind, bucket)?,
             None => None,
         };
         let client = manager.zip(client);
@@ -187,7 +187,7 @@ impl History {
     }
 
     /// An agent opens at a manager, whose place is answered.
-    fn enter(&mut self, url: &str, kind: Kind, bucket: Text) -> Result<Option<usize>, Memory> {
+    fn open_agent(&mut self, url: &str, kind: Kind, bucket: Text) -> Result<Option<usize>, Memory> {
         let key = match manager_of_text(self.alloc, url, bucket) {
             Ok(Some(key)) => key,
             // The reply had no number then, so that this isn't asked.

@@ -91,8 +91,8 @@ fn extent(scale: &Scale, request: &Request, number: usize) -> (u64, u64) {
         return (0, 0);
     };
     let from = scale.at(first.line);
-    let told = match request.told.last() {
-        Some(told) => scale.at(told.line).saturating_add(CHARACTER),
+    let report = match request.reports.last() {
+        Some(report) => scale.at(report.line).saturating_add(CHARACTER),
         None => 0,
     };
     let end = if last.phase.is_end() {
@@ -109,7 +109,7 @@ fn extent(scale: &Scale, request: &Request, number: usize) -> (u64, u64) {
         .saturating_add(digits)
         .saturating_add((request.mode.word().len() + request.option.len()) as u64)
         .saturating_mul(CHARACTER);
-    let to = from.saturating_add(text).max(told).max(end);
+    let to = from.saturating_add(text).max(report).max(end);
     (from, to.saturating_add(CHARACTER))
 }
 

@@ -28,7 +28,7 @@ pub(crate) struct Request {
     /// The phases, from `Pending` on.
     pub steps: Vec<Step>,
     /// What its agent was told, and at which line.
-    pub told: Vec<Step>,
+    pub reports: Vec<Step>,
 }
 
 impl Request {
@@ -45,7 +45,7 @@ impl Request {
             mode: ask.mode,
             option: option_of(ask),
             steps,
-            told: Vec::new(alloc),
+            reports: Vec::new(alloc),
         })
     }
 }
@@ -120,7 +120,7 @@ impl Manager {
         }
         if let Some(request) = find(&mut self.requests, number) {
             if let Some(last) = request.steps.last().copied() {
-                request.told.push(Step { line, ..last })?;
+                request.reports.push(Step { line, ..last })?;
             }
         }
         Ok(())

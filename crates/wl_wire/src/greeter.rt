@@ -88,7 +88,7 @@ fn select(response: &mut Response<()>, subprotocol: Subprotocol) -> Result<(), R
 }
 
 /// Whoever was admitted, once the answer says which subprotocol is selected.
-fn answered(response: &mut Response<()>, admitted: Admitted) -> Result<Admitted, Rejection> {
+fn put_selected(response: &mut Response<()>, admitted: Admitted) -> Result<Admitted, Rejection> {
     if let Some(subprotocol) = admitted.selected {
         select(response, subprotocol)?;
     }
@@ -103,7 +103,7 @@ impl Callback for Greeter {
     ) -> Result<Response<()>, ErrorResponse> {
         let mut response = response;
         let verdict = match self.judge(request.headers()) {
-            Ok(admitted) => answered(&mut response, admitted),
+            Ok(admitted) => put_selected(&mut response, admitted),
             refused => refused,
         };
         let answer = match &verdict {

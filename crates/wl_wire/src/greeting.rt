@@ -83,7 +83,7 @@ impl<S: Read + Write + Drop> Greeting<S> {
             verdict,
         } = self;
         match handshake.handshake() {
-            Ok(socket) => match taken(verdict) {
+            Ok(socket) => match verdict_of(verdict) {
                 Some(Ok(admitted)) => Greeted::Open(opened(alloc, socket), admitted),
                 Some(Err(rejection)) => Greeted::Refused(rejection),
                 None => Greeted::Failed,
@@ -93,7 +93,7 @@ impl<S: Read + Write + Drop> Greeting<S> {
                 handshake,
                 verdict,
             }),
-            Err(HandshakeError::Failure(_)) => match taken(verdict) {
+            Err(HandshakeError::Failure(_)) => match verdict_of(verdict) {
                 Some(Err(rejection)) => Greeted::Refused(rejection),
                 _ => Greeted::Failed,
             },
@@ -113,7 +113,7 @@ fn opened<S: Read + Write + Drop>(
 }
 
 /// What a verdict says, if one was given. The handshake has let go of it.
-fn taken(verdict: Arc<Verdict, Global>) -> Option<Result<Admitted, Rejection>> {
+fn verdict_of(verdict: Arc<Verdict, Global>) -> Option<Result<Admitted, Rejection>> {
     match Arc::into_inner(verdict) {
         Some(verdict) => verdict.into_inner(),
         None => None,

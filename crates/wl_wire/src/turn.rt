@@ -82,7 +82,7 @@ fn take_steps<R: Wait, S: Read + Write + Drop, P: Speaker>(
 }
 
 /// What follows what was to leave: the speaker ends where that won't.
-fn settle<R: Wait, P: Speaker>(rt: &R, sending: Sending, speaker: P) -> Stepped<P>
+fn after_sending<R: Wait, P: Speaker>(rt: &R, sending: Sending, speaker: P) -> Stepped<P>
     ensures { result ≡ stepped_by sending speaker }
 {
     match sending {
@@ -107,7 +107,7 @@ fn send_waiting<R: Wait, S: Read + Write + Drop, P: Speaker>(
         return Stepped::Went(speaker);
     }
     let sending = wire.flush();
-    settle(rt, sending, speaker)
+    after_sending(rt, sending, speaker)
 }
 
 /// Pushes what changed, and reads one message and answers it. Nothing waits to leave before.
@@ -144,7 +144,7 @@ fn push_changes<R: Wait, S: Read + Write + Drop, P: Speaker>(
         Ok((next, said)) => match said {
             Some(text) => {
                 let pushing = wire.put(text.as_str());
-                settle(rt, pushing, next)
+                after_sending(rt, pushing, next)
             }
             None => Stepped::Went(next),
         },
@@ -245,7 +245,7 @@ fn answer<R: Wait, S: Read + Write + Drop, P: Speaker>(
         Ok((next, said)) => match said {
             Answer::Text(text) => {
                 let replying = wire.put(text.as_str());
-                settle(rt, replying, next)
+                after_sending(rt, replying, next)
             }
             Answer::End(ending) => {
                 next.end(rt);

@@ -31,7 +31,7 @@ pub struct Wire<S> {
     is_blocked: bool,
     // Bytes may be there to be read.
     pub(crate) may_read: bool,
-    ghost settled: { is_blocked ≡ false → socket.output ≡ [] },
+    ghost drained: { is_blocked ≡ false → socket.output ≡ [] },
 }
 
 impl<S: Read + Write + Drop> Wire<S> {

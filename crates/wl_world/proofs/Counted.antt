@@ -16,14 +16,14 @@ use Rattle.wl_machine.specs.declared.command.Reply.TheVariants as reply
 use Rattle.wl_codec.specs.declared.message.Body.{Body}
 use Rattle.wl_codec.specs.declared.message.Body.TheVariants as body
 use Rattle.wl_codec.specs.declared.reply.Outcome.{Outcome}
-use Rattle.wl_session.specs.Told.{Look}
+use Rattle.wl_session.specs.LastReported.{RequestPhase}
 use Rattle.wl_world.specs.declared.requests.Request.{Request}
 use Rattle.wl_types.specs.declared.answers.TakeAnswer.TheVariants as took
 use Rattle.std.proofs.Common.{map}
-use Rattle.wl_world.specs.Requests.{IsRising, listed, told}
-use Rattle.wl_world.specs.Origins.{Core, Origin, Acted, act, admitted, after, is_granted, outcome_of, stepped, take_look}
-use Rattle.wl_world.specs.Views.{made_of}
-use Rattle.wl_world.proofs.Rising.{added, filtered, higher, noted_rising, told_rising}
+use Rattle.wl_world.specs.Requests.{IsRising, after_answer, after_collect}
+use Rattle.wl_world.specs.Origins.{Core, Origin, Acted, act, admitted, after, is_granted, outcome_of, stepped, take_observed}
+use Rattle.wl_world.specs.Views.{act_result_of}
+use Rattle.wl_world.proofs.Rising.{added, filtered, higher, with_changes_rising, collect_rising}
 
 -- a new request has a number from low on, and the next is above it
 abbrev Counted : ℕ → ℕ → Reply → Type 0
@@ -37,10 +37,10 @@ Counted low high reply.Done = low ≤ high
 Counted low high (reply.Seen s) = low ≤ high
 Counted low high (reply.Refused r) = low ≤ high
 
-abbrev IsCounted : State → machine.Outcome → Type 0
+abbrev IsCounted : State → machine.StepResult → Type 0
 IsCounted s out = Counted s.next.request out.state.next.request out.reply
 
-either : (s : State) (c : Bool) (a b : machine.Outcome) → IsCounted s a → IsCounted s b → IsCounted s (if c then a else b)
+either : (s : State) (c : Bool) (a b : machine.StepResult) → IsCounted s a → IsCounted s b → IsCounted s (if c then a else b)
 either s true a b x y = x
 either s false a b x y = y
 
@@ -70,7 +70,7 @@ newest s new c n changes gives requests r =
     let counted : IsCounted s (record { state = new; reply = reply.Request n; changes = changes }) = subst (IsCounted s) gives (step_counted s c) in
     higher 0 s.next.request n requests counted.0 r
 
-done_rising : (b : Body) (agent low high : ℕ) (requests : List Request) → low ≤ high → IsRising 0 low requests → IsRising 0 high (listed agent (outcome_of b reply.Done) requests)
+done_rising : (b : Body) (agent low high : ℕ) (requests : List Request) → low ≤ high → IsRising 0 low requests → IsRising 0 high (after_answer agent (outcome_of b reply.Done) requests)
 done_rising (body.Enter url kind bucket) agent low high requests le r = higher 0 low high _ le (filtered (λ request. not (request.agent == agent)) 0 low requests r)
 done_rising body.Signal agent low high requests le r = higher 0 low high _ le (filtered (λ request. not (request.agent == agent)) 0 low requests r)
 done_rising (body.Request ask) agent low high requests le r = higher 0 low high _ le (filtered (λ request. not (request.agent == agent)) 0 low requests r)
@@ -81,7 +81,7 @@ done_rising body.Query agent low high requests le r = higher 0 low high _ le (fi
 done_rising body.Poll agent low high requests le r = higher 0 low high _ le (filtered (λ request. not (request.agent == agent)) 0 low requests r)
 done_rising body.Close agent low high requests le r = higher 0 low high _ le (filtered (λ request. not (request.agent == agent)) 0 low requests r)
 
-listed_rising : (answer : Reply) (b : Body) (agent low high : ℕ) (requests : List Request) → Counted low high answer → IsRising 0 low requests → IsRising 0 high (listed agent (outcome_of b answer) requests)
+listed_rising : (answer : Reply) (b : Body) (agent low high : ℕ) (requests : List Request) → Counted low high answer → IsRising 0 low requests → IsRising 0 high (after_answer agent (outcome_of b answer) requests)
 listed_rising (reply.Request n) b agent low high requests (from, below) r = added 0 low high requests _ (omega arith) from below r
 listed_rising (reply.Agent n) b agent low high requests le r = higher 0 low high requests le r
 listed_rising (reply.Signal n) b agent low high requests le r = higher 0 low high requests le r
@@ -98,7 +98,7 @@ InOrder o = IsRising 0 o.core.state.next.request o.requests
 
 stepped_in_order : (o : Origin) (agent : ℕ) (b : Body) (c : Command) → InOrder o → InOrder (stepped o agent b c).origin
 stepped_in_order o agent b c r =
-    unfold stepped in noted_rising 0 (machine.step o.core.state c).state.next.request (machine.step o.core.state c).changes (listed agent (outcome_of b (machine.step o.core.state c).reply) o.requests)
+    unfold stepped in with_changes_rising 0 (machine.step o.core.state c).state.next.request (machine.step o.core.state c).changes (after_answer agent (outcome_of b (machine.step o.core.state c).reply) o.requests)
     (listed_rising (machine.step o.core.state c).reply b agent o.core.state.next.request (machine.step o.core.state c).state.next.request o.requests (step_counted o.core.state c) r)
 
 act_in_order : (o : Origin) (agent : ℕ) (b : Body) → InOrder o → InOrder (act o agent b).origin
@@ -113,30 +113,30 @@ act_in_order o agent body.Poll r = r
 act_in_order o agent body.Close r = stepped_in_order o agent body.Close _ r
 
 -- what was done keeps the order
-pub acted_in_order : (old new : Origin) (agent : ℕ) (b : Body) (o : Outcome) → made_of new o ≡ act old agent b → InOrder old → InOrder new
+pub acted_in_order : (old new : Origin) (agent : ℕ) (b : Body) (o : Outcome) → act_result_of new o ≡ act old agent b → InOrder old → InOrder new
 acted_in_order old new agent b o is r = subst (λ (x : Acted). InOrder x.origin) (sym is) (act_in_order old agent b r)
 
-pub entered_in_order : (old new : Origin) (kind : Kind) (o : Outcome) → made_of new o ≡ admitted old kind → InOrder old → InOrder new
-entered_in_order old new kind o is r = subst (λ (x : Acted). InOrder x.origin) (sym is) (stepped_in_order old 0 (body.Enter [] kind []) (command.Enter kind) r)
+pub opened_in_order : (old new : Origin) (kind : Kind) (o : Outcome) → act_result_of new o ≡ admitted old kind → InOrder old → InOrder new
+opened_in_order old new kind o is r = subst (λ (x : Acted). InOrder x.origin) (sym is) (stepped_in_order old 0 (body.Enter [] kind []) (command.Enter kind) r)
 
 -- a take numbers nothing
-take_next : (core : Core) (look : Look) → (take_look core look).state.next ≡ core.state.next
-take_next core look = granted (is_granted look.1)
+take_next : (core : Core) (observation : RequestPhase) → (take_observed core observation).state.next ≡ core.state.next
+take_next core observation = granted (is_granted observation.1)
   where
-    untaken : (c : Bool) → (if c then machine.no_changes (record core.state { held = map (machine.with_taken look.0) core.state.held }) (reply.Took took.Taken) else machine.no_changes core.state (reply.Took took.NotGranted)).state.next ≡ core.state.next
+    untaken : (c : Bool) → (if c then machine.no_changes (record core.state { held = map (machine.with_taken observation.0) core.state.held }) (reply.Took took.Taken) else machine.no_changes core.state (reply.Took took.NotGranted)).state.next ≡ core.state.next
     untaken true = refl
     untaken false = refl
 
-    granted : (c : Bool) → (if c then after core (machine.step core.state (command.Take look.0)) else core).state.next ≡ core.state.next
-    granted true = untaken (list_any (machine.is_untaken look.0) core.state.held)
+    granted : (c : Bool) → (if c then after core (machine.step core.state (command.Take observation.0)) else core).state.next ≡ core.state.next
+    granted true = untaken (list_any (machine.is_untaken observation.0) core.state.held)
     granted false = refl
 
-takes_next : (core : Core) (looks : List Look) → (fold take_look core looks).state.next ≡ core.state.next
+takes_next : (core : Core) (observed : List RequestPhase) → (fold take_observed core observed).state.next ≡ core.state.next
 takes_next core [] = refl
-takes_next core (look ∷ looks) = takes_next (take_look core look) looks ∙ take_next core look
+takes_next core (observation ∷ observed) = takes_next (take_observed core observation) observed ∙ take_next core observation
 
-pub told_in_order : (agent : ℕ) (s t : Core) (looks : List Look) (old new : List Request) → t ≡ fold take_look s looks → new ≡ told agent old
+pub collect_in_order : (agent : ℕ) (s t : Core) (observed : List RequestPhase) (old new : List Request) → t ≡ fold take_observed s observed → new ≡ after_collect agent old
     → IsRising 0 s.state.next.request old → IsRising 0 t.state.next.request new
-told_in_order agent s t looks old new is mark r =
-    subst (λ (n : Numbers). IsRising 0 n.request new) (sym (ap (λ (core : Core). core.state.next) is ∙ takes_next s looks))
-    (subst (IsRising 0 s.state.next.request) (sym mark) (told_rising agent 0 s.state.next.request old r))
+collect_in_order agent s t observed old new is mark r =
+    subst (λ (n : Numbers). IsRising 0 n.request new) (sym (ap (λ (core : Core). core.state.next) is ∙ takes_next s observed))
+    (subst (IsRising 0 s.state.next.request) (sym mark) (collect_rising agent 0 s.state.next.request old r))

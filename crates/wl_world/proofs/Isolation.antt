@@ -25,8 +25,8 @@ use Rattle.wl_session.specs.Step as session
 use Rattle.wl_world.specs.declared.label.Label.{Label}
 use Rattle.wl_world.specs.declared.label.Label.TheVariants.{Agent, Opaque}
 use Rattle.wl_world.specs.Origins.{Origin, admitted}
-use Rattle.wl_world.specs.Agents.{served}
-use Rattle.wl_world.specs.Labels.{Realm, Stepped, closes, with_origin, after_closing, entered, opened, from_label, from_unopened}
+use Rattle.wl_world.specs.Agents.{serve_result}
+use Rattle.wl_world.specs.Labels.{Realm, Stepped, closes, with_origin, after_closing, label_of, opened, from_label, from_unopened}
 use Rattle.wl_world.specs.World.{World, answered, next, opening, reply, stepping}
 use Rattle.wl_world.specs.Isolation.{is_key, is_manager, opens_at, is_at, says_at, is_of, lines_of, replies_to, replies}
 
@@ -70,7 +70,7 @@ closing_opaque : (k : ManagerKey) (kind : Kind) (active : Bool) (c : Bool) → k
 closing_opaque k kind active true = refl
 closing_opaque k kind active false = refl
 
-no_entry : (k key : ManagerKey) (o : Outcome) → is_key k key ≡ false → kept k (entered key o) ≡ None
+no_entry : (k key : ManagerKey) (o : Outcome) → is_key k key ≡ false → kept k (label_of key o) ≡ None
 no_entry k key (outcome.Client (Some n)) e = no_agent k key n _ e
 no_entry k key (outcome.Client None) e = refl
 no_entry k key (outcome.Signal n) e = refl
@@ -109,8 +109,8 @@ label_apart : (k : ManagerKey) (realm : Realm) (label : Option Label) (id : ℕ)
 label_apart k realm None id b e = unopened_apart k realm id b e
 label_apart k realm (Some (Agent key n s)) id b e = record {
   before = no_agent k key n s e;
-  after = closing_agent k key n (served (realm key) n s id b).session (closes (served (realm key) n s id b).outcome) e;
-  origin = other_realm k key realm (served (realm key) n s id b).origin e;
+  after = closing_agent k key n (serve_result (realm key) n s id b).session (closes (serve_result (realm key) n s id b).outcome) e;
+  origin = other_realm k key realm (serve_result (realm key) n s id b).origin e;
 }
 label_apart k realm (Some (Opaque kind active)) id b e = record { before = refl; after = closing_opaque k kind _ _; origin = refl }
 
@@ -140,7 +140,7 @@ own_agent : (k key : ManagerKey) (n : ℕ) (s : session.State) (c : Bool) → is
 own_agent k key n s true e = refl
 own_agent k key n s false e = sym (ap (λ c. if c then Some (Agent key n s) else None) e)
 
-own_entry : (k key : ManagerKey) (o : Outcome) → is_key k key ≡ true → entered key o ≡ kept k (entered key o)
+own_entry : (k key : ManagerKey) (o : Outcome) → is_key k key ≡ true → label_of key o ≡ kept k (label_of key o)
 own_entry k key (outcome.Client (Some n)) e = own_agent k key n _ false e
 own_entry k key (outcome.Client None) e = refl
 own_entry k key (outcome.Signal n) e = refl
@@ -166,7 +166,7 @@ opened_alike k w v id kind (Ok (Some key)) same e =
     let here = at_key k key w v e same in
     record {
       reply = ap (λ o. let r : WireReply = record { id = Some id; notices = []; outcome = (admitted o kind).outcome } in r) here;
-      label = ap (λ o. entered key (admitted o kind).outcome) here ∙ own_entry k key (admitted (w key) kind).outcome e;
+      label = ap (λ o. label_of key (admitted o kind).outcome) here ∙ own_entry k key (admitted (w key) kind).outcome e;
       realm = own_realm k key w v _ _ e (ap (λ o. (admitted o kind).origin) here);
     }
 
@@ -189,10 +189,10 @@ label_alike k w v (Some (Agent key n s)) id b same e =
     let here = at_key k key w v e same in
     subst (λ label. Alike k (from_label w (Some (Agent key n s)) id b) (from_label v label id b)) (own_agent k key n s false e)
     (record {
-      reply = ap (λ o. (served o n s id b).reply) here;
-      label = ap (λ o. after_closing (served o n s id b).outcome (Agent key n (served o n s id b).session)) here
-          ∙ own_agent k key n (served (w key) n s id b).session (closes (served (w key) n s id b).outcome) e;
-      realm = own_realm k key w v _ _ e (ap (λ o. (served o n s id b).origin) here);
+      reply = ap (λ o. (serve_result o n s id b).reply) here;
+      label = ap (λ o. after_closing (serve_result o n s id b).outcome (Agent key n (serve_result o n s id b).session)) here
+          ∙ own_agent k key n (serve_result (w key) n s id b).session (closes (serve_result (w key) n s id b).outcome) e;
+      realm = own_realm k key w v _ _ e (ap (λ o. (serve_result o n s id b).origin) here);
     })
 
 both_followed : (k : ManagerKey) (w v : World) (name : List ℕ) (x y : Stepped) → Follows k w v → Alike k x y → Follows k (stepping w name x).world (stepping v name y).world

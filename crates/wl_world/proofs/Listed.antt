@@ -20,7 +20,7 @@ use mathlib.Core.Path.{fun_ext}
 use Rattle.wl_origin.specs.Manager.{exact_managers, manager_cmp, manager_cmp_total}
 use Rattle.wl_origin.specs.declared.manager_key.ManagerKey.{ManagerKey}
 use Rattle.wl_machine.specs.State.{State}
-use Rattle.wl_world.specs.Cores.{AreCoresOf, listed, or_unused}
+use Rattle.wl_world.specs.Cores.{AreCoresOf, core_list, or_unused}
 use Rattle.wl_world.specs.Origins.{Core, Origin}
 use Rattle.wl_world.specs.Realms.{seen}
 use Rattle.wl_world.specs.World.{World}
@@ -89,7 +89,7 @@ core_of entries (Some origin) = refl
 
 -- cores that were listed, and then sorted by their keys
 pub sorted_cores : {C : Type 0} (state : C → State) (entries : C → Option ℕ) (origins : List (ManagerKey × Origin)) (cores cores2 : List (ManagerKey × C)) → IsDistinct (eq_by_cmp manager_cmp) (keys_of origins)
-    → listed state entries cores ≡ cores_of origins → IsPermutation cores cores2 → IsSortedByKey (λ entry. entry.0) manager_cmp cores2 → IsStrictlySortedBy manager_cmp (keys_of (listed state entries cores2))
+    → core_list state entries cores ≡ cores_of origins → IsPermutation cores cores2 → IsSortedByKey (λ entry. entry.0) manager_cmp cores2 → IsStrictlySortedBy manager_cmp (keys_of (core_list state entries cores2))
 sorted_cores {C} state entries origins cores cores2 distinct are moved sorted =
     let core : C → Core = λ c. record { state = state c; entries = entries c } in
     let same : keys_of cores ≡ keys_of origins = sym (keys_of-map_values core cores) ∙ ap keys_of are ∙ keys_of-map_values (λ (origin : Origin). origin.core) origins in
@@ -97,9 +97,9 @@ sorted_cores {C} state entries origins cores cores2 distinct are moved sorted =
     subst (IsStrictlySortedBy manager_cmp) (sym (keys_of-map_values core cores2)) (strictly cores2 sorted apart)
 
 pub moved_cores : {C : Type 0} (state : C → State) (entries : C → Option ℕ) (origins : List (ManagerKey × Origin)) (cores cores2 : List (ManagerKey × C))
-    → listed state entries cores ≡ cores_of origins → IsPermutation cores cores2 → IsPermutation (cores_of origins) (listed state entries cores2)
+    → core_list state entries cores ≡ cores_of origins → IsPermutation cores cores2 → IsPermutation (cores_of origins) (core_list state entries cores2)
 moved_cores {C} state entries origins cores cores2 are moved =
-    subst (λ l. IsPermutation l (listed state entries cores2)) are (IsPermutation-map (λ (entry : ManagerKey × C). (entry.0, record { state = state entry.1; entries = entries entry.1 })) cores cores2 moved)
+    subst (λ l. IsPermutation l (core_list state entries cores2)) are (IsPermutation-map (λ (entry : ManagerKey × C). (entry.0, record { state = state entry.1; entries = entries entry.1 })) cores cores2 moved)
 
 pub stands : {T E : Type 0} (cores_in : T → List (ManagerKey × Core)) (entries : Option ℕ) (world : World) (origins : List (ManagerKey × Origin)) (result : Result T E)
     → world.realm ≡ (λ key. seen entries (lookup (eq_by_cmp manager_cmp key) origins))

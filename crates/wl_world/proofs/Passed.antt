@@ -15,8 +15,8 @@ use Rattle.std.proofs.lemmas.Option.{none-some}
 use Rattle.wl_types.specs.declared.phases.Change.{Change}
 use Rattle.wl_machine.proofs.Covers.{all_above, equal, turned}
 use Rattle.wl_world.specs.declared.requests.Request.{Request}
-use Rattle.wl_world.specs.Requests.{has_ended, told, with_change, without, without_news}
-use Rattle.wl_world.specs.Rolls.{IsEach, found, leave_one, tell_one}
+use Rattle.wl_world.specs.Requests.{has_ended, after_collect, with_change, without, without_change}
+use Rattle.wl_world.specs.AgentIndex.{IsEach, found, close_one, collect_one}
 
 -- ---- numbers in order
 
@@ -119,30 +119,30 @@ values_each f es fs s t each = ap values_of (same_entries fs (passed f es) t (so
 -- ---- the lists of the three things that are done
 
 module _ (es fs : List (ℕ × Request)) (s : IsStrictlySortedBy nat_cmp (keys_of es)) (t : IsStrictlySortedBy nat_cmp (keys_of fs)) where
-  pub told_values : (agent : ℕ) → IsEach (tell_one agent) es fs → values_of fs ≡ told agent (values_of es)
-  told_values agent each = values_each (tell_one agent) es fs s t each ∙ all (values_of es)
+  pub collect_values : (agent : ℕ) → IsEach (collect_one agent) es fs → values_of fs ≡ after_collect agent (values_of es)
+  collect_values agent each = values_each (collect_one agent) es fs s t each ∙ all (values_of es)
     where
-      all : (rs : List Request) → filter_map (tell_one agent) rs ≡ told agent rs
+      all : (rs : List Request) → filter_map (collect_one agent) rs ≡ after_collect agent rs
       all [] = refl
       all (r ∷ rs) = by (has_ended agent r) refl (all rs)
         where
-          by : (b : Bool) → has_ended agent r ≡ b → filter_map (tell_one agent) rs ≡ told agent rs → filter_map (tell_one agent) (r ∷ rs) ≡ told agent (r ∷ rs)
+          by : (b : Bool) → has_ended agent r ≡ b → filter_map (collect_one agent) rs ≡ after_collect agent rs → filter_map (collect_one agent) (r ∷ rs) ≡ after_collect agent (r ∷ rs)
           by true h rest = rw h rest
-          by false h rest = rw h (ap (λ l. without_news agent r ∷ l) rest)
+          by false h rest = rw h (ap (λ l. without_change agent r ∷ l) rest)
 
-  pub left_values : (agent : ℕ) → IsEach (leave_one agent) es fs → values_of fs ≡ without agent (values_of es)
-  left_values agent each = values_each (leave_one agent) es fs s t each ∙ all (values_of es)
+  pub left_values : (agent : ℕ) → IsEach (close_one agent) es fs → values_of fs ≡ without agent (values_of es)
+  left_values agent each = values_each (close_one agent) es fs s t each ∙ all (values_of es)
     where
-      all : (rs : List Request) → filter_map (leave_one agent) rs ≡ without agent rs
+      all : (rs : List Request) → filter_map (close_one agent) rs ≡ without agent rs
       all [] = refl
       all (r ∷ rs) = by (r.agent == agent) refl (all rs)
         where
-          by : (b : Bool) → (r.agent == agent) ≡ b → filter_map (leave_one agent) rs ≡ without agent rs → filter_map (leave_one agent) (r ∷ rs) ≡ without agent (r ∷ rs)
+          by : (b : Bool) → (r.agent == agent) ≡ b → filter_map (close_one agent) rs ≡ without agent rs → filter_map (close_one agent) (r ∷ rs) ≡ without agent (r ∷ rs)
           by true h rest = rw h rest
           by false h rest = rw h (ap (λ l. r ∷ l) rest)
 
-  pub noted_values : (change : Change) → IsEach (λ r. Some (with_change change r)) es fs → values_of fs ≡ map (with_change change) (values_of es)
-  noted_values change each = values_each (λ r. Some (with_change change r)) es fs s t each ∙ all (values_of es)
+  pub with_change_values : (change : Change) → IsEach (λ r. Some (with_change change r)) es fs → values_of fs ≡ map (with_change change) (values_of es)
+  with_change_values change each = values_each (λ r. Some (with_change change r)) es fs s t each ∙ all (values_of es)
     where
       all : (rs : List Request) → filter_map (λ r. Some (with_change change r)) rs ≡ map (with_change change) rs
       all [] = refl

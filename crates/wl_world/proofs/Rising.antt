@@ -5,9 +5,9 @@ use Rattle.wl_types.specs.declared.phases.Change.{Change}
 use Rattle.wl_types.specs.declared.phases.Phase.{Phase}
 use Rattle.std.specs.Prelude.{◌==◌}
 use Rattle.std.specs.List.{flat_map}
-use Rattle.wl_session.specs.Told.{IsFrom, Look}
+use Rattle.wl_session.specs.LastReported.{IsFrom, RequestPhase}
 use Rattle.wl_world.specs.declared.requests.Request.{Request}
-use Rattle.wl_world.specs.Requests.{IsRising, has_ended, look_of, news_of, noted, told, with_change, without_news}
+use Rattle.wl_world.specs.Requests.{IsRising, has_ended, observation_of, changed_requests, with_changes, after_collect, with_change, without_change}
 use Rattle.wl_world.specs.Origins.{as_taken}
 
 pub higher : (low high top : ℕ) (requests : List Request) → high ≤ top → IsRising low high requests → IsRising low top requests
@@ -38,46 +38,46 @@ mapped f same low high (request ∷ requests) (from, below, rest) =
     subst (λ n. (low ≤ n) × (n < high) × IsRising (n + 1) high (map f requests)) (sym (same request)) (from, below, mapped f same (request.number + 1) high requests rest)
 
 -- what keeps numbers
-changed : (change : Change) (request : Request) → (with_change change request).number ≡ request.number
-changed change request = go (request.number == change.id)
+same_numbers : (change : Change) (request : Request) → (with_change change request).number ≡ request.number
+same_numbers change request = go (request.number == change.id)
   where
-    go : (c : Bool) → (if c then record request { news = Some change.phase } else request).number ≡ request.number
+    go : (c : Bool) → (if c then record request { changed = Some change.phase } else request).number ≡ request.number
     go true = refl
     go false = refl
 
-cleared : (agent : ℕ) (request : Request) → (without_news agent request).number ≡ request.number
+cleared : (agent : ℕ) (request : Request) → (without_change agent request).number ≡ request.number
 cleared agent request = go (request.agent == agent)
   where
-    go : (c : Bool) → (if c then record request { news = None } else request).number ≡ request.number
+    go : (c : Bool) → (if c then record request { changed = None } else request).number ≡ request.number
     go true = refl
     go false = refl
 
-pub noted_rising : (low high : ℕ) (changes : List Change) (requests : List Request) → IsRising low high requests → IsRising low high (noted changes requests)
-noted_rising low high [] requests r = r
-noted_rising low high (change ∷ changes) requests r = noted_rising low high changes (map (with_change change) requests) (mapped (with_change change) (changed change) low high requests r)
+pub with_changes_rising : (low high : ℕ) (changes : List Change) (requests : List Request) → IsRising low high requests → IsRising low high (with_changes changes requests)
+with_changes_rising low high [] requests r = r
+with_changes_rising low high (change ∷ changes) requests r = with_changes_rising low high changes (map (with_change change) requests) (mapped (with_change change) (same_numbers change) low high requests r)
 
-pub told_rising : (agent low high : ℕ) (requests : List Request) → IsRising low high requests → IsRising low high (told agent requests)
-told_rising agent low high requests r =
-    mapped (without_news agent) (cleared agent) low high _ (filtered (λ request. not (has_ended agent request)) low high requests r)
+pub collect_rising : (agent low high : ℕ) (requests : List Request) → IsRising low high requests → IsRising low high (after_collect agent requests)
+collect_rising agent low high requests r =
+    mapped (without_change agent) (cleared agent) low high _ (filtered (λ request. not (has_ended agent request)) low high requests r)
 
--- the news of an agent stands by number
-from_lower : (floor low : ℕ) (looks : List Look) → floor ≤ low → IsFrom low looks → IsFrom floor looks
+-- the changed requests of an agent stand by number
+from_lower : (floor low : ℕ) (observed : List RequestPhase) → floor ≤ low → IsFrom low observed → IsFrom floor observed
 from_lower floor low [] le f = tt
-from_lower floor low (look ∷ looks) le (from, rest) = (omega arith, rest)
+from_lower floor low (observation ∷ observed) le (from, rest) = (omega arith, rest)
 
-pub news_rising : (agent low high : ℕ) (requests : List Request) → IsRising low high requests → IsFrom low (news_of agent requests)
-news_rising agent low high [] r = tt
-news_rising agent low high (request ∷ requests) (from, below, rest) = mine (request.agent == agent) (news_rising agent (request.number + 1) high requests rest)
+pub changed_rising : (agent low high : ℕ) (requests : List Request) → IsRising low high requests → IsFrom low (changed_requests agent requests)
+changed_rising agent low high [] r = tt
+changed_rising agent low high (request ∷ requests) (from, below, rest) = mine (request.agent == agent) (changed_rising agent (request.number + 1) high requests rest)
   where
-    new : (news : Option Phase) → IsFrom (request.number + 1) (news_of agent requests) → IsFrom low (look_of request.number news ++ news_of agent requests)
+    new : (changed : Option Phase) → IsFrom (request.number + 1) (changed_requests agent requests) → IsFrom low (observation_of request.number changed ++ changed_requests agent requests)
     new None f = from_lower low (request.number + 1) _ (omega arith) f
     new (Some phase) f = (from, f)
 
-    mine : (c : Bool) → IsFrom (request.number + 1) (news_of agent requests)
-        → IsFrom low (flat_map (λ request. look_of request.number request.news) (if c then request ∷ filter (λ request. request.agent == agent) requests else filter (λ request. request.agent == agent) requests))
-    mine true f = new request.news f
+    mine : (c : Bool) → IsFrom (request.number + 1) (changed_requests agent requests)
+        → IsFrom low (flat_map (λ request. observation_of request.number request.changed) (if c then request ∷ filter (λ request. request.agent == agent) requests else filter (λ request. request.agent == agent) requests))
+    mine true f = new request.changed f
     mine false f = from_lower low (request.number + 1) _ (omega arith) f
 
-pub taken_rising : (low : ℕ) (looks : List Look) → IsFrom low looks → IsFrom low (map as_taken looks)
+pub taken_rising : (low : ℕ) (observed : List RequestPhase) → IsFrom low observed → IsFrom low (map as_taken observed)
 taken_rising low [] f = tt
-taken_rising low (look ∷ looks) (from, rest) = (from, taken_rising (look.0 + 1) looks rest)
+taken_rising low (observation ∷ observed) (from, rest) = (from, taken_rising (observation.0 + 1) observed rest)

@@ -13,7 +13,7 @@ use Rattle.wl_number_map.proofs.Keyed.{same_number}
 use Rattle.wl_machine.proofs.Covers.{alike}
 use Rattle.wl_world.specs.declared.requests.Request.{Request}
 use Rattle.wl_world.specs.Requests.{has_ended}
-use Rattle.wl_world.specs.Rolls.{IsCovered, IsEach, IsEachAt, found, leave_one, tell_one}
+use Rattle.wl_world.specs.AgentIndex.{IsCovered, IsEach, IsEachAt, found, close_one, collect_one}
 
 -- ---- one number
 
@@ -98,19 +98,19 @@ all_done f start now way q = elim (way.covered q) [ inl settled ↦ sym settled 
 pub none_left : (f : Request → Option Request) (live : List (ℕ × Request)) → IsCovered f live [] → IsEach f live live
 none_left f live covered = all_done f live live (record { same = λ q. refl; covered = covered })
 
-pub told_twice : (agent : ℕ) → IsIdempotent (tell_one agent)
-told_twice agent None = refl
-told_twice agent (Some r) = by (has_ended agent r) (r.agent == agent) refl
+pub collect_twice : (agent : ℕ) → IsIdempotent (collect_one agent)
+collect_twice agent None = refl
+collect_twice agent (Some r) = by (has_ended agent r) (r.agent == agent) refl
   where
-    by : (b c : Bool) → (r.agent == agent) ≡ c → option_and_then (tell_one agent) (cond b None (Some (cond c (record r { news = None }) r))) ≡ cond b None (Some (cond c (record r { news = None }) r))
+    by : (b c : Bool) → (r.agent == agent) ≡ c → option_and_then (collect_one agent) (cond b None (Some (cond c (record r { changed = None }) r))) ≡ cond b None (Some (cond c (record r { changed = None }) r))
     by true c h = refl
     by false true h = rw h refl
     by false false h = rw h refl
 
-pub left_twice : (agent : ℕ) → IsIdempotent (leave_one agent)
+pub left_twice : (agent : ℕ) → IsIdempotent (close_one agent)
 left_twice agent None = refl
 left_twice agent (Some r) = by (r.agent == agent) refl
   where
-    by : (b : Bool) → (r.agent == agent) ≡ b → option_and_then (leave_one agent) (cond b None (Some r)) ≡ cond b None (Some r)
+    by : (b : Bool) → (r.agent == agent) ≡ b → option_and_then (close_one agent) (cond b None (Some r)) ≡ cond b None (Some r)
     by true h = refl
     by false h = rw h refl

@@ -19,7 +19,7 @@ use Rattle.wl_session.specs.Step as session
 use Rattle.wl_world.specs.declared.label.Label.{Label}
 use Rattle.wl_world.specs.declared.label.Label.TheVariants.{Agent, Opaque}
 use Rattle.wl_world.specs.Origins.{Origin, Acted, admitted}
-use Rattle.wl_world.specs.Agents.{Served, served}
+use Rattle.wl_world.specs.Agents.{Served, serve_result}
 
 abbrev pub closes : Outcome → Bool
 closes (outcome.Client c) = false
@@ -64,13 +64,13 @@ after_closing o label = if closes o then None else Some label
 abbrev pub stays_unopened : Realm → ℕ → Outcome → Stepped
 stays_unopened realm id o = record { realm = realm; label = None; reply = plain (Some id) o }
 
--- an agent that was accepted has its number, and was told nothing
-abbrev pub entered : ManagerKey → Outcome → Option Label
-entered key (outcome.Client (Some n)) = Some (Agent key n (record { is_open = true; told = [] }))
-entered key o = None
+-- an agent that was accepted has its number, and nothing was reported to it
+abbrev pub label_of : ManagerKey → Outcome → Option Label
+label_of key (outcome.Client (Some n)) = Some (Agent key n (record { is_open = true; last_reported = [] }))
+label_of key o = None
 
-abbrev pub entering : Realm → ℕ → ManagerKey → Acted → Stepped
-entering realm id key a = record { realm = with_origin realm key a.origin; label = entered key a.outcome; reply = plain (Some id) a.outcome }
+abbrev pub at_new_agent : Realm → ℕ → ManagerKey → Acted → Stepped
+at_new_agent realm id key a = record { realm = with_origin realm key a.origin; label = label_of key a.outcome; reply = plain (Some id) a.outcome }
 
 -- a text gives no third fault
 abbrev pub fault_outcome : ManagerFault → Outcome
@@ -81,7 +81,7 @@ fault_outcome fault.Memory = outcome.BadUrl
 abbrev pub opened : Realm → ℕ → Kind → Result (Option ManagerKey) ManagerFault → Stepped
 opened realm id kind (Err wrong) = stays_unopened realm id (fault_outcome wrong)
 opened realm id kind (Ok None) = record { realm = realm; label = Some (Opaque kind true); reply = plain (Some id) (outcome.Client None) }
-opened realm id kind (Ok (Some key)) = entering realm id key (admitted (realm key) kind)
+opened realm id kind (Ok (Some key)) = at_new_agent realm id key (admitted (realm key) kind)
 
 abbrev pub from_unopened : Realm → ℕ → Body → Stepped
 from_unopened realm id (body.Enter url kind bucket) = opened realm id kind (manager_of url bucket)
@@ -93,7 +93,7 @@ abbrev pub at_key : Realm → ManagerKey → ℕ → Served → Stepped
 at_key realm key n x = record { realm = with_origin realm key x.origin; label = after_closing x.outcome (Agent key n x.session); reply = x.reply }
 
 abbrev pub from_agent : Realm → ManagerKey → ℕ → session.State → ℕ → Body → Stepped
-from_agent realm key n s id b = at_key realm key n (served (realm key) n s id b)
+from_agent realm key n s id b = at_key realm key n (serve_result (realm key) n s id b)
 
 -- ---- agents of opaque origins
 

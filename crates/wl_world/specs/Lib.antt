@@ -1,5 +1,5 @@
 pub mod Requests
-pub mod Rolls
+pub mod AgentIndex
 pub mod Origins
 pub mod Views
 pub mod Agents

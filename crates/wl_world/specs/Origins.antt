@@ -16,16 +16,16 @@ use Rattle.wl_codec.specs.declared.message.Body.{Body}
 use Rattle.wl_codec.specs.declared.message.Body.TheVariants as body
 use Rattle.wl_codec.specs.declared.reply.Outcome.{Outcome}
 use Rattle.wl_codec.specs.declared.reply.Outcome.TheVariants as outcome
-use Rattle.wl_session.specs.Told.{Look}
+use Rattle.wl_session.specs.LastReported.{RequestPhase}
 use Rattle.wl_world.specs.declared.requests.Request.{Request}
-use Rattle.wl_world.specs.Requests.{noted, listed, told}
+use Rattle.wl_world.specs.Requests.{with_changes, after_answer, after_collect}
 
 -- what is seen of a core: the machine's state, and how many entries its journal has had, where it keeps one
 pub record Core : Type 0 where
   pub state : State
   pub entries : Option ℕ
 
--- a core, and the requests whose ends were not told
+-- a core, and the requests whose ends were not reported
 pub record Origin : Type 0 where
   pub core : Core
   pub requests : List Request
@@ -59,13 +59,13 @@ outcome_of b (reply.Seen snapshot) = outcome.Seen snapshot
 outcome_of b (reply.Refused refusal) = outcome.Refused refusal
 
 -- a core after what the machine gave
-abbrev pub after : Core → machine.Outcome → Core
+abbrev pub after : Core → machine.StepResult → Core
 after core gives = record { state = gives.state; entries = with_entry gives.reply core.entries }
 
 -- what the machine gave is noted
-abbrev pub noting : Origin → ℕ → Body → machine.Outcome → Acted
+abbrev pub noting : Origin → ℕ → Body → machine.StepResult → Acted
 noting o agent b gives = record {
-  origin = record { core = after o.core gives; requests = noted gives.changes (listed agent (outcome_of b gives.reply) o.requests) };
+  origin = record { core = after o.core gives; requests = with_changes gives.changes (after_answer agent (outcome_of b gives.reply) o.requests) };
   outcome = outcome_of b gives.reply;
 }
 
@@ -100,12 +100,12 @@ is_granted Released = false
 is_granted Stolen = false
 
 -- a lock that is granted is taken, as its agent is told of it now
-abbrev pub take_look : Core → Look → Core
-take_look core look = if is_granted look.1 then after core (machine.step core.state (command.Take look.0)) else core
+abbrev pub take_observed : Core → RequestPhase → Core
+take_observed core observation = if is_granted observation.1 then after core (machine.step core.state (command.Take observation.0)) else core
 
-abbrev pub as_taken : Look → Look
-as_taken look = (look.0, (if is_granted look.1 then Taken else look.1))
+abbrev pub as_taken : RequestPhase → RequestPhase
+as_taken observation = (observation.0, (if is_granted observation.1 then Taken else observation.1))
 
--- The agent is told its news: each granted lock in it is taken, in order of number.
-unfoldable pub telling : ℕ → List Look → Origin → Origin
-telling agent news o = record { core = fold take_look o.core news; requests = told agent o.requests }
+-- The agent's changed requests are collected: each granted lock among them is taken, in order of number.
+unfoldable pub origin_after_collect : ℕ → List RequestPhase → Origin → Origin
+origin_after_collect agent changed o = record { core = fold take_observed o.core changed; requests = after_collect agent o.requests }

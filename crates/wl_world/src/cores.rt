@@ -6,7 +6,7 @@ ghost use Rattle.std.specs.List.Sorted.{IsPermutation, IsSortedByKey, IsStrictly
 ghost use Rattle.std.specs.Map.{keys_of};
 ghost use Rattle.std.specs.Ordering.{eq_by_cmp};
 ghost use Rattle.wl_origin.specs.Manager.{manager_cmp};
-ghost use Rattle.wl_world.specs.Cores.{listed};
+ghost use Rattle.wl_world.specs.Cores.{core_list};
 
 use crate::origin::Origin;
 use std::alloc::Global;
@@ -21,7 +21,7 @@ fn list_cores<C: LockCore>(
     realm: HashMap<ManagerKey, Origin<C>>,
 ) -> Result<Vec<(ManagerKey, C)>, Memory>
     ensures distinct { OnOk result (IsDistinct (eq_by_cmp manager_cmp) (keys_of realm.entries)) }
-    ensures cores { IfOk result (λ cores. listed C.state C.entries cores.items ≡ map (λ entry. (entry.0, entry.1.core)) realm.entries) }
+    ensures cores { IfOk result (λ cores. core_list C.state C.entries cores.items ≡ map (λ entry. (entry.0, entry.1.core)) realm.entries) }
 {
     let mut cores = Vec::with_capacity(alloc, realm.len())?;
     for (key, origin) in realm {
@@ -44,8 +44,8 @@ pub(crate) fn take_cores<C: LockCore>(
     realm: HashMap<ManagerKey, Origin<C>>,
 ) -> Result<Vec<(ManagerKey, C)>, Memory>
     ensures distinct { OnOk result (IsDistinct (eq_by_cmp manager_cmp) (keys_of realm.entries)) }
-    ensures in_order { IfOk result (λ cores. IsStrictlySortedBy manager_cmp (keys_of (listed C.state C.entries cores.items))) }
-    ensures cores { IfOk result (λ cores. IsPermutation (map (λ entry. (entry.0, entry.1.core)) realm.entries) (listed C.state C.entries cores.items)) }
+    ensures in_order { IfOk result (λ cores. IsStrictlySortedBy manager_cmp (keys_of (core_list C.state C.entries cores.items))) }
+    ensures cores { IfOk result (λ cores. IsPermutation (map (λ entry. (entry.0, entry.1.core)) realm.entries) (core_list C.state C.entries cores.items)) }
 {
     let mut cores = list_cores(alloc, realm)?;
     sort_cores(&mut cores);

@@ -1,7 +1,7 @@
 //! What answers the lines of a script.
 
 ghost use Rattle.std.specs.Prelude.{◌≡◌, IfOk, OnOk, string_bytes};
-ghost use Rattle.wl_world.specs.Cores.{AreCoresOf, listed};
+ghost use Rattle.wl_world.specs.Cores.{AreCoresOf, core_list};
 ghost use Rattle.wl_world.specs.World.{next, opening_with, reply};
 ghost use Rattle.wl_world.specs.Worlds.{world_of};
 
@@ -66,9 +66,9 @@ impl<S: Copy + Drop, C: LockCore<Seed = S>> Engine<C> {
         }
     }
 
-    /// The cores of the managers that agents entered, in the order of their keys.
+    /// The cores of the managers in which agents opened, in the order of their keys.
     pub fn into_cores(self) -> Result<Vec<(ManagerKey, C)>, Memory>
-        ensures { IfOk result (λ cores. AreCoresOf C.no_entries (world_of C.no_entries self) (listed C.state C.entries cores.items)) }
+        ensures { IfOk result (λ cores. AreCoresOf C.no_entries (world_of C.no_entries self) (core_list C.state C.entries cores.items)) }
     {
         take_cores(self.supplies.alloc, self.realm)
     }

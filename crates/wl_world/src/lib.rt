@@ -1,6 +1,7 @@
 //! The world of a script: the managers of all buckets of all origins, and what each label is.
 #![tactic(auto)]
 
+mod agent_index;
 mod answer;
 mod cores;
 mod engine;
@@ -12,7 +13,6 @@ mod open_label;
 mod origin;
 mod realm;
 mod requests;
-mod rolls;
 mod steps;
 mod supplies;
 

@@ -2,13 +2,13 @@
 
 ghost use Rattle.std.specs.Prelude.{◌≡◌, IfOk, OnOk, string_bytes, Some, None};
 ghost use Rattle.wl_codec.specs.Replies.{reply_text};
-ghost use Rattle.wl_world.specs.Labels.{entered, from_unopened, plain};
+ghost use Rattle.wl_world.specs.Labels.{label_of, from_unopened, plain};
 ghost use Rattle.wl_world.specs.Realms.{realm_of};
 
 use crate::answer::plain_text;
 use crate::label::Label;
 use crate::origin::Origin;
-use crate::realm::enter_at;
+use crate::realm::open_agent_at;
 use crate::supplies::Supplies;
 use std::alloc::Global;
 use std::collections::HashMap;
@@ -35,9 +35,9 @@ fn refuse(alloc: Global, id: u64, outcome: Outcome) -> Result<Opening, Memory>
 }
 
 /// The label of a new agent.
-fn entered(alloc: Global, key: ManagerKey, id: u64, outcome: Outcome) -> Result<Opening, Memory>
+fn label_of(alloc: Global, key: ManagerKey, id: u64, outcome: Outcome) -> Result<Opening, Memory>
     ensures text { IfOk result (λ opening. string_bytes opening.text ≡ reply_text (plain (Some id) outcome)) }
-    ensures label { IfOk result (λ opening. opening.label ≡ entered key outcome) }
+    ensures label { IfOk result (λ opening. opening.label ≡ label_of key outcome) }
 {
     let agent = match &outcome {
         Outcome::Client(Some(agent)) => *agent,
@@ -68,8 +68,8 @@ pub(crate) fn open_label<S: Copy + Drop, C: LockCore<Seed = S>>(
     };
     match manager_of_text(supplies.alloc, url.as_str(), bucket) {
         Ok(Some(key)) => {
-            let outcome = enter_at(supplies, realm, &key, kind)?;
-            entered(supplies.alloc, key, id, outcome)
+            let outcome = open_agent_at(supplies, realm, &key, kind)?;
+            label_of(supplies.alloc, key, id, outcome)
         }
         Ok(None) => {
             let text = plain_text(supplies.alloc, Some(id), Outcome::Client(None))?;

@@ -2,10 +2,10 @@
 
 ghost use Rattle.std.specs.Prelude.{◌≡◌, IfOk, OnOk, map};
 ghost use Rattle.std.specs.List.{fold};
-ghost use Rattle.wl_session.specs.Told.{IsByNumber};
-ghost use Rattle.wl_world.specs.Origins.{act, admitted, as_taken, is_granted, take_look, telling, unused};
-ghost use Rattle.wl_world.specs.Requests.{news_of};
-ghost use Rattle.wl_world.specs.Views.{core as seen, made_of};
+ghost use Rattle.wl_session.specs.LastReported.{IsByNumber};
+ghost use Rattle.wl_world.specs.Origins.{act, admitted, as_taken, is_granted, take_observed, origin_after_collect, unused};
+ghost use Rattle.wl_world.specs.Requests.{changed_requests};
+ghost use Rattle.wl_world.specs.Views.{core as seen, act_result_of};
 
 use crate::requests::Requests;
 use crate::steps::{accept, operate, refusal_outcome};
@@ -16,7 +16,7 @@ use wl_codec::{Body, Outcome};
 use wl_core::LockCore;
 use wl_types::{Kind, Memory, Numbers, Phase};
 
-/// A core, and the requests whose ends were not told. After a want of memory it promises nothing more.
+/// A core, and the requests whose ends were not reported. After a want of memory it promises nothing more.
 #[derive(Drop)]
 pub(crate) struct Origin<C: LockCore> {
     core: C,
@@ -60,8 +60,8 @@ impl<C: LockCore> Origin<C> {
     }
 
     /// A new agent, which the machine numbers.
-    pub(crate) fn enter(&mut self, kind: Kind) -> Result<Outcome, Memory>
-        ensures { IfOk result (λ outcome. made_of self.new outcome ≡ admitted self.old kind) }
+    pub(crate) fn open_agent(&mut self, kind: Kind) -> Result<Outcome, Memory>
+        ensures { IfOk result (λ outcome. act_result_of self.new outcome ≡ admitted self.old kind) }
     {
         let agent = match self.core.open(kind) {
             Ok(agent) => agent,
@@ -72,7 +72,7 @@ impl<C: LockCore> Origin<C> {
 
     /// Does what an agent asks for.
     pub(crate) fn act(&mut self, agent: u64, body: &Body) -> Result<Outcome, Memory>
-        ensures { IfOk result (λ outcome. made_of self.new outcome ≡ act self.old agent body.now) }
+        ensures { IfOk result (λ outcome. act_result_of self.new outcome ≡ act self.old agent body.now) }
     {
         let outcome = match operate(&mut self.core, agent, body) {
             Ok(outcome) => outcome,
@@ -82,36 +82,36 @@ impl<C: LockCore> Origin<C> {
         Ok(outcome)
     }
 
-    /// Tells the agent its news, by number: takes each granted lock in it.
-    #[tactic(auto, unfolding(crate::specs::Origins::telling))]
-    pub(crate) fn tell(&mut self, alloc: Global, agent: u64) -> Result<Vec<(u64, Phase)>, Memory>
-        ensures told { OnOk result (self.new ≡ telling agent (news_of agent self.old.requests) self.old) }
-        ensures taken { IfOk result (λ news. news.items ≡ map as_taken (news_of agent self.old.requests)) }
-        ensures by_number { IfOk result (λ news. IsByNumber news.items) }
+    /// Collects the agent's changed requests, by number: takes each granted lock among them.
+    #[tactic(auto, unfolding(crate::specs::Origins::origin_after_collect))]
+    pub(crate) fn collect(&mut self, alloc: Global, agent: u64) -> Result<Vec<(u64, Phase)>, Memory>
+        ensures after_collect { OnOk result (self.new ≡ origin_after_collect agent (changed_requests agent self.old.requests) self.old) }
+        ensures taken { IfOk result (λ changed. changed.items ≡ map as_taken (changed_requests agent self.old.requests)) }
+        ensures by_number { IfOk result (λ changed. IsByNumber changed.items) }
     {
-        let mut news = self.requests.tell(alloc, agent)?;
-        take_all(&mut self.core, &mut news);
-        Ok(news)
+        let mut changed = self.requests.collect(alloc, agent)?;
+        take_all(&mut self.core, &mut changed);
+        Ok(changed)
     }
 }
 
 /// Takes each lock that is granted, in order.
-fn take_all<C: LockCore>(core: &mut C, news: &mut [(u64, Phase)])
-    ensures core { seen (C.state core.new) (C.entries core.new) ≡ fold take_look (seen (C.state core.old) (C.entries core.old)) news.old }
-    ensures taken { news.new ≡ map as_taken news.old }
+fn take_all<C: LockCore>(core: &mut C, changed: &mut [(u64, Phase)])
+    ensures core { seen (C.state core.new) (C.entries core.new) ≡ fold take_observed (seen (C.state core.old) (C.entries core.old)) changed.old }
+    ensures taken { changed.new ≡ map as_taken changed.old }
 {
-    for look in news.iter_mut() {
-        take_one(core, look);
+    for observation in changed.iter_mut() {
+        take_one(core, observation);
     }
 }
 
-fn take_one<C: LockCore>(core: &mut C, look: &mut (u64, Phase))
-    ensures core { seen (C.state core.new) (C.entries core.new) ≡ take_look (seen (C.state core.old) (C.entries core.old)) look.old }
-    ensures taken { look.new ≡ as_taken look.old }
+fn take_one<C: LockCore>(core: &mut C, observation: &mut (u64, Phase))
+    ensures core { seen (C.state core.new) (C.entries core.new) ≡ take_observed (seen (C.state core.old) (C.entries core.old)) observation.old }
+    ensures taken { observation.new ≡ as_taken observation.old }
 {
-    if is_granted(look.1) {
-        core.take(look.0);
-        look.1 = Phase::Taken;
+    if is_granted(observation.1) {
+        core.take(observation.0);
+        observation.1 = Phase::Taken;
     }
 }
 

@@ -5,7 +5,7 @@ ghost use Rattle.std.specs.HashMap.{get};
 ghost use Rattle.std.specs.Ordering.{eq_by_cmp};
 ghost use Rattle.wl_codec.specs.Replies.{reply_text};
 ghost use Rattle.wl_origin.specs.Manager.{manager_cmp};
-ghost use Rattle.wl_world.specs.Agents.{served};
+ghost use Rattle.wl_world.specs.Agents.{serve_result};
 ghost use Rattle.wl_world.specs.Labels.{closes, with_origin};
 ghost use Rattle.wl_world.specs.Origins.{admitted};
 ghost use Rattle.wl_world.specs.Realms.{realm_of};
@@ -18,7 +18,7 @@ use std::collections::HashMap;
 use wl_codec::{Body, Outcome};
 use wl_core::LockCore;
 use wl_origin::ManagerKey;
-use wl_session::{InTime, SessionOf, tells};
+use wl_session::{InTime, SessionOf, carries_notices};
 use wl_types::{Kind, Memory};
 
 /// Makes the manager of a key that has none. Until it is used it stands for none.
@@ -40,7 +40,7 @@ fn seat<S: Copy + Drop, C: LockCore<Seed = S>>(
 }
 
 /// A line of an agent of this manager.
-#[tactic(auto, unfolding(crate::specs::Agents::served))]
+#[tactic(auto, unfolding(crate::specs::Agents::serve_result))]
 pub(crate) fn serve_at<S: Copy + Drop, C: LockCore<Seed = S>>(
     supplies: &Supplies<S>,
     realm: &mut HashMap<ManagerKey, Origin<C>>,
@@ -51,13 +51,13 @@ pub(crate) fn serve_at<S: Copy + Drop, C: LockCore<Seed = S>>(
     body: &Body,
 ) -> Result<Answer, Memory>
     ensures text { IfOk result (λ answer. string_bytes answer.text
-        ≡ reply_text (served (realm_of C.no_entries realm.old key.now) agent session.old id body.now).reply) }
+        ≡ reply_text (serve_result (realm_of C.no_entries realm.old key.now) agent session.old id body.now).reply) }
     ensures closed { IfOk result (λ answer. answer.closed
-        ≡ closes (served (realm_of C.no_entries realm.old key.now) agent session.old id body.now).outcome) }
+        ≡ closes (serve_result (realm_of C.no_entries realm.old key.now) agent session.old id body.now).outcome) }
     ensures realm { OnOk result (realm_of C.no_entries realm.new ≡ with_origin (realm_of C.no_entries realm.old) key.now
-        (served (realm_of C.no_entries realm.old key.now) agent session.old id body.now).origin) }
+        (serve_result (realm_of C.no_entries realm.old key.now) agent session.old id body.now).origin) }
     ensures session { OnOk result (session.new
-        ≡ (served (realm_of C.no_entries realm.old key.now) agent session.old id body.now).session) }
+        ≡ (serve_result (realm_of C.no_entries realm.old key.now) agent session.old id body.now).session) }
 {
     seat(supplies, realm, key)?;
     let Some(origin) = realm.get_mut(key) else {
@@ -65,17 +65,17 @@ pub(crate) fn serve_at<S: Copy + Drop, C: LockCore<Seed = S>>(
     };
     let outcome = origin.act(agent, body)?;
     let closed = closes(&outcome);
-    if !tells(&outcome) {
+    if !carries_notices(&outcome) {
         let text = session.finish_changed(Some(id), outcome, &[])?;
         return Ok(Answer { text, closed });
     }
-    let news = origin.tell(supplies.alloc, agent)?;
-    let text = session.finish_changed(Some(id), outcome, &news)?;
+    let changed = origin.collect(supplies.alloc, agent)?;
+    let text = session.finish_changed(Some(id), outcome, &changed)?;
     Ok(Answer { text, closed })
 }
 
 /// A new agent of this manager.
-pub(crate) fn enter_at<S: Copy + Drop, C: LockCore<Seed = S>>(
+pub(crate) fn open_agent_at<S: Copy + Drop, C: LockCore<Seed = S>>(
     supplies: &Supplies<S>,
     realm: &mut HashMap<ManagerKey, Origin<C>>,
     key: &ManagerKey,
@@ -87,7 +87,7 @@ pub(crate) fn enter_at<S: Copy + Drop, C: LockCore<Seed = S>>(
 {
     seat(supplies, realm, key)?;
     match realm.get_mut(key) {
-        Some(origin) => origin.enter(kind),
+        Some(origin) => origin.open_agent(kind),
         None => unreachable!(),
     }
 }

@@ -1,9 +1,9 @@
-//! The requests of a manager whose ends their agents were not told, each with what its agent is to learn of it.
+//! The requests of a manager whose ends were not reported to their agents, each with what its agent is to learn of it.
 
 ghost use Rattle.std.specs.Prelude.{◌≡◌, ◌++◌, ◌∷◌, [], IfOk, OnOk, OnErr};
-ghost use Rattle.wl_world.specs.Requests.{IsRising, news_of, noted, told, waiting, without};
+ghost use Rattle.wl_world.specs.Requests.{IsRising, changed_requests, with_changes, after_collect, waiting, without};
 
-use crate::rolls::{Roll, add, forget, leave, note_all, tell};
+use crate::agent_index::{AgentRequests, add, close, collect, forget, note_all};
 use std::alloc::Global;
 use std::marker::Model;
 use wl_number_map::NumberMap;
@@ -14,14 +14,14 @@ use wl_types::{Change, Memory, Phase};
 pub(crate) struct Request {
     pub number: u64,
     pub agent: u64,
-    pub news: Option<Phase>,
+    pub changed: Option<Phase>,
 }
 
 /// Requests in order of number. What is done costs what it changes or shows, whatever number of others there is.
 #[derive(Drop)]
 pub(crate) struct Requests {
     live: NumberMap<Request>,
-    rolls: NumberMap<Roll>,
+    agent_index: NumberMap<AgentRequests>,
     alloc: Global,
 }
 
@@ -29,13 +29,13 @@ impl Model for Requests {
     ghost use Rattle.std.specs.Prelude.{List};
     ghost use Rattle.std.specs.Map.{values_of};
     ghost use Rattle.wl_world.specs.declared.requests.Request.{Request};
-    ghost use Rattle.wl_world.specs.Rolls.{IsIndex};
+    ghost use Rattle.wl_world.specs.AgentIndex.{IsIndex};
 
     ghost Value = { List Request };
 
     ghost view = { λ requests. values_of requests.live.entries };
 
-    ghost invariant = { λ requests. IsIndex requests.live.entries requests.rolls.entries };
+    ghost invariant = { λ requests. IsIndex requests.live.entries requests.agent_index.entries };
 }
 
 impl Requests {
@@ -44,7 +44,7 @@ impl Requests {
     {
         Requests {
             live: NumberMap::new(alloc),
-            rolls: NumberMap::new(alloc),
+            agent_index: NumberMap::new(alloc),
             alloc,
         }
     }
@@ -52,53 +52,53 @@ impl Requests {
     /// A new request waits, before the changes. After a want of memory no request is left.
     pub(crate) fn add(&mut self, agent: u64, number: u64, changes: &[Change]) -> Result<(), Memory>
         requires greatest { IsRising 0 number self.old }
-        ensures ok { OnOk result (self.new ≡ noted changes.now (self.old ++ waiting agent number ∷ [])) }
+        ensures ok { OnOk result (self.new ≡ with_changes changes.now (self.old ++ waiting agent number ∷ [])) }
         ensures err { OnErr result (self.new ≡ []) }
     {
-        let (live, rolls) = (&mut self.live, &mut self.rolls);
-        let result = add(self.alloc, live, rolls, agent, number, changes);
+        let (live, agent_index) = (&mut self.live, &mut self.agent_index);
+        let result = add(self.alloc, live, agent_index, agent, number, changes);
         if result.is_err() {
-            forget(&mut self.live, &mut self.rolls);
+            forget(&mut self.live, &mut self.agent_index);
         }
         result
     }
 
-    /// Each change is news of the request that it names. After a want of memory no request is left.
+    /// Each change comes to the request that it names. After a want of memory no request is left.
     pub(crate) fn note(&mut self, changes: &[Change]) -> Result<(), Memory>
-        ensures ok { OnOk result (self.new ≡ noted changes.now self.old) }
+        ensures ok { OnOk result (self.new ≡ with_changes changes.now self.old) }
         ensures err { OnErr result (self.new ≡ []) }
     {
-        let result = note_all(&mut self.live, &mut self.rolls, changes);
+        let result = note_all(&mut self.live, &mut self.agent_index, changes);
         if result.is_err() {
-            forget(&mut self.live, &mut self.rolls);
+            forget(&mut self.live, &mut self.agent_index);
         }
         result
     }
 
-    /// The agent is told its news. After a want of memory no request is left.
-    pub(crate) fn tell(&mut self, alloc: Global, agent: u64) -> Result<Vec<(u64, Phase)>, Memory>
-        ensures news { IfOk result (λ news. news.items ≡ news_of agent self.old) }
-        ensures ok { OnOk result (self.new ≡ told agent self.old) }
+    /// The agent's changed requests are collected. After a want of memory no request is left.
+    pub(crate) fn collect(&mut self, alloc: Global, agent: u64) -> Result<Vec<(u64, Phase)>, Memory>
+        ensures changed { IfOk result (λ changed. changed.items ≡ changed_requests agent self.old) }
+        ensures ok { OnOk result (self.new ≡ after_collect agent self.old) }
         ensures err { OnErr result (self.new ≡ []) }
     {
-        let result = tell(alloc, &mut self.live, &mut self.rolls, agent);
+        let result = collect(alloc, &mut self.live, &mut self.agent_index, agent);
         if result.is_err() {
-            forget(&mut self.live, &mut self.rolls);
+            forget(&mut self.live, &mut self.agent_index);
         }
         result
     }
 
     /// The agent has left.
-    pub(crate) fn leave(&mut self, agent: u64)
+    pub(crate) fn close(&mut self, agent: u64)
         ensures { self.new ≡ without agent self.old }
     {
-        leave(&mut self.live, &mut self.rolls, agent);
+        close(&mut self.live, &mut self.agent_index, agent);
     }
 
     /// No request is left.
     pub(crate) fn clear(&mut self)
         ensures { self.new ≡ [] }
     {
-        forget(&mut self.live, &mut self.rolls);
+        forget(&mut self.live, &mut self.agent_index);
     }
 }

@@ -2,9 +2,9 @@
 
 ghost use Rattle.std.specs.Prelude.{◌≡◌, List, [], IfOk, OnErr, OnOk};
 ghost use Rattle.wl_world.specs.declared.requests.Request.{Request};
-ghost use Rattle.wl_world.specs.Requests.{noted, listed, IsRising};
-ghost use Rattle.wl_world.specs.Rolls.{IsNewest};
-ghost use Rattle.wl_world.specs.Views.{core as seen, fresh, Operates, Told};
+ghost use Rattle.wl_world.specs.Requests.{with_changes, after_answer, IsRising};
+ghost use Rattle.wl_world.specs.AgentIndex.{IsNewest};
+ghost use Rattle.wl_world.specs.Views.{core as seen, fresh, Operates, AnswersRefusal};
 
 use crate::requests::Requests;
 use wl_codec::{Body, Outcome};
@@ -43,7 +43,7 @@ pub(crate) fn operate<C: LockCore>(
 
 /// A refusal for want of memory is none of the machine.
 pub(crate) fn refusal_outcome(refusal: Refusal) -> Result<Outcome, Memory>
-    ensures { Told refusal result }
+    ensures { AnswersRefusal refusal result }
 {
     match refusal {
         Refusal::Memory => Err(Memory),
@@ -60,13 +60,13 @@ pub(crate) fn accept<C: LockCore>(
 ) -> Result<(), Memory>
     requires { IsNewest outcome.now requests.old }
     ensures ok { OnOk result (requests.new
-        ≡ noted (fresh outcome.now (C.recent core.now)) (listed agent outcome.now requests.old)) }
+        ≡ with_changes (fresh outcome.now (C.recent core.now)) (after_answer agent outcome.now requests.old)) }
     ensures err { OnErr result (requests.new ≡ []) }
 {
     match outcome {
         Outcome::Request(number) => requests.add(agent, *number, core.changes()),
         Outcome::Closed => {
-            requests.leave(agent);
+            requests.close(agent);
             requests.note(core.changes())
         }
         Outcome::Seen(_) | Outcome::Polled | Outcome::AlreadyOpen => Ok(()),

@@ -5,7 +5,7 @@ use std::hash::RandomState;
 use std::test::Fail;
 use wl_core::{Command, LockCore, PlainCore, apply, run_commands};
 use wl_index::{IndexCore, random_seed};
-use wl_samples::{lacks_memory, opening, reader_behind_writer, refused, signalled};
+use wl_test_support::{ask_with_signal, fail_refused, lacks_memory, opening, reader_behind_writer};
 use wl_types::{Kind, Memory, Refusal};
 
 /// A command that is refused memory leaves the core as it was, and is done when it is asked again.
@@ -15,7 +15,7 @@ fn try_command<C: LockCore>(core: &mut C, command: &Command) -> Result<(), Fail>
         return Ok(());
     }
     let is_as_before = core.copy_plain()? == before && core.changes().is_empty();
-    refused(is_as_before && !lacks_memory(&apply(core, command)))
+    fail_refused(is_as_before && !lacks_memory(&apply(core, command)))
 }
 
 /// An agent, its signal, a lock, and a request that waits for it.
@@ -23,7 +23,7 @@ fn command(alloc: Global, place: usize) -> Result<Command, Memory> {
     match place {
         0 => Ok(Command::Enter(Kind::Window)),
         1 => Ok(Command::NewSignal(1)),
-        _ => Ok(Command::Request(1, signalled(alloc, "db", 1)?)),
+        _ => Ok(Command::Request(1, ask_with_signal(alloc, "db", 1)?)),
     }
 }
 
@@ -39,11 +39,11 @@ fn locks<C: LockCore>(core: &C) -> Option<usize> {
 /// A snapshot and a copy that are refused memory are whole when they are asked for again.
 fn try_sights<C: LockCore>(core: &C, before: &PlainCore) -> Result<(), Fail> {
     if locks(core) != Some(1) {
-        return refused(locks(core) == Some(1));
+        return fail_refused(locks(core) == Some(1));
     }
     match core.copy_plain() {
         Ok(_) => Ok(()),
-        Err(Memory) => refused(core.copy_plain()? == *before),
+        Err(Memory) => fail_refused(core.copy_plain()? == *before),
     }
 }
 
@@ -58,7 +58,7 @@ fn try_list<C: LockCore>(alloc: Global, seed: C::Seed) -> Result<(), Fail> {
     for command in commands.iter().take(done as usize) {
         let _ = apply(&mut beside, command);
     }
-    refused(core.copy_plain()? == beside)
+    fail_refused(core.copy_plain()? == beside)
 }
 
 fn try_calls<S: Copy + Drop, C: LockCore<Seed = S>>(alloc: Global, seed: S) -> Result<(), Fail> {

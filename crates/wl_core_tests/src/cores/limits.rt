@@ -4,7 +4,7 @@ use std::alloc::Global;
 use std::test::Fail;
 use wl_core::{LockCore, PlainCore};
 use wl_index::{IndexCore, random_seed};
-use wl_samples::{done, done_often, letters, opening};
+use wl_test_support::{done, done_often, letters, opening};
 use wl_types::{Memory, Numbers};
 
 /// The list as it comes out of a core that has done this call so often.

@@ -1,10 +1,10 @@
-//! Worked lists of calls, for every kind of core. wl_samples says how they are written.
+//! Worked lists of calls, for every kind of core. wl_test_support says how they are written.
 
 use std::alloc::Global;
 use std::test::Fail;
 use wl_core::{LockCore, PlainCore};
 use wl_index::{IndexCore, random_seed};
-use wl_samples::{done, opening};
+use wl_test_support::{done, opening};
 use wl_types::Memory;
 
 const AGENTS_COME_AND_GO: &str = "\

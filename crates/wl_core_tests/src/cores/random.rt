@@ -5,7 +5,7 @@ use std::hash::RandomState;
 use std::test::Fail;
 use wl_core::{LockCore, PlainCore};
 use wl_index::{IndexCore, random_seed};
-use wl_samples::{done, opening};
+use wl_test_support::{done, opening};
 use wl_types::Memory;
 
 /// How many calls are made from one seed, and from how many seeds.

@@ -6,11 +6,11 @@ use std::test::Fail;
 use wl_core::{LockCore, PlainCore};
 use wl_index::{IndexCore, random_seed};
 use wl_journal::Book;
-use wl_samples::{ask, opening};
+use wl_test_support::{ask, opening};
 use wl_types::{Ask, Kind, Mode, Numbers, Refusal};
 
 /// A core with no number left for an agent.
-fn spent<C: LockCore>(alloc: Global, seed: C::Seed) -> C {
+fn spend_numbers<C: LockCore>(alloc: Global, seed: C::Seed) -> C {
     let next = Numbers {
         agent: 9_007_199_254_740_992,
         request: 1,
@@ -60,7 +60,7 @@ fn are_due<S: Copy + Drop, C: LockCore<Seed = S>>(
     reserved: &Ask,
 ) -> Result<bool, Fail> {
     let mut core: C = with_two(alloc, seed)?;
-    let mut spent: C = spent(alloc, seed);
+    let mut spent: C = spend_numbers(alloc, seed);
     Ok(refusals(&mut spent, &mut core, asked, reserved) == DUE)
 }
 

@@ -4,7 +4,7 @@ use std::alloc::Global;
 use std::test::Fail;
 use wl_core::{LockCore, PlainCore, run_commands};
 use wl_index::{IndexCore, random_seed};
-use wl_samples::{opening, reader_behind_writer, told};
+use wl_test_support::{opening, reader_behind_writer, show};
 use wl_types::Memory;
 
 /// The replies to the commands of `reader_behind_writer`.
@@ -32,7 +32,7 @@ fn replies<C: LockCore>(alloc: Global, seed: C::Seed) -> Result<String, Memory> 
     };
     let mut text = String::new(alloc);
     for reply in replies.as_slice() {
-        write!(text, "{}\n", told(alloc, reply)?)?;
+        write!(text, "{}\n", show(alloc, reply)?)?;
     }
     Ok(text)
 }

@@ -2,7 +2,7 @@
 
 use std::test::Fail;
 use wl_index::random_seed;
-use wl_samples::NoRandom;
+use wl_test_support::NoRandom;
 
 #[test]
 fn there_is_no_seed_without_random_words(rt: HostRuntime) -> Result<(), Fail> {

@@ -4,7 +4,7 @@ use std::alloc::Global;
 use std::test::Fail;
 use wl_core::{Command, LockCore, PlainCore, apply};
 use wl_journal::{AuditFault, Book, audit};
-use wl_samples::{ask, lacks_memory, opening, refused};
+use wl_test_support::{ask, fail_refused, lacks_memory, opening};
 use wl_types::{Kind, Memory, Mode, Refusal};
 
 /// A command that is refused memory leaves the book as it was, and is done and recorded when it is asked again.
@@ -18,7 +18,7 @@ fn try_command(book: &mut Book<PlainCore>, command: &Command) -> Result<(), Fail
     let is_as_before = has_no_more && book.changes().is_empty() && is_opening(book.base());
     let is_same_state = book.copy_plain()? == before;
     let is_done_now = !lacks_memory(&apply(book, command)) && book.len() > entries;
-    refused(is_as_before && is_same_state && is_done_now)
+    fail_refused(is_as_before && is_same_state && is_done_now)
 }
 
 fn is_opening(core: &PlainCore) -> bool {
@@ -40,11 +40,11 @@ fn try_cut(book: &mut Book<PlainCore>) -> Result<(), Fail> {
         return Ok(());
     }
     let is_as_before = book.len() == 4 && book.total() == 4;
-    refused(is_as_before && book.cut()?.len() == 4)
+    fail_refused(is_as_before && book.cut()?.len() == 4)
 }
 
 /// How many entries an agent sees, if it is refused nothing but memory.
-fn seen(book: &Book<PlainCore>) -> Option<u64> {
+fn count_seen(book: &Book<PlainCore>) -> Option<u64> {
     match book.sight(1) {
         Ok(sight) => Some(sight.seen),
         Err(Refusal::Memory) => None,
@@ -54,13 +54,13 @@ fn seen(book: &Book<PlainCore>) -> Option<u64> {
 
 /// A sight and an audit that are refused memory are what they should be when they are asked for again.
 fn try_sights(book: &Book<PlainCore>) -> Result<(), Fail> {
-    if seen(book) != Some(4) {
-        return refused(seen(book) == Some(4));
+    if count_seen(book) != Some(4) {
+        return fail_refused(count_seen(book) == Some(4));
     }
     match audit(book.base(), book.entries()) {
-        Err(AuditFault::Memory) => refused(audit(book.base(), book.entries()).is_ok()),
+        Err(AuditFault::Memory) => fail_refused(audit(book.base(), book.entries()).is_ok()),
         Ok(()) => Ok(()),
-        Err(AuditFault::Illegal(_)) => refused(false),
+        Err(AuditFault::Illegal(_)) => fail_refused(false),
     }
 }
 

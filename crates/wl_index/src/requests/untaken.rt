@@ -7,7 +7,7 @@ ghost use Rattle.std.specs.Ordering.{nat_cmp};
 ghost use Rattle.wl_machine.specs.declared.rows.HeldRow.{HeldRow};
 ghost use Rattle.wl_machine.specs.Least.{IsLeast, above};
 ghost use Rattle.wl_index.specs.Ends.{IsOwners, ends_lock, untaken_places};
-ghost use Rattle.wl_index.specs.Order.{from_stamp, first_of};
+ghost use Rattle.wl_index.specs.Order.{from_grant_seq, first_of};
 ghost use Rattle.wl_index.specs.Rows.{held_of};
 ghost use Rattle.wl_index.specs.Untaken.{finds_untaken};
 
@@ -23,7 +23,7 @@ impl Requests {
         let _ = &self.requests;
         let mut low = 0;
         for passed in 0..i {
-            low = self.first_untaken(numbers, owner, low)?.stamp + 1;
+            low = self.first_untaken(numbers, owner, low)?.grant_seq + 1;
         }
         Some(self.first_untaken(numbers, owner, low)?.number)
     }
@@ -51,10 +51,10 @@ impl Requests {
         None
     }
 
-    /// The first place from a stamp on.
+    /// The first place from a grant sequence on.
     fn first_untaken(&self, numbers: &[u64], owner: Owner, low: u64) -> Option<Place>
         requires { IsStrictlySortedBy nat_cmp numbers.now × IsOwners owner self.now.entries numbers.now }
-        ensures { result ≡ first_of (from_stamp low (untaken_places owner self.now.entries)) }
+        ensures { result ≡ first_of (from_grant_seq low (untaken_places owner self.now.entries)) }
     {
         let _ = &self.requests;
         let mut first = None;
@@ -69,13 +69,13 @@ impl Requests {
     }
 }
 
-/// The first of two places, of which the second counts from a stamp on.
+/// The first of two places, of which the second counts from a grant sequence on.
 fn earlier(first: Option<Place>, other: Option<Place>, low: u64) -> Option<Place>
-    ensures { result ≡ first_of (option_to_list first ++ from_stamp low (option_to_list other)) }
+    ensures { result ≡ first_of (option_to_list first ++ from_grant_seq low (option_to_list other)) }
 {
     match other {
         Some(place) => {
-            if place.stamp >= low {
+            if place.grant_seq >= low {
                 Some(first_of_two(first, place))
             } else {
                 first
@@ -90,7 +90,7 @@ fn first_of_two(first: Option<Place>, place: Place) -> Place
 {
     match first {
         Some(found) => {
-            if found.stamp < place.stamp {
+            if found.grant_seq < place.grant_seq {
                 found
             } else {
                 place

@@ -3,7 +3,8 @@
 //! Those that hand a lock from one to the other meet on one loop, where a push is one more turn of the loop that is awake
 //! already, and no thread is woken for it. A connection is at each time in one place: served by one loop, or in the room
 //! of the loop that is to serve it. What happens to it meanwhile stays where it is: bytes in its stream, of which the
-//! other poll is told once the stream is registered there, and news in its inbox, at which its first turn there looks.
+//! other poll is told once the stream is registered there, and changes in its inbox, at which its first turn there
+//! looks.
 
 use super::{EventLoop, MOST};
 use crate::host::{Event, Host, Place};
@@ -70,7 +71,7 @@ impl<'a, 'b, R: Wait + Clock, H: Host> EventLoop<'a, 'b, R, H> {
     fn put_moved(&mut self, served: Served<'a, R, H>) {
         let hold = served.hold;
         let Ok(key) = self.served.insert(served) else {
-            self.shared.leave_place(self.rt, hold);
+            self.shared.free_place(self.rt, hold);
             return;
         };
         if let Some(served) = self.served.get_mut(key) {

@@ -34,13 +34,13 @@ impl<C: LockCore, T: Count> Locked<C, T> {
         ensures refused { IfErr result (λ r. refusal self.old.book.state (Command.Abort agent signal reason) ≡ Some r) }
         ensures unchanged { OnErr result (Stays self.old self.new × (share.new ≡ share.old)) }
     {
-        self.keepers.let_go(self.book.changes());
+        self.keepers.drop_ended(self.book.changes());
         let taken = abort_granted(&mut self.book, &mut self.keepers, agent, signal, reason);
         let answer = match self.book.abort(agent, signal, reason) {
             Ok(answer) => answer,
             Err(refusal) => return Err(refusal),
         };
-        self.keepers.settle_all(self.book.changes());
+        self.keepers.publish_all(self.book.changes());
         let own = entries_of(agent, signal, reason, answer);
         T::add(&mut self.total, share, taken + own);
         Ok(answer)
@@ -58,7 +58,7 @@ fn abort_granted<C: LockCore>(
 ) -> u64
     requires standing { IsStanding book.old.state }
     requires from_one { phases_in book.old.state 0 ≡ [] }
-    requires settled { (id : ℕ) → phases_at id keepers.old ≡ phases_in book.old.state id }
+    requires published { (id : ℕ) → phases_at id keepers.old ≡ phases_in book.old.state id }
     ensures { (found : Found) × TriedAll book.old keepers.old agent signal reason book.new keepers.new found × (result ≡ length (taken found)) }
 {
     let mut taken = 0;

@@ -26,9 +26,9 @@ impl<C: LockCore, T: Count> Locked<C, T> {
         ensures refused { IfErr result (λ r. r ≡ refused_or_memory (refusal self.old.book.state (Command.NewSignal agent))) }
         ensures unchanged { OnErr result (Stays self.old self.new × (share.new ≡ share.old)) }
     {
-        self.keepers.let_go(self.book.changes());
+        self.keepers.drop_ended(self.book.changes());
         let signal = self.book.new_signal(agent)?;
-        self.keepers.settle_all(self.book.changes());
+        self.keepers.publish_all(self.book.changes());
         T::add(&mut self.total, share, 1);
         Ok(signal)
     }
@@ -48,9 +48,9 @@ impl<C: LockCore, T: Count> Locked<C, T> {
         ensures refused { IfErr result (λ r. r ≡ refused_or_memory (refusal self.old.book.state (Command.SetActive agent active))) }
         ensures unchanged { OnErr result (Stays self.old self.new × (share.new ≡ share.old)) }
     {
-        self.keepers.let_go(self.book.changes());
+        self.keepers.drop_ended(self.book.changes());
         self.book.set_active(agent, active)?;
-        self.keepers.settle_all(self.book.changes());
+        self.keepers.publish_all(self.book.changes());
         T::add(&mut self.total, share, 1);
         Ok(())
     }
@@ -63,9 +63,9 @@ impl<C: LockCore, T: Count> Locked<C, T> {
         ensures parts { T.COUNTS ≡ true → T.parts share.new ≡ T.parts share.old }
         ensures opened { (self.new.opened ≡ self.old.opened) × (self.new.handed ≡ self.old.handed) }
     {
-        self.keepers.let_go(self.book.changes());
+        self.keepers.drop_ended(self.book.changes());
         let answer = self.book.release(agent, id);
-        self.keepers.settle_all(self.book.changes());
+        self.keepers.publish_all(self.book.changes());
         T::add(&mut self.total, share, entries_of(agent, id, answer));
         answer
     }
@@ -80,9 +80,9 @@ impl<C: LockCore, T: Count> Locked<C, T> {
         ensures refused { IfErr result (λ r. refusal self.old.book.state (Command.Terminate agent) ≡ Some r) }
         ensures unchanged { OnErr result (Stays self.old self.new × (share.new ≡ share.old)) }
     {
-        self.keepers.let_go(self.book.changes());
+        self.keepers.drop_ended(self.book.changes());
         self.book.terminate(agent)?;
-        self.keepers.settle_all(self.book.changes());
+        self.keepers.publish_all(self.book.changes());
         T::add(&mut self.total, share, 1);
         Ok(())
     }
@@ -106,11 +106,11 @@ impl<C: LockCore, T: Count> Locked<C, T> {
         ensures unchanged { OnErr result (Stays self.old self.new × (share.new ≡ share.old)) }
     {
         let asking = Asking::new(self.alloc, ask, inbox);
-        self.request_made(agent, ask, asking, share)
+        self.request_with(agent, ask, asking, share)
     }
 
     /// As `request`, of an ask for which this was made, or memory was refused.
-    pub(crate) fn request_made(
+    pub(crate) fn request_with(
         &mut self,
         agent: u64,
         ask: &Ask,
@@ -140,7 +140,7 @@ impl<C: LockCore, T: Count> Locked<C, T> {
         let Ok(()) = self.keepers.put(self.next, keeper, inbox) else {
             return Err(Refusal::Memory);
         };
-        self.keepers.let_go(self.book.changes());
+        self.keepers.drop_ended(self.book.changes());
         let id = match self.book.request_kept(agent, kept) {
             Ok(id) => id,
             Err(refusal) => {
@@ -148,7 +148,7 @@ impl<C: LockCore, T: Count> Locked<C, T> {
                 return Err(refusal);
             }
         };
-        self.keepers.settle_all(self.book.changes());
+        self.keepers.publish_all(self.book.changes());
         self.next = id + 1;
         T::add(&mut self.total, share, 1);
         Ok((id, owner))

@@ -49,7 +49,7 @@ impl<C: LockCore, T: Count> Locked<C, T> {
 
     /// Cuts the journal where it has outgrown what is live, unless all entries are kept: once it has more than 128
     /// entries, and more than two for each agent, signal and request of its base. So a cut costs a bounded number of
-    /// steps for each entry that it lets go. The entries are the answer, so that they can be dropped without the lock.
+    /// steps for each entry that it drops. The entries are the answer, so that they can be dropped without the lock.
     /// Where there is no memory for a cut the journal stays, and grows on.
     pub fn trim(&mut self) -> Option<Vec<Entry>>
         ensures entries { IfSome result (λ entries. entries.items ≡ self.old.book.entries) }

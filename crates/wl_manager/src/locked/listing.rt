@@ -1,7 +1,7 @@
 //! What is listed of the locks.
 
 ghost use Rattle.std.specs.Prelude.{◌≡◌, ◌+◌, ◌≤◌, length, map, IfOk};
-ghost use Rattle.wl_manager.specs.Listing.{Lists, MayList, listed, of_lock, of_request};
+ghost use Rattle.wl_manager.specs.Listing.{Lists, MayList, as_listed, of_lock, of_request};
 
 use crate::count::Count;
 use crate::keepers::Keepers;
@@ -17,9 +17,9 @@ impl<C: LockCore, T: Count> Locked<C, T> {
     /// with. The list comes with the copy of the state that it is made from, so that this can be dropped without the
     /// lock: like a cut of the journal it takes a step for each agent, signal and request.
     pub fn list_locks(&self, most: usize, now: u64) -> Result<(LockList, PlainCore), Memory>
-        ensures lists { IfOk result (λ listed. Lists self.now.book.state most listed.0) }
-        ensures may { IfOk result (λ listed. MayList most listed.0) }
-        ensures few { IfOk result (λ listed. length listed.0.held.items + length listed.0.pending.items ≤ most) }
+        ensures lists { IfOk result (λ as_listed. Lists self.now.book.state most as_listed.0) }
+        ensures may { IfOk result (λ as_listed. MayList most as_listed.0) }
+        ensures few { IfOk result (λ as_listed. length as_listed.0.held.items + length as_listed.0.pending.items ≤ most) }
     {
         let copy = self.book.copy_plain()?;
         let held = copy.held();
@@ -43,7 +43,7 @@ fn list_held(
     held: &[HeldRow],
     now: u64,
 ) -> Result<Vec<LockRow>, Memory>
-    ensures { IfOk result (λ rows. map listed rows.items ≡ map of_lock held.now) }
+    ensures { IfOk result (λ rows. map as_listed rows.items ≡ map of_lock held.now) }
 {
     let mut rows = Vec::with_capacity(alloc, held.len())?;
     for lock in held {
@@ -68,7 +68,7 @@ fn list_pending(
     pending: &[PendingRow],
     now: u64,
 ) -> Result<Vec<LockRow>, Memory>
-    ensures { IfOk result (λ rows. map listed rows.items ≡ map of_request pending.now) }
+    ensures { IfOk result (λ rows. map as_listed rows.items ≡ map of_request pending.now) }
 {
     let mut rows = Vec::with_capacity(alloc, pending.len())?;
     for request in pending {

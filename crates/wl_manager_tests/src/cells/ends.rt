@@ -5,7 +5,7 @@ ghost use Rattle.std.specs.Bool.{OnTrue};
 ghost use Rattle.wl_types.specs.declared.phases.Phase.TheVariants.{Granted};
 ghost use Rattle.wl_cell.specs.Seats.{may_settle};
 
-use crate::rows::{Driver, told};
+use crate::rows::{Driver, show};
 use std::alloc::Global;
 use std::sync::Wait;
 use wl_cell::{Keeper, Owner, Watch, agree, cell};
@@ -66,7 +66,7 @@ impl Ends {
         Ok(true)
     }
 
-    fn agreed(&mut self) -> Result<(Phase, Phase), Memory> {
+    fn agree_all(&mut self) -> Result<(Phase, Phase), Memory> {
         agree(&mut self.owner, &mut self.watch)
     }
 }
@@ -77,15 +77,15 @@ impl Driver for Ends {
     fn answer<R: Wait>(&mut self, _rt: &R, call: &Call) -> Result<String, Memory> {
         let alloc = self.alloc;
         match *call {
-            Call::New => told(alloc, &self.begin_anew()?),
-            Call::Settle(phase) => told(alloc, &settle(&mut self.keeper, phase)),
-            Call::TryAbort(reason) => told(alloc, &try_abort(&mut self.keeper, reason)),
-            Call::Kept => told(alloc, &self.keeper.phase()),
-            Call::Look => told(alloc, &self.owner.look()),
-            Call::Take => told(alloc, &self.owner.take()),
-            Call::Watch => told(alloc, &self.watch_anew()?),
-            Call::LookOn => told(alloc, &self.watch.look()),
-            Call::Agree => told(alloc, &self.agreed()?),
+            Call::New => show(alloc, &self.begin_anew()?),
+            Call::Settle(phase) => show(alloc, &settle(&mut self.keeper, phase)),
+            Call::TryAbort(reason) => show(alloc, &try_abort(&mut self.keeper, reason)),
+            Call::Kept => show(alloc, &self.keeper.phase()),
+            Call::Look => show(alloc, &self.owner.look()),
+            Call::Take => show(alloc, &self.owner.take()),
+            Call::Watch => show(alloc, &self.watch_anew()?),
+            Call::LookOn => show(alloc, &self.watch.look()),
+            Call::Agree => show(alloc, &self.agree_all()?),
         }
     }
 }

@@ -5,14 +5,14 @@ use super::desk::Call;
 use super::desk::Call::{Agent, DropTicket, Entries, Entry, LookOn, Open, Ticket};
 use super::desk::Manner::{Exclusive, SharedIfAvailable, Stealing};
 use super::desk::Use::{Look, Take, Watch};
-use super::{assert_calls, audited};
+use super::{assert_calls, audit_book};
 use std::alloc::Global;
 use std::process::Abort;
 use std::sync::{Arc, Wait};
 use std::test::Fail;
 use wl_core::{PlainCore, ReleaseAnswer};
 use wl_manager::{Manager, Recent};
-use wl_samples::ask;
+use wl_test_support::ask;
 use wl_types::Kind::{Window, Worker};
 use wl_types::{Ask, Mode, Refusal};
 
@@ -127,18 +127,18 @@ fn assert_released<R: Wait + Abort>(rt: &R, agent: &mut BriefAgent, asked: &Ask)
 /// Whether the journal is legal, how many entries it has, and how many the agent sees.
 type Left = (bool, usize, u64);
 
-fn left<R: Wait>(
+fn count_left<R: Wait>(
     rt: &R,
     alloc: Global,
     manager: &Brief,
     agent: &mut BriefAgent,
 ) -> Result<Left, Refusal> {
-    let seen = seen(rt, agent)?;
-    let (is_legal, entries) = audited(rt, alloc, manager);
+    let seen = count_seen(rt, agent)?;
+    let (is_legal, entries) = audit_book(rt, alloc, manager);
     Ok((is_legal, entries, seen))
 }
 
-fn seen<R: Wait>(rt: &R, agent: &mut BriefAgent) -> Result<u64, Refusal> {
+fn count_seen<R: Wait>(rt: &R, agent: &mut BriefAgent) -> Result<u64, Refusal> {
     Ok(agent.query(rt)?.seen)
 }
 
@@ -150,7 +150,7 @@ fn left_of_a_thousand<R: Wait + Abort>(
 ) -> Result<Left, Refusal> {
     let mut agent = Manager::open(manager, rt, Window)?;
     assert_released(rt, &mut agent, asked);
-    left(rt, alloc, manager, &mut agent)
+    count_left(rt, alloc, manager, &mut agent)
 }
 
 #[test]

@@ -1,14 +1,14 @@
 //! Calls of a manager, its agents, tickets and watches.
 
-use super::{Plain, PlainAgent, PlainTicket, summed};
-use crate::rows::{Driver, told};
+use super::{Plain, PlainAgent, PlainTicket, sum_up};
+use crate::rows::{Driver, show};
 use std::alloc::Global;
 use std::sync::{Arc, Wait};
 use wl_cell::Watch;
 use wl_core::{ReleaseAnswer, Reply};
 use wl_journal::{Entry, Sight};
 use wl_manager::{Bell, Manager, Ring, Visitor};
-use wl_samples::ask;
+use wl_test_support::ask;
 use wl_types::{Ask, Kind, Memory, Mode, Phase, Reason, Refusal};
 
 /// Agents, tickets, watches and entries are called by their places among those that there are, from 1.
@@ -112,7 +112,7 @@ impl Desk {
         Ok(number)
     }
 
-    fn rung(&self) -> Result<String, Memory> {
+    fn show_rung(&self) -> Result<String, Memory> {
         let is_rung = self.ring.take_rung();
         let mut places = Vec::new(self.alloc);
         let is_all = self.ring.collect(&mut places);
@@ -160,14 +160,14 @@ impl Driver for Desk {
     fn answer<R: Wait>(&mut self, rt: &R, call: &Call) -> Result<String, Memory> {
         let alloc = self.alloc;
         match *call {
-            Call::Open(kind) => told(alloc, &self.open(rt, kind)),
-            Call::OpenHeard(kind) => told(alloc, &self.open_heard(rt, kind)),
+            Call::Open(kind) => show(alloc, &self.open(rt, kind)),
+            Call::OpenHeard(kind) => show(alloc, &self.open_heard(rt, kind)),
             Call::Agent(place, act) => self.act(rt, place, act),
             Call::Ticket(place, used) => self.use_ticket(place, used),
-            Call::DropTicket => told(alloc, &self.drop_last()),
-            Call::LookOn(place) => told(alloc, &self.look_on(place)),
-            Call::Ring => self.rung(),
-            Call::Entries => told(alloc, &summed(rt, &self.manager).entries),
+            Call::DropTicket => show(alloc, &self.drop_last()),
+            Call::LookOn(place) => show(alloc, &self.look_on(place)),
+            Call::Ring => self.show_rung(),
+            Call::Entries => show(alloc, &sum_up(rt, &self.manager).entries),
             Call::Entry(number) => Ok(self.entry(rt, number)),
         }
     }
@@ -196,17 +196,17 @@ fn act_by<R: Wait>(
     act: Act,
 ) -> Result<String, Memory> {
     match act {
-        Act::SetActive(active) => told(alloc, &agent.set_active(rt, active)),
-        Act::Signal => told(alloc, &agent.new_signal(rt)),
+        Act::SetActive(active) => show(alloc, &agent.set_active(rt, active)),
+        Act::Signal => show(alloc, &agent.new_signal(rt)),
         Act::Request(name, manner) => {
-            let asked = asked(alloc, name, manner)?;
-            told(alloc, &request(rt, agent, tickets, &asked))
+            let asked = make_ask(alloc, name, manner)?;
+            show(alloc, &request(rt, agent, tickets, &asked))
         }
-        Act::Query => seen(alloc, agent.query(rt)),
-        Act::IsRung => told(alloc, &agent.is_rung()),
-        Act::Changed => changed(alloc, agent),
-        Act::Release(place) => told(alloc, &release(rt, agent, tickets, place)),
-        Act::Abort(signal, reason) => told(alloc, &agent.abort(rt, signal, reason)),
+        Act::Query => show_sight(alloc, agent.query(rt)),
+        Act::IsRung => show(alloc, &agent.is_rung()),
+        Act::Changed => changed_requests(alloc, agent),
+        Act::Release(place) => show(alloc, &release(rt, agent, tickets, place)),
+        Act::Abort(signal, reason) => show(alloc, &agent.abort(rt, signal, reason)),
     }
 }
 
@@ -233,9 +233,9 @@ fn release<R: Wait>(
     Some(agent.release(rt, ticket))
 }
 
-fn changed(alloc: Global, agent: &PlainAgent) -> Result<String, Memory> {
+fn changed_requests(alloc: Global, agent: &PlainAgent) -> Result<String, Memory> {
     let mut numbers = Vec::new(alloc);
-    let is_all = agent.changed(&mut numbers);
+    let is_all = agent.changed_requests(&mut numbers);
     shown_numbers(alloc, is_all, numbers)
 }
 
@@ -248,7 +248,7 @@ fn shown_numbers(alloc: Global, are_all: bool, numbers: Vec<u64>) -> Result<Stri
     } else {
         None
     };
-    told(alloc, &all)
+    show(alloc, &all)
 }
 
 fn use_of(
@@ -258,13 +258,13 @@ fn use_of(
     used: Use,
 ) -> Result<String, Memory> {
     match used {
-        Use::Look => told(alloc, &ticket.look()),
-        Use::Take => told(alloc, &ticket.take()),
-        Use::Watch => told(alloc, &keep(watches, ticket.watch()?)),
+        Use::Look => show(alloc, &ticket.look()),
+        Use::Take => show(alloc, &ticket.take()),
+        Use::Watch => show(alloc, &keep(watches, ticket.watch()?)),
     }
 }
 
-fn asked(alloc: Global, name: &str, manner: Manner) -> Result<Ask, Memory> {
+fn make_ask(alloc: Global, name: &str, manner: Manner) -> Result<Ask, Memory> {
     let mut asked = ask(alloc, name, Mode::Exclusive)?;
     match manner {
         Manner::Exclusive => {}
@@ -278,11 +278,11 @@ fn asked(alloc: Global, name: &str, manner: Manner) -> Result<Ask, Memory> {
     Ok(asked)
 }
 
-fn seen(alloc: Global, sight: Result<Sight, Refusal>) -> Result<String, Memory> {
+fn show_sight(alloc: Global, sight: Result<Sight, Refusal>) -> Result<String, Memory> {
     let Ok(Sight { seen, snapshot }) = sight else {
         return Ok("refused".to_string(alloc)?);
     };
-    let locks = wl_samples::told(alloc, &Reply::Seen(snapshot))?;
+    let locks = wl_test_support::show(alloc, &Reply::Seen(snapshot))?;
     Ok(format!(in alloc; "{seen} entries, {}", locks.as_str())?)
 }
 
@@ -297,11 +297,11 @@ struct Line {
 impl Visitor for Line {
     fn visit(&mut self, entries: &[Entry]) {
         if let Some(entry) = entries.get(self.number.wrapping_sub(1)) {
-            self.text = shown(self.alloc, entry).unwrap_or(String::new(self.alloc));
+            self.text = show_entry(self.alloc, entry).unwrap_or(String::new(self.alloc));
         }
     }
 }
 
-fn shown(alloc: Global, entry: &Entry) -> Result<String, Memory> {
+fn show_entry(alloc: Global, entry: &Entry) -> Result<String, Memory> {
     Ok(format!(in alloc; "{:?}, {:?}", entry.command, entry.reply)?)
 }

@@ -1,21 +1,21 @@
 //! Each growth refused in turn.
 
-use super::{Plain, PlainAgent, PlainTicket, plain, summed};
+use super::{Plain, PlainAgent, PlainTicket, plain, sum_up};
 use std::alloc::Global;
 use std::sync::{Arc, Wait};
 use std::test::Fail;
 use wl_cell::cell;
 use wl_manager::{CoarseClock, Manager};
-use wl_samples::{ask, refused};
+use wl_test_support::{ask, fail_refused};
 use wl_types::{AbortAnswer, Ask, Kind, Mode, Phase, Reason};
 
 fn try_open<R: Wait>(rt: &R, manager: &Arc<Plain, Global>) -> Result<PlainAgent, Fail> {
     if let Ok(agent) = Manager::open(manager, rt, Kind::Window) {
         return Ok(agent);
     }
-    let is_empty = summed(rt, manager).entries == 0;
+    let is_empty = sum_up(rt, manager).entries == 0;
     let agent = Manager::open(manager, rt, Kind::Window)?;
-    refused(is_empty && agent.client() == 1 && summed(rt, manager).entries == 1)?;
+    fail_refused(is_empty && agent.client() == 1 && sum_up(rt, manager).entries == 1)?;
     Ok(agent)
 }
 
@@ -23,9 +23,9 @@ fn try_signal<R: Wait>(rt: &R, manager: &Plain, agent: &mut PlainAgent) -> Resul
     if agent.new_signal(rt).is_ok() {
         return Ok(());
     }
-    let is_opened_alone = summed(rt, manager).entries == 1;
+    let is_opened_alone = sum_up(rt, manager).entries == 1;
     let signal = agent.new_signal(rt)?;
-    refused(is_opened_alone && signal == 1 && summed(rt, manager).entries == 2)
+    fail_refused(is_opened_alone && signal == 1 && sum_up(rt, manager).entries == 2)
 }
 
 fn try_request<R: Wait>(
@@ -37,25 +37,25 @@ fn try_request<R: Wait>(
     if agent.request(rt, wanted).is_ok() {
         return Ok(());
     }
-    let has_no_request = summed(rt, manager).entries == 2;
+    let has_no_request = sum_up(rt, manager).entries == 2;
     let number = agent.request(rt, wanted)?.number();
-    refused(has_no_request && number == 1 && summed(rt, manager).entries == 3)
+    fail_refused(has_no_request && number == 1 && sum_up(rt, manager).entries == 3)
 }
 
 fn try_active<R: Wait>(rt: &R, manager: &Plain, agent: &mut PlainAgent) -> Result<(), Fail> {
     if agent.set_active(rt, true).is_ok() {
         return Ok(());
     }
-    let is_not_entered = summed(rt, manager).entries == 3;
+    let is_not_entered = sum_up(rt, manager).entries == 3;
     agent.set_active(rt, true)?;
-    refused(is_not_entered && agent.query(rt)?.seen == 4)
+    fail_refused(is_not_entered && agent.query(rt)?.seen == 4)
 }
 
 fn try_query<R: Wait>(rt: &R, agent: &mut PlainAgent) -> Result<(), Fail> {
     if agent.query(rt).is_ok() {
         return Ok(());
     }
-    refused(agent.query(rt)?.seen == 4)
+    fail_refused(agent.query(rt)?.seen == 4)
 }
 
 /// Refused memory, a list is no entry, and names the same lock when it is asked for again.
@@ -63,17 +63,17 @@ fn try_list<R: Wait>(rt: &R, manager: &Plain) -> Result<(), Fail> {
     if manager.list_locks(rt, 10, 0).is_ok() {
         return Ok(());
     }
-    let is_not_entered = summed(rt, manager).entries == 4;
+    let is_not_entered = sum_up(rt, manager).entries == 4;
     let list = manager.list_locks(rt, 10, 0)?;
     let is_first = list.held.first().is_some_and(|row| row.request == 1);
-    refused(is_not_entered && is_first && list.held.len() == 1 && list.left_out == 0)
+    fail_refused(is_not_entered && is_first && list.held.len() == 1 && list.left_out == 0)
 }
 
 fn try_clock(alloc: Global) -> Result<(), Fail> {
     if CoarseClock::new(alloc).is_ok() {
         return Ok(());
     }
-    refused(CoarseClock::new(alloc).is_ok())
+    fail_refused(CoarseClock::new(alloc).is_ok())
 }
 
 fn try_manager<R: Wait>(rt: &R, alloc: Global) -> Result<Arc<Plain>, Fail> {
@@ -81,7 +81,7 @@ fn try_manager<R: Wait>(rt: &R, alloc: Global) -> Result<Arc<Plain>, Fail> {
         return Ok(manager);
     }
     let manager = plain(rt, alloc)?;
-    refused(summed(rt, &manager).entries == 0)?;
+    fail_refused(sum_up(rt, &manager).entries == 0)?;
     Ok(manager)
 }
 
@@ -89,7 +89,7 @@ fn try_cell(alloc: Global) -> Result<(), Fail> {
     if cell(alloc).is_ok() {
         return Ok(());
     }
-    refused(cell(alloc).is_ok())
+    fail_refused(cell(alloc).is_ok())
 }
 
 fn try_calls<R: Wait>(rt: &R, alloc: Global) -> Result<(), Fail> {

@@ -5,7 +5,7 @@ use std::alloc::Global;
 use std::sync::{Arc, Wait};
 use std::test::Fail;
 use wl_manager::{CoarseClock, LockList, LockRow, Manager};
-use wl_samples::ask;
+use wl_test_support::ask;
 use wl_types::{Kind, Memory, Mode};
 
 /// A manager with a clock, its two agents, and the tickets of their requests.
@@ -69,8 +69,8 @@ impl Watched {
         self.request(rt, 400, 1, "log", Mode::Shared)
     }
 
-    fn listed<R: Wait>(&self, rt: &R, most: usize, now: u64) -> Result<String, Memory> {
-        shown(self.alloc, &self.manager.list_locks(rt, most, now)?)
+    fn show_list<R: Wait>(&self, rt: &R, most: usize, now: u64) -> Result<String, Memory> {
+        show_rows(self.alloc, &self.manager.list_locks(rt, most, now)?)
     }
 }
 
@@ -87,7 +87,7 @@ fn put_row(alloc: Global, text: &mut String, row: &LockRow) -> Result<(), Memory
 }
 
 /// The locks, then what waits, then how many were left out.
-fn shown(alloc: Global, list: &LockList) -> Result<String, Memory> {
+fn show_rows(alloc: Global, list: &LockList) -> Result<String, Memory> {
     let mut text = String::new(alloc);
     for row in &list.held {
         put_row(alloc, &mut text, row)?;
@@ -136,14 +136,17 @@ and 0";
 #[test]
 fn a_manager_lists_locks_and_requests_with_their_times(rt: HostRuntime) -> Result<(), Fail> {
     let mut watched = Watched::new(&rt, rt.alloc())?;
-    assert_eq!(rt; watched.listed(&rt, 10, 1000)?.as_str(), "waiting\nand 0");
+    assert_eq!(rt;
+        watched.show_list(&rt, 10, 1000)?.as_str(),
+        "waiting\nand 0"
+    );
     watched.ask_for_four(&rt)?;
-    assert_eq!(rt; watched.listed(&rt, 4, 1000)?.as_str(), ALL_FOUR);
-    assert_eq!(rt; watched.listed(&rt, 3, 1000)?.as_str(), THREE);
-    assert_eq!(rt; watched.listed(&rt, 1, 1000)?.as_str(), ONE);
-    assert_eq!(rt; watched.listed(&rt, 0, 1000)?.as_str(), NONE);
+    assert_eq!(rt; watched.show_list(&rt, 4, 1000)?.as_str(), ALL_FOUR);
+    assert_eq!(rt; watched.show_list(&rt, 3, 1000)?.as_str(), THREE);
+    assert_eq!(rt; watched.show_list(&rt, 1, 1000)?.as_str(), ONE);
+    assert_eq!(rt; watched.show_list(&rt, 0, 1000)?.as_str(), NONE);
     watched.release(&rt, 500);
-    assert_eq!(rt; watched.listed(&rt, 10, 1000)?.as_str(), HANDED_OVER);
+    assert_eq!(rt; watched.show_list(&rt, 10, 1000)?.as_str(), HANDED_OVER);
     Ok(())
 }
 

@@ -5,7 +5,7 @@ use std::alloc::Global;
 use std::sync::{Arc, Wait};
 use std::test::Fail;
 use wl_manager::Manager;
-use wl_samples::ask;
+use wl_test_support::ask;
 use wl_types::{Ask, Kind, Mode, Reason, Refusal};
 
 /// A manager that is full: an inactive window, a worker with all its signals, and others.

@@ -1,6 +1,6 @@
 //! What is wrong with a message, of several faults the first.
 
-use super::{line_told, read_lines, read_messages, told};
+use super::{read_lines, read_messages, show_line, show_reading};
 use std::alloc::{AllocError, Global};
 use std::test::Fail;
 use wl_codec::{CodecFault, Member, read_line, read_message};
@@ -36,8 +36,8 @@ BadJson/json, BadJson/json
 
 /// Adds a line that says what the bytes are as a message, and what they are as a line.
 fn add_both(alloc: Global, came: &mut String, text: &[u8]) -> Result<(), Memory> {
-    let message = told(alloc, &read_message(alloc, text)?)?;
-    let line = line_told(alloc, &read_line(alloc, text)?)?;
+    let message = show_reading(alloc, &read_message(alloc, text)?)?;
+    let line = show_line(alloc, &read_line(alloc, text)?)?;
     write!(came, "{message}, {line}\n")?;
     Ok(())
 }
@@ -57,7 +57,7 @@ fn what_is_no_json_text_is_refused(rt: HostRuntime) -> Result<(), Fail> {
 }
 
 /// A message to poll with arrays in it that nest so deep.
-fn nested(alloc: Global, levels: usize) -> Result<Vec<u8>, AllocError> {
+fn nest(alloc: Global, levels: usize) -> Result<Vec<u8>, AllocError> {
     let mut text = Vec::from_slice(alloc, b"{\"id\":1,\"op\":\"poll\",\"x\":")?;
     for _ in 0..levels {
         text.push(b'[')?;
@@ -82,7 +82,7 @@ BadJson/json, BadJson/json
 fn read_nested(alloc: Global) -> Result<String, Memory> {
     let mut came = String::new(alloc);
     for levels in LEVELS {
-        add_both(alloc, &mut came, &nested(alloc, levels)?)?;
+        add_both(alloc, &mut came, &nest(alloc, levels)?)?;
     }
     Ok(came)
 }
@@ -220,7 +220,7 @@ fn is_named(fault: &CodecFault, name: &str, rule: &str) -> bool {
 }
 
 /// The first text that isn't that of its fault.
-fn misnamed() -> Option<&'static str> {
+fn find_misnamed() -> Option<&'static str> {
     for (fault, text) in RULES {
         let (name, rule) = text.split_once('/').unwrap_or((text, ""));
         if !is_named(&fault, name, rule) {
@@ -232,5 +232,5 @@ fn misnamed() -> Option<&'static str> {
 
 #[test]
 fn each_fault_has_a_name_and_a_rule(rt: HostRuntime) {
-    assert_eq!(rt; misnamed(), None);
+    assert_eq!(rt; find_misnamed(), None);
 }

@@ -1,14 +1,14 @@
 //! Each growth refused in turn.
 
 ghost use Rattle.std.specs.Prelude.{All, IfOk};
-ghost use Rattle.wl_codec.specs.Replies.{IsTold};
+ghost use Rattle.wl_codec.specs.Replies.{IsReported};
 
 use std::alloc::Global;
 use std::test::Fail;
 use wl_codec::{
     Body, Line, Notice, Notices, Outcome, Reading, WireReply, read_line, read_message, write_reply,
 };
-use wl_samples::refused;
+use wl_test_support::fail_refused;
 use wl_types::{Memory, Mode, Phase};
 
 const LINE: &[u8] =
@@ -31,8 +31,8 @@ fn is_read(line: &Line) -> bool {
 fn try_line(alloc: Global) -> Result<(), Fail> {
     match read_line(alloc, LINE) {
         Ok(line) if is_read(&line) => Ok(()),
-        Ok(_) => refused(false),
-        Err(Memory) => refused(is_read(&read_line(alloc, LINE)?)),
+        Ok(_) => fail_refused(false),
+        Err(Memory) => fail_refused(is_read(&read_line(alloc, LINE)?)),
     }
 }
 
@@ -40,14 +40,14 @@ fn try_line(alloc: Global) -> Result<(), Fail> {
 fn try_message(alloc: Global) -> Result<(), Fail> {
     match read_message(alloc, LINE) {
         Ok(Reading::Good(_)) => Ok(()),
-        Ok(_) => refused(false),
-        Err(Memory) => refused(matches!(read_message(alloc, LINE)?, Reading::Good(_))),
+        Ok(_) => fail_refused(false),
+        Err(Memory) => fail_refused(matches!(read_message(alloc, LINE)?, Reading::Good(_))),
     }
 }
 
 /// A request that was granted.
-fn granted(alloc: Global) -> Result<WireReply, Memory>
-    ensures { IfOk result (λ reply. All (λ n. IsTold n.phase) reply.notices) }
+fn make_granted(alloc: Global) -> Result<WireReply, Memory>
+    ensures { IfOk result (λ reply. All (λ n. IsReported n.phase) reply.notices) }
 {
     let mut notices = Notices::new(alloc);
     notices.push(Notice {
@@ -63,12 +63,12 @@ fn granted(alloc: Global) -> Result<WireReply, Memory>
 
 /// A reply that is refused memory is no shorter text.
 fn try_reply(alloc: Global, reply: &WireReply) -> Result<(), Fail>
-    requires { All (λ n. IsTold n.phase) reply.now.notices }
+    requires { All (λ n. IsReported n.phase) reply.now.notices }
 {
     match write_reply(alloc, reply) {
         Ok(text) if text.as_str() == TEXT => Ok(()),
-        Ok(_) => refused(false),
-        Err(Memory) => refused(write_reply(alloc, reply)?.as_str() == TEXT),
+        Ok(_) => fail_refused(false),
+        Err(Memory) => fail_refused(write_reply(alloc, reply)?.as_str() == TEXT),
     }
 }
 
@@ -76,5 +76,5 @@ fn try_reply(alloc: Global, reply: &WireReply) -> Result<(), Fail>
 fn a_refused_growth_is_no_fault(rt: HostRuntime) -> Result<(), Fail> {
     try_line(rt.alloc())?;
     try_message(rt.alloc())?;
-    try_reply(rt.alloc(), &granted(rt.alloc())?)
+    try_reply(rt.alloc(), &make_granted(rt.alloc())?)
 }

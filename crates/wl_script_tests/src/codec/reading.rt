@@ -1,6 +1,6 @@
 //! What messages say.
 
-use super::{read_messages, told};
+use super::{read_messages, show_reading};
 use std::test::Fail;
 use wl_codec::read_message;
 
@@ -46,6 +46,6 @@ fn messages_are_read(rt: HostRuntime) -> Result<(), Fail> {
 #[test]
 fn space_plays_no_part(rt: HostRuntime) -> Result<(), Fail> {
     let read = read_message(rt.alloc(), b" {\"op\":\"poll\",\r\n\t\"id\":7} ")?;
-    assert_eq!(rt; told(rt.alloc(), &read)?.as_str(), "7 Poll");
+    assert_eq!(rt; show_reading(rt.alloc(), &read)?.as_str(), "7 Poll");
     Ok(())
 }

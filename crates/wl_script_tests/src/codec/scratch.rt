@@ -1,6 +1,6 @@
 //! One scratch for many messages.
 
-use super::{line_told, told};
+use super::{show_line, show_reading};
 use std::alloc::{AllocError, Global};
 use std::test::Fail;
 use wl_codec::{Body, Reading, Scratch, read_line_with, read_message_with};
@@ -33,7 +33,7 @@ fn is_read(alloc: Global, scratch: &mut Scratch, long: &[u8]) -> Result<bool, Me
 
 fn is_no_json(alloc: Global, scratch: &mut Scratch, half: &[u8]) -> Result<bool, Memory> {
     let read = read_message_with(alloc, half, scratch)?;
-    Ok(told(alloc, &read)?.as_str() == "BadJson/json")
+    Ok(show_reading(alloc, &read)?.as_str() == "BadJson/json")
 }
 
 /// Reads a long message, and then a half of it, with the scratch.
@@ -56,9 +56,9 @@ fn read_all(alloc: Global, scratch: &mut Scratch, list: &str) -> Result<String, 
 
 fn read(alloc: Global, scratch: &mut Scratch, text: &str) -> Result<String, Memory> {
     if text.starts_with("{\"agent\"") {
-        line_told(alloc, &read_line_with(alloc, text.as_bytes(), scratch)?)
+        show_line(alloc, &read_line_with(alloc, text.as_bytes(), scratch)?)
     } else {
-        told(alloc, &read_message_with(alloc, text.as_bytes(), scratch)?)
+        show_reading(alloc, &read_message_with(alloc, text.as_bytes(), scratch)?)
     }
 }
 

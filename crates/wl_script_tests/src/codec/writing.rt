@@ -1,7 +1,7 @@
 //! The texts of replies.
 
 ghost use Rattle.std.specs.Prelude.{All, IfOk};
-ghost use Rattle.wl_codec.specs.Replies.{IsTold};
+ghost use Rattle.wl_codec.specs.Replies.{IsReported};
 
 use std::alloc::Global;
 use std::test::Fail;
@@ -12,7 +12,7 @@ use wl_types::{
 };
 
 /// The text of a reply without notices.
-fn written(alloc: Global, id: Option<u64>, outcome: Outcome) -> Result<String, Memory> {
+fn write_plain(alloc: Global, id: Option<u64>, outcome: Outcome) -> Result<String, Memory> {
     let reply = WireReply {
         id,
         notices: Notices::new(alloc),
@@ -74,7 +74,7 @@ fn no_locks(alloc: Global) -> Snapshot {
 #[test]
 fn each_outcome_has_its_text(rt: HostRuntime) -> Result<(), Fail> {
     for (place, wanted) in ANSWERS.iter().enumerate() {
-        let text = written(rt.alloc(), Some(6), answer(rt.alloc(), place))?;
+        let text = write_plain(rt.alloc(), Some(6), answer(rt.alloc(), place))?;
         let shown = between(text.as_str(), r#"{"id":6,"notices":[],"ok":"#, "}");
         assert_eq!(rt; shown, *wanted);
     }
@@ -98,7 +98,7 @@ const ERRORS: [&str; 13] = [
 ];
 
 /// What a request is answered whose signal was aborted for this reason.
-fn aborted(reason: Reason) -> Outcome {
+fn abort_outcome(reason: Reason) -> Outcome {
     Outcome::Refused(Refusal::SignalAborted(reason))
 }
 
@@ -106,11 +106,11 @@ fn aborted(reason: Reason) -> Outcome {
 fn error(place: usize) -> Outcome {
     match place {
         0 => Outcome::Refused(Refusal::InvalidState),
-        1 => aborted(Reason::AbortError),
-        2 => aborted(Reason::TimeoutError),
-        3 => aborted(Reason::Code(0)),
-        4 => aborted(Reason::Code(7)),
-        5 => aborted(Reason::Code(65535)),
+        1 => abort_outcome(Reason::AbortError),
+        2 => abort_outcome(Reason::TimeoutError),
+        3 => abort_outcome(Reason::Code(0)),
+        4 => abort_outcome(Reason::Code(7)),
+        5 => abort_outcome(Reason::Code(65535)),
         6 => Outcome::Refused(Refusal::NameTooLong),
         7 => Outcome::Fault(CodecFault::BadJson),
         8 => Outcome::Fault(CodecFault::TypeError(Member::IfAvailable)),
@@ -124,7 +124,7 @@ fn error(place: usize) -> Outcome {
 #[test]
 fn each_error_has_its_name_and_rule(rt: HostRuntime) -> Result<(), Fail> {
     for (place, wanted) in ERRORS.iter().enumerate() {
-        let text = written(rt.alloc(), None, error(place))?;
+        let text = write_plain(rt.alloc(), None, error(place))?;
         let shown = between(text.as_str(), r#"{"error":"#, r#","id":null,"notices":[]}"#);
         assert_eq!(rt; shown, *wanted);
     }
@@ -135,7 +135,7 @@ const NEWS_TOLD: &str =
     r#"{"id":2,"notices":[{"phase":"granted","request":3},{"phase":"unavailable","request":1},{"phase":"aborted","reason":"AbortError","request":4},{"phase":"aborted","reason":0,"request":6},{"phase":"aborted","reason":65535,"request":2},{"phase":"stolen","request":5}],"ok":{}}"#;
 
 fn news(alloc: Global) -> Result<Notices, Memory>
-    ensures { IfOk result (λ notices. All (λ n. IsTold n.phase) notices) }
+    ensures { IfOk result (λ notices. All (λ n. IsReported n.phase) notices) }
 {
     let mut notices = Notices::new(alloc);
     notices.push(Notice {
@@ -186,13 +186,13 @@ fn add(alloc: Global, infos: &mut Infos, name: &str, mode: Mode, client: u64) ->
 
 /// The text of a reply that shows that the first agent holds a lock of this name, and that agents up to the last wait
 /// for one of the name `db`.
-fn shown(alloc: Global, name: &str, last: u64) -> Result<String, Fail> {
+fn show_held(alloc: Global, name: &str, last: u64) -> Result<String, Fail> {
     let mut seen = no_locks(alloc);
     add(alloc, &mut seen.held, name, Mode::Exclusive, 1)?;
     for client in 2..=last {
         add(alloc, &mut seen.pending, "db", Mode::Shared, client)?;
     }
-    Ok(written(alloc, Some(1), Outcome::Seen(seen))?)
+    Ok(write_plain(alloc, Some(1), Outcome::Seen(seen))?)
 }
 
 const SEEN: &str =
@@ -200,7 +200,7 @@ const SEEN: &str =
 
 #[test]
 fn a_snapshot_shows_what_is_held_and_what_waits(rt: HostRuntime) -> Result<(), Fail> {
-    assert_eq!(rt; shown(rt.alloc(), "db", 3)?.as_str(), SEEN);
+    assert_eq!(rt; show_held(rt.alloc(), "db", 3)?.as_str(), SEEN);
     Ok(())
 }
 
@@ -222,7 +222,7 @@ const BEFORE_THE_NAME: &str =
     r#"{"id":1,"notices":[],"ok":{"held":[{"clientId":"client-1","mode":"exclusive","name":""#;
 
 fn is_written(alloc: Global, name: &str, wanted: &str) -> Result<bool, Fail> {
-    let text = shown(alloc, name, 1)?;
+    let text = show_held(alloc, name, 1)?;
     Ok(between(text.as_str(), BEFORE_THE_NAME, r#""}],"pending":[]}}"#) == wanted)
 }
 

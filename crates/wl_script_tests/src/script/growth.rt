@@ -3,8 +3,8 @@
 use super::runs::plain;
 use std::random::RandomSource;
 use std::test::Fail;
-use wl_samples::refused;
 use wl_script::ScriptFault;
+use wl_test_support::fail_refused;
 
 const SCRIPT: &[u8] = b"{\"agent\":\"a\",\"id\":1,\"op\":\"open\",\"url\":\"https://a.test/\"}
 {\"agent\":\"a\",\"id\":2,\"name\":\"db\",\"op\":\"request\"}
@@ -22,10 +22,10 @@ fn try_run<R: RandomSource + AllocGlobal>(rt: &R) -> Result<(), Fail> {
     let ended = plain(SCRIPT, 100).ends(rt, REPLIES)?;
     match ended.result {
         Ok(2) if ended.written == Some(121) => Ok(()),
-        Err(ScriptFault::Memory(lines)) => refused(
+        Err(ScriptFault::Memory(lines)) => fail_refused(
             ended.written.is_some() && ended.written == ENDS.get(lines as usize).copied(),
         ),
-        _ => refused(false),
+        _ => fail_refused(false),
     }
 }
 
@@ -36,8 +36,8 @@ fn try_audit<R: RandomSource + AllocGlobal>(rt: &R) -> Result<(), Fail> {
     let ended = plain(SCRIPT, 100).audit_ends(rt, AUDIT)?;
     match ended.result {
         Ok(1) if ended.written == Some(AUDIT.len()) => Ok(()),
-        Err(ScriptFault::Memory(lines)) => refused(ended.written == Some(0) && lines <= 2),
-        _ => refused(false),
+        Err(ScriptFault::Memory(lines)) => fail_refused(ended.written == Some(0) && lines <= 2),
+        _ => fail_refused(false),
     }
 }
 

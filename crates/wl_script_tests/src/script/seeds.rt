@@ -3,8 +3,8 @@
 use super::fakes::SCRIPT;
 use super::runs::{Ended, plain};
 use std::test::Fail;
-use wl_samples::NoRandom;
 use wl_script::ScriptFault;
+use wl_test_support::NoRandom;
 
 #[test]
 fn nothing_is_written_without_random_words(rt: HostRuntime) -> Result<(), Fail> {

@@ -1,6 +1,6 @@
 //! Replies of a session as text, so that a test is a list of outcomes with what each is answered.
 
-ghost use Rattle.wl_session.specs.Told.{IsByNumber};
+ghost use Rattle.wl_session.specs.LastReported.{IsByNumber};
 
 use super::planning::plan;
 use std::alloc::Global;

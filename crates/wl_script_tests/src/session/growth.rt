@@ -5,8 +5,8 @@ ghost use Rattle.std.specs.Prelude.{◌<◌};
 use std::alloc::Global;
 use std::test::Fail;
 use wl_codec::Outcome;
-use wl_samples::refused;
 use wl_session::{InTime, Session, SessionOf};
+use wl_test_support::fail_refused;
 use wl_types::Phase;
 
 /// By a look at all requests, or at those that changed.
@@ -31,7 +31,7 @@ fn try_reply(alloc: Global, at_all: bool) -> Result<(), Fail> {
     if is_told(&mut session, at_all) {
         return Ok(());
     }
-    refused(session.live().is_empty() && is_told(&mut session, at_all))
+    fail_refused(session.live().is_empty() && is_told(&mut session, at_all))
 }
 
 #[test]
@@ -57,7 +57,7 @@ fn try_quiet(session: &mut SessionOf<InTime>, number: u64, phase: Phase) -> Resu
     if is_quiet(session, number, phase) {
         return Ok(());
     }
-    refused(is_quiet(session, number, phase))
+    fail_refused(is_quiet(session, number, phase))
 }
 
 /// The same where ends stay, over a list that is full a few times, with ends and without.

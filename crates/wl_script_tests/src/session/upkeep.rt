@@ -1,7 +1,7 @@
 //! Where ends leave in time, each reply is the one that is given where they leave at once.
 
 ghost use Rattle.std.specs.Prelude.{◌+◌, ◌<◌, ◌≤◌};
-ghost use Rattle.wl_session.specs.Told.{IsByNumber};
+ghost use Rattle.wl_session.specs.LastReported.{IsByNumber};
 
 use super::finishing::replies;
 use std::alloc::Global;

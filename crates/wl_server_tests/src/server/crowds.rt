@@ -1,6 +1,6 @@
 //! More connections than may run at once, and none: the calls `serve_crowd COUNT` and `serve_nobody COUNT` of lists.
 
-use super::NoGate;
+use super::NoHooks;
 use super::loopback::guest;
 use super::streams::HELLO;
 use crate::lists::{number, show};
@@ -82,7 +82,7 @@ where
     let guests = come(rt, alloc, &listener, count)?;
     let ended = thread::join(
         rt,
-        || serve(rt, alloc, &listener, count as u64, &NoGate, service),
+        || serve(rt, alloc, &listener, count as u64, &NoHooks, service),
         || one_waits(guests),
     );
     show(came, Some(ended))
@@ -102,6 +102,6 @@ where
     let listener = TcpListener::bind(rt, "127.0.0.1:0")?;
     listener.set_nonblocking(true)?;
     let count = number(call, 1) as u64;
-    let served = serve(rt, alloc, &listener, count, &NoGate, service);
+    let served = serve(rt, alloc, &listener, count, &NoHooks, service);
     show(came, Some(served))
 }

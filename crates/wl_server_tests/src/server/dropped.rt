@@ -12,9 +12,9 @@ use std::sync::{Mutex, Wait};
 use std::test::Fail;
 use std::thread::Threads;
 use std::{io, thread};
-use wl_samples::ask;
 use wl_server::{Gate, ListenFault, Served, serve};
 use wl_service::{Client, Service, Ticket};
+use wl_test_support::ask;
 use wl_types::{Ask, Kind, Mode, Phase};
 
 /// A client beside the server, what it is to ask for, and its ticket.

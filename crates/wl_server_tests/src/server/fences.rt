@@ -7,9 +7,9 @@ use std::sync::Wait;
 use std::test::Fail;
 use std::thread;
 use std::thread::Threads;
-use wl_samples::ask;
 use wl_server::{Fence, FenceCounter, Peer, fenced_text};
 use wl_service::{Client, Service, Ticket};
+use wl_test_support::ask;
 use wl_types::{Kind, Memory, Mode};
 
 const CLOSE: &[u8] = b"{\"id\":3,\"op\":\"close\"}";
@@ -61,7 +61,7 @@ fn wait_for<R: Wait>(
 ) -> Result<Peer, Memory> {
     let peer = hear(rt, alloc, service, peer, &[OPEN, REQUEST], told)?;
     client.release(rt, ticket);
-    let (peer, text) = peer.tell(rt, service)?;
+    let (peer, text) = peer.push(rt, service)?;
     if let Some(text) = text
         && put(alloc, &peer, text, told).is_err()
     {
@@ -75,11 +75,11 @@ fn wait_for<R: Wait>(
 fn hand_over<R: Wait>(rt: &R, alloc: Global, service: &Service) -> Result<String, Fail> {
     let counter = FenceCounter::new(alloc)?;
     let mut told = String::new(alloc);
-    let first = Peer::fenced(alloc, counter.share()?);
+    let first = Peer::with_fences(alloc, counter.share()?);
     hear(rt, alloc, service, first, &[OPEN, REQUEST], &mut told)?.end(rt);
     let mut client = service.open(rt, "https://a.test/", Kind::Window)?;
     let mut ticket = client.request(rt, &ask(alloc, "db", Mode::Exclusive)?)?;
-    let second = Peer::fenced(alloc, counter);
+    let second = Peer::with_fences(alloc, counter);
     let second = wait_for(
         rt,
         alloc,
@@ -119,7 +119,7 @@ fn steal<R: Wait>(
     service: &Service,
     counter: &FenceCounter,
 ) -> Result<Vec<Fence>, Memory> {
-    let peer = Peer::fenced(alloc, counter.share()?);
+    let peer = Peer::with_fences(alloc, counter.share()?);
     let mut peer = answer_all(rt, service, peer, &[OPEN])?;
     let mut fences = Vec::new(alloc);
     for _ in 0..THEFTS {

@@ -4,9 +4,9 @@ use super::OPEN;
 use std::alloc::Global;
 use std::sync::Wait;
 use std::test::Fail;
-use wl_samples::{ask, refused};
 use wl_server::Peer;
 use wl_service::Service;
+use wl_test_support::{ask, fail_refused};
 use wl_types::{Kind, Memory, Mode, Phase};
 
 pub const REQUEST: &[u8] = b"{\"id\":2,\"name\":\"db\",\"op\":\"request\"}";
@@ -45,7 +45,7 @@ fn try_peer<R: Wait>(rt: &R, alloc: Global, service: &Service) -> Result<(), Fai
             peer.end(rt);
             Ok(())
         }
-        Err(Memory) => refused(is_free(rt, alloc, service)?),
+        Err(Memory) => fail_refused(is_free(rt, alloc, service)?),
     }
 }
 

@@ -7,7 +7,7 @@
 
 use super::streams::NO_HELLO;
 use super::taker::Taker;
-use super::{NoGate, OPEN};
+use super::{NoHooks, OPEN};
 use crate::lists::{rest, show, word};
 use std::alloc::{AllocError, Global};
 use std::io::{ErrorKind, Read, Write};
@@ -142,7 +142,7 @@ where
             alloc,
             listener,
             before.saturating_add(1),
-            &NoGate,
+            &NoHooks,
             service,
         ),
         || relay(rt, alloc, stream, reader, writer),

@@ -5,9 +5,9 @@ use super::growth::{REQUEST, answer_all};
 use std::alloc::Global;
 use std::sync::Wait;
 use std::test::Fail;
-use wl_samples::ask;
 use wl_server::{NoAnswer, NotOpened, Opener, Peer, Scratch};
 use wl_service::{Client, Keeping, Leaving, Service};
+use wl_test_support::ask;
 use wl_types::{Kind, Mode, Text};
 
 /// What a peer told whose request waited, and whether it was rung once the lock was free.
@@ -24,11 +24,11 @@ fn tell_after_release<R: Wait>(rt: &R, alloc: Global, service: &Service) -> Resu
     let mut client = service.open(rt, "https://a.test/", Kind::Window)?;
     let mut ticket = client.request(rt, &ask(alloc, "db", Mode::Exclusive)?)?;
     let peer = answer_all(rt, service, Peer::new(alloc), &[OPEN, REQUEST])?;
-    let (peer, before) = peer.tell(rt, service)?;
+    let (peer, before) = peer.push(rt, service)?;
     client.release(rt, &mut ticket);
     let is_rung = peer.is_rung();
-    let (peer, after) = peer.tell(rt, service)?;
-    let (peer, again) = peer.tell(rt, service)?;
+    let (peer, after) = peer.push(rt, service)?;
+    let (peer, again) = peer.push(rt, service)?;
     peer.end_by(rt, service);
     Ok(Told {
         before,

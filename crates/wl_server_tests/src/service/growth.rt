@@ -5,8 +5,8 @@ use std::alloc::Global;
 use std::random::RandomSource;
 use std::sync::Wait;
 use std::test::Fail;
-use wl_samples::{ask, refused};
 use wl_service::{Client, OpenFault, Service};
+use wl_test_support::{ask, fail_refused};
 use wl_types::{Ask, Kind, Mode, Refusal};
 
 /// Opens a window. Refused memory, the service is as it was: who opens when it is asked again has this number.
@@ -22,7 +22,7 @@ fn try_open<R: Wait>(
         return Ok(opened?);
     };
     let client = service.open_in(rt, url, bucket, Kind::Window)?;
-    refused(client.client() == Some(number))?;
+    fail_refused(client.client() == Some(number))?;
     Ok(client)
 }
 
@@ -40,7 +40,7 @@ fn try_service<R: RandomSource>(rt: &R, alloc: Global) -> Result<Service, Fail> 
         return Ok(service);
     }
     let service = Service::new(rt, alloc)?;
-    refused(true)?;
+    fail_refused(true)?;
     Ok(service)
 }
 
@@ -65,7 +65,7 @@ fn try_client<R: Wait>(rt: &R, alloc: Global, client: &mut Client) -> Result<(),
     for place in 0..4 {
         if call(rt, client, &wanted, place)? {
             let is_as_before = client.query(rt)?.seen == (place as u64).wrapping_add(1);
-            refused(is_as_before && !call(rt, client, &wanted, place)?)?;
+            fail_refused(is_as_before && !call(rt, client, &wanted, place)?)?;
         }
     }
     Ok(())
@@ -77,7 +77,7 @@ fn try_list<R: Wait>(rt: &R, service: &Service) -> Result<(), Fail> {
         return Ok(());
     }
     let list = service.list_locks(rt, None, 0)?;
-    refused(list.managers.len() == 3 && list.left_out_managers == 0)
+    fail_refused(list.managers.len() == 3 && list.left_out_managers == 0)
 }
 
 #[test]

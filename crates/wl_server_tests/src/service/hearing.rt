@@ -5,8 +5,8 @@ use std::alloc::Global;
 use std::sync::{Arc, Wait};
 use std::test::Fail;
 use wl_manager::{Bell, Ring};
-use wl_samples::ask;
 use wl_service::{Client, Service};
+use wl_test_support::ask;
 use wl_types::{Kind, Mode, Text};
 
 /// The place of the client that hears.
@@ -51,7 +51,7 @@ fn a_bell_rings_when_a_request_changes(rt: HostRuntime) -> Result<(), Fail> {
         (true, Some(vec![in rt.alloc(); PLACE]?))
     );
     let mut changed = Vec::new(rt.alloc());
-    assert!(rt; client.changed(&mut changed));
+    assert!(rt; client.changed_requests(&mut changed));
     assert_eq!(rt; changed.as_slice(), [waiting.number()].as_slice());
     assert!(rt; !client.is_rung());
     Ok(())

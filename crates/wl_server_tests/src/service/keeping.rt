@@ -1,8 +1,8 @@
 //! How long a manager stays.
 
 use std::test::Fail;
-use wl_samples::NoRandom;
 use wl_service::{Keeping, Service};
+use wl_test_support::NoRandom;
 
 const EACH_MANAGER_STAYS: &str = "\
 open window https://a.test/ -> Ok(Some(1))

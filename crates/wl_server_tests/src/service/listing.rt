@@ -2,8 +2,8 @@
 
 use super::HERE;
 use std::test::Fail;
-use wl_samples::ask;
 use wl_service::Service;
+use wl_test_support::ask;
 use wl_types::{Kind, Mode};
 
 const LOCKS_ARE_LISTED_BY_MANAGER: &str = "\

@@ -12,8 +12,8 @@ use std::thread::Threads;
 use wl_journal::Entry;
 use wl_manager::Visitor;
 use wl_origin::ManagerKey;
-use wl_samples::{ask, key};
 use wl_service::Service;
+use wl_test_support::{ask, key};
 use wl_types::{Ask, Kind, Memory, Mode, Phase};
 
 /// Waits under one manager's lock until a request of another one was answered.

@@ -42,8 +42,8 @@ use Rattle.wl_c.specs.contracts.exports.end as f
 use Rattle.wl_c.proofs.exports.end.Statement.{statement}
 use Rattle.wl_c.proofs.exports.end.Code as code
 use Rattle.wl_c.proofs.exports.end.Lts as lts
-use Rattle.wl_c.specs.contracts.exports.let_go as go
-use Rattle.wl_c.proofs.exports.let_go.Met.{met as go_met}
+use Rattle.wl_c.specs.contracts.exports.drop_world as go
+use Rattle.wl_c.proofs.exports.drop_world.Met.{met as go_met}
 
 abbrev stayed : Stays f.ended.signature.params f.ended.kept
 stayed = (stay_dropped _ yes, (stay_dropped _ yes, tt))
@@ -85,7 +85,7 @@ end_spec {M = M} 𝓤 𝓛 𝓜 𝓡 wired =
     let G2 = triple_of 𝓛 go.signature (go.spec 𝓛 𝓜.mem 𝓡.returns) in
     let z2 : G2.Ghost = ((κs, qs, bounds, (r, tt), (w' ∷ [], tt)), tt) in
     nothing ! $ move ! (1 ∷ 0 ∷ []) $ join ! $ nothing ! $ join ! $ nothing ! $ move ! (1 ∷ 0 ∷ []) $ use2 𝓛 (raw (G2.pre z2)) (id⊢ 𝓤 _) $
-    calls_at ! (framed 𝓤 𝓛.H 𝓜 (tables 𝓤 𝓛.H 𝓜 𝓡 𝓡.env)) G2 (go_met 𝓤 𝓛 𝓜 𝓡 (code.calls-wl_c::exports::let_go 𝓡.env wired)) z2 (and_then ! (get ! refl) (no_more !)) (λ v.
+    calls_at ! (framed 𝓤 𝓛.H 𝓜 (tables 𝓤 𝓛.H 𝓜 𝓡 𝓡.env)) G2 (go_met 𝓤 𝓛 𝓜 𝓡 (code.calls-wl_c::exports::drop_world 𝓡.env wired)) z2 (and_then ! (get ! refl) (no_more !)) (λ v.
     use1 𝓛 (later (some (λ (r2 : Unit {0}). (‵ ftrue ⊛ ‵ (unit.own_val r2 (v ∷ []))) ⊛ some (λ (ws : Lasts go.ended κs (r, tt)). ‵ (lasts go.ended κs (r, tt) ws) ⊛ ‵ ftrue)))) (id⊢ 𝓤 _) $
     await ! tt $ pick ! (λ r2. split ! $ split ! $ drop ! $ feq_l ! (λ is_unit. drop ! $
     lands_as ! (ap only is_unit) refl (tt, tt) $ sets ! (of_opd ! (unit_lit !)) refl (tt, tt) $ returns ! (look_at ! 0 refl) $ free_all ! refl $

@@ -1,5 +1,5 @@
 use Rattle.std.proofs.Common.{◌≡◌, ◌++◌, filter, drop}
-use Rattle.wl_index.specs.Lists.{spared}
+use Rattle.wl_index.specs.Lists.{is_spared}
 use Rattle.wl_index.specs.Ends.{numbers_of, place_ends, AreLive}
 use Rattle.wl_index.proofs.ending.end_all.Given as goal
 
@@ -7,7 +7,7 @@ use Rattle.wl_index.proofs.ending.end_all.Given as goal
 abbrev pub invariant-loop-place : goal.invariant-loop-place
 invariant-loop-place l = record {
   live : AreLive (numbers_of (drop l.place-index l.places)) l.locks.entries;
-  entries : filter (spared (numbers_of (drop l.place-index l.places))) l.locks.entries ≡ filter (spared (numbers_of l.places)) l.fn.locks.entries;
+  entries : filter (is_spared (numbers_of (drop l.place-index l.places))) l.locks.entries ≡ filter (is_spared (numbers_of l.places)) l.fn.locks.entries;
   changes : l.locks.changes ++ place_ends l.phase (drop l.place-index l.places) ≡ l.fn.locks.changes ++ place_ends l.phase l.places;
   next : l.locks.next ≡ l.fn.locks.next;
   names : l.locks.names ≡ l.fn.locks.names;

@@ -3,7 +3,7 @@ use Rattle.wl_index.specs.declared.request.Place.{Place}
 use Rattle.wl_index.specs.Ends.{ends_entry}
 use Rattle.wl_index.specs.Order.{place_of}
 use Rattle.wl_index.specs.Rows.{Rows}
-use Rattle.wl_index.specs.Stamps.{by_stamp}
+use Rattle.wl_index.specs.GrantOrder.{by_grant_seq}
 use Rattle.wl_index.specs.declared.request.Standing.TheVariants.{Holds}
 use Rattle.wl_index.proofs.Boards.{ended_as}
 use Rattle.wl_index.proofs.Owned.{locks_distinct, locks_gone, locks_live, locks_told}
@@ -14,8 +14,8 @@ pub sort-requires : goal.sort-requires
 sort-requires c = rw c.gather.ensures.items (locks_distinct c.args.ending.owner c.requests.result.now.entries c.gather.ensures.distinct)
 
 -- the places of what ends
-places : (c : After-deref) → c.deref.result.now ≡ by_stamp (λ (p : Place). p.stamp) (map place_of (filter (ends_entry c.args.ending.owner Holds) c.args.locks.now.entries))
-places c = c.deref.ensures.value ∙ c.sort.ensures.items ∙ ap (by_stamp (λ (p : Place). p.stamp)) (c.gather.ensures.items ∙ ap (λ (r : Rows). map place_of (filter (ends_entry c.args.ending.owner Holds) r.entries)) c.requests.ensures.entries)
+places : (c : After-deref) → c.deref.result.now ≡ by_grant_seq (λ (p : Place). p.grant_seq) (map place_of (filter (ends_entry c.args.ending.owner Holds) c.args.locks.now.entries))
+places c = c.deref.ensures.value ∙ c.sort.ensures.items ∙ ap (by_grant_seq (λ (p : Place). p.grant_seq)) (c.gather.ensures.items ∙ ap (λ (r : Rows). map place_of (filter (ends_entry c.args.ending.owner Holds) r.entries)) c.requests.ensures.entries)
 
 pub end_all-requires : goal.end_all-requires
 end_all-requires c = let at = (goal.at.end_all-requires c).After-deref in rw (places at) (locks_live c.args.ending.owner c.args.locks.now.entries c.requests.ensures.ordered)

@@ -4,12 +4,12 @@ use Rattle.wl_machine.specs.declared.rows.PendingRow.{PendingRow}
 use Rattle.wl_machine.specs.Grants.{Lists, lists_of}
 use Rattle.wl_index.specs.Event.{Happened}
 use Rattle.wl_index.specs.Locks.{Stands}
-use Rattle.wl_index.specs.Queue.{after_grant}
+use Rattle.wl_index.specs.NameQueue.{after_grant}
 use Rattle.wl_index.specs.Queues.{without_idle}
 use Rattle.wl_index.specs.Rows.{held_of, pending_of}
 use Rattle.wl_index.proofs.Processing.{Granting, below_updated, granted_all, granting, one_granted, retired, start, below_left}
 use Rattle.wl_index.proofs.Rows.{is_request}
-use Rattle.wl_index.proofs.Settling.{Step, next_listed, step_meets}
+use Rattle.wl_index.proofs.QueueProcessing.{Step, next_listed, step_meets}
 use Rattle.wl_index.proofs.locks.process_queue.Goals.{In-Some, After-note, In_default}
 use Rattle.wl_index.proofs.locks.process_queue.Goals as goal
 
@@ -42,7 +42,7 @@ waits : (c : In-Some) → list_any (is_request c.in-Some.number) (pending_of c.l
 waits c =
     let l = c.loop-number in
     let g = grants c in
-    next_listed g.line (lists_of (held_of l.requests.entries) (pending_of l.requests.entries) l.event.changes) c.in-Some.number g.matches g.granted
+    next_listed g.name_queue (lists_of (held_of l.requests.entries) (pending_of l.requests.entries) l.event.changes) c.in-Some.number g.matches g.granted
 
 pub grant-requires-in-Some : goal.grant-requires-in-Some
 grant-requires-in-Some c = waits (goal.at.grant-requires-in-Some c).In-Some
@@ -50,11 +50,11 @@ grant-requires-in-Some c = waits (goal.at.grant-requires-in-Some c).In-Some
 step : (c : After-note)
     → let l = c.loop-number in
     let at = (goal.at.loop-number-preserved c).In-Some in
-    Step (grants at).line (after_grant (grants at).line) (lists_of (held_of l.requests.entries) (pending_of l.requests.entries) l.event.changes) (lists_of (held_of c.grant-in-Some.new.self.entries) (pending_of c.grant-in-Some.new.self.entries) c.note.new.self.changes)
+    Step (grants at).name_queue (after_grant (grants at).name_queue) (lists_of (held_of l.requests.entries) (pending_of l.requests.entries) l.event.changes) (lists_of (held_of c.grant-in-Some.new.self.entries) (pending_of c.grant-in-Some.new.self.entries) c.note.new.self.changes)
 step c =
     let at = (goal.at.loop-number-preserved c).In-Some in
     let g = grants at in
-    step_meets g.line (after_grant g.line) _ _ c.in-Some.number g.matches g.granted refl c.grant-in-Some.ensures.apart c.grant-in-Some.ensures.held c.grant-in-Some.ensures.pending (ap (λ (h : Happened). h.changes) c.note.ensures)
+    step_meets g.name_queue (after_grant g.name_queue) _ _ c.in-Some.number g.matches g.granted refl c.grant-in-Some.ensures.apart c.grant-in-Some.ensures.held c.grant-in-Some.ensures.pending (ap (λ (h : Happened). h.changes) c.note.ensures)
 
 some_wait : (number : ℕ) (l : List PendingRow) → list_any (is_request number) l ≡ true → 1 ≤ length l
 some_wait number [] is = absurd (cc is)
@@ -85,7 +85,7 @@ loop-number-preserved c =
     let room = l.invariant.room in
     let left = ap (λ (h : Happened). h.room) c.note.ensures in
     record {
-      underway = λ target stay u. rw (queues, touched) (one_granted place l.event.touched target stay l.queues _ _ g.line g.there above s (l.invariant.underway target stay u));
+      underway = λ target stay u. rw (queues, touched) (one_granted place l.event.touched target stay l.queues _ _ g.name_queue g.there above s (l.invariant.underway target stay u));
       touched = touched ∙ l.invariant.touched;
       next = c.grant-in-Some.ensures.next ∙ l.invariant.next;
       tags = c.grant-in-Some.ensures.tags ∙ l.invariant.tags;

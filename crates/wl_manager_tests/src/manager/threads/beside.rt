@@ -8,7 +8,7 @@ use std::thread;
 use std::thread::Threads;
 use wl_journal::Entry;
 use wl_manager::{Manager, Visitor};
-use wl_samples::ask;
+use wl_test_support::ask;
 use wl_types::{Ask, Kind, Mode, Phase, Refusal};
 
 /// Waits under its manager's lock until a request of another manager was answered.

@@ -14,7 +14,7 @@ use std::thread::Threads;
 use wl_cell::Taking;
 use wl_core::PlainCore;
 use wl_manager::{Leaving, Ledgered, Manager, Ticket};
-use wl_samples::ask;
+use wl_test_support::ask;
 use wl_types::{Ask, Kind, Mode, Phase};
 
 type CountedTicket<L> = Ticket<PlainCore, Ledgered<L>>;

@@ -1,6 +1,6 @@
 //! A lock that goes from one agent to the next while a thread looks on.
 
-use crate::manager::{PlainAgent, PlainTicket, audited, plain};
+use crate::manager::{PlainAgent, PlainTicket, audit_book, plain};
 use std::process::Abort;
 use std::sync::Wait;
 use std::test::Fail;
@@ -9,7 +9,7 @@ use std::thread::Threads;
 use wl_cell::Watch;
 use wl_core::ReleaseAnswer;
 use wl_manager::Manager;
-use wl_samples::ask;
+use wl_test_support::ask;
 use wl_types::{Ask, Kind, Mode, Phase};
 
 /// What the first agent's release answers, what the watch of its ticket sees once the second has the lock, and what
@@ -76,6 +76,6 @@ fn ends_are_settled_before_grants(rt: HostRuntime) -> Result<(), Fail> {
     let mut one = Manager::open(&manager, &rt, Kind::Window)?;
     let mut two = Manager::open(&manager, &rt, Kind::Window)?;
     assert_end_is_seen(&rt, &mut one, &mut two, &asked)?;
-    assert_eq!(rt; audited(&rt, rt.alloc(), &manager), (true, 4002));
+    assert_eq!(rt; audit_book(&rt, rt.alloc(), &manager), (true, 4002));
     Ok(())
 }

@@ -1,6 +1,6 @@
 //! A take and an abort of one granted lock, on two threads.
 
-use crate::manager::{PlainAgent, PlainTicket, audited, plain};
+use crate::manager::{PlainAgent, PlainTicket, audit_book, plain};
 use std::alloc::Global;
 use std::process::Abort;
 use std::sync::Wait;
@@ -10,7 +10,7 @@ use std::thread::Threads;
 use wl_cell::Taking;
 use wl_core::ReleaseAnswer;
 use wl_manager::Manager;
-use wl_samples::ask;
+use wl_test_support::ask;
 use wl_types::{AbortAnswer, Ask, Kind, Mode, Phase, Reason, Refusal};
 
 /// What the abort answers, what the take, where the request is then, and what a release answers.
@@ -93,7 +93,7 @@ fn assert_legal_races<R: Threads + Wait + Abort + Sync>(
     let mut asked = ask(alloc, "db", Mode::Exclusive)?;
     let taken = assert_one_wins(rt, &mut agent, &mut asked, reason)?;
     assert_eq!(rt;
-        audited(rt, alloc, &manager),
+        audit_book(rt, alloc, &manager),
         (true, taken.wrapping_mul(2).wrapping_add(3001))
     );
     Ok(())

@@ -1,6 +1,6 @@
 //! A take and a steal of one granted lock, on two threads.
 
-use crate::manager::{Plain, PlainAgent, PlainTicket, audited, plain, summed};
+use crate::manager::{Plain, PlainAgent, PlainTicket, audit_book, plain, sum_up};
 use std::alloc::Global;
 use std::process::Abort;
 use std::sync::{Arc, Wait};
@@ -10,14 +10,14 @@ use std::thread::Threads;
 use wl_cell::Taking;
 use wl_core::ReleaseAnswer;
 use wl_manager::Manager;
-use wl_samples::ask;
+use wl_test_support::ask;
 use wl_types::{Ask, Kind, Memory, Mode, Phase, Refusal};
 
 /// What the take answers, where the request is then, and what the thief's release answers.
 type Outcome = (Taking, Phase, ReleaseAnswer);
 
 /// The lock is stolen in any case, and the thief has it.
-fn stolen(taking: Taking) -> Outcome {
+fn theft_outcome(taking: Taking) -> Outcome {
     (taking, Phase::Stolen, ReleaseAnswer::Released)
 }
 
@@ -55,7 +55,8 @@ fn assert_thefts<R: Threads + Wait + Abort + Sync>(
     for _ in 0..1000 {
         let outcome = race_anew(rt, &mut agent, asked, &mut thief, stealing)?;
         assert!(rt;
-            outcome == stolen(Taking::Taken) || outcome == stolen(Taking::Before(Phase::Stolen)),
+            outcome == theft_outcome(Taking::Taken)
+                || outcome == theft_outcome(Taking::Before(Phase::Stolen)),
             "{outcome:?}"
         );
     }
@@ -73,7 +74,7 @@ fn a_take_and_a_theft_race_a_thousand_times(rt: HostRuntime) -> Result<(), Fail>
     let manager = plain(&rt, rt.alloc())?;
     let asked = ask(rt.alloc(), "db", Mode::Exclusive)?;
     assert_thefts(&rt, &manager, &asked, &stealing(rt.alloc())?)?;
-    assert_eq!(rt; audited(&rt, rt.alloc(), &manager), (true, 3002));
-    assert_eq!(rt; summed(&rt, &manager).takes, 0);
+    assert_eq!(rt; audit_book(&rt, rt.alloc(), &manager), (true, 3002));
+    assert_eq!(rt; sum_up(&rt, &manager).takes, 0);
     Ok(())
 }

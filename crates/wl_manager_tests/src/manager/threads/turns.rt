@@ -2,7 +2,7 @@
 
 ghost use Rattle.std.specs.Prelude.{◌≡◌, ◌≤◌, ◌^◌};
 
-use crate::manager::summed;
+use crate::manager::sum_up;
 use std::alloc::Global;
 use std::marker::Brand;
 use std::process::Abort;
@@ -14,7 +14,7 @@ use std::thread::Threads;
 use wl_cell::Taking;
 use wl_core::{PlainCore, ReleaseAnswer};
 use wl_manager::{Agent, Count, Leaving, Ledgered, Manager, TallyFault, Ticket};
-use wl_samples::ask;
+use wl_test_support::ask;
 use wl_types::{Ask, Kind, Memory, Mode, Phase, Refusal};
 
 pub type Counted<L> = Manager<PlainCore, Ledgered<L>>;
@@ -100,7 +100,7 @@ fn handed_back<T: Count, R: Wait>(
     }
 }
 
-fn tallied<T: Count, R: Wait>(
+fn tally_all<T: Count, R: Wait>(
     rt: &R,
     manager: &Manager<PlainCore, T>,
     left: Vec<Leaving<T>>,
@@ -119,8 +119,8 @@ fn tallies<T: Count, R: Wait>(
     let left = handed_back(rt, manager, with(Vec::new(alloc), one)?)?;
     let both = with(left, two)?;
     Ok((
-        tallied(rt, manager, both),
-        tallied(rt, manager, Vec::new(alloc)),
+        tally_all(rt, manager, both),
+        tally_all(rt, manager, Vec::new(alloc)),
     ))
 }
 
@@ -132,7 +132,7 @@ fn assert_counted<L: Ledger + Send + Sync, R: Threads + Wait + Abort + Sync>(
     asked: &Ask,
 ) -> Result<(), Fail> {
     let pair = contend(rt, manager, asked)?;
-    let sum = summed(rt, manager);
+    let sum = sum_up(rt, manager);
     let tallies = tallies(rt, alloc, manager, pair)?;
     assert_eq!(rt;
         (sum.entries, sum.takes, tallies),

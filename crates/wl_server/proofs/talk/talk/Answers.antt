@@ -10,7 +10,7 @@ returns-in-Ended g c =
     let (es, all, count) = c.loop.invariant in
     record {
       exchanges = es;
-      last = (c.loop.link, c.loop.speaker);
+      last = (c.loop.transport, c.loop.speaker);
       exchanged = all;
       count = count;
       ends = c.in-Ended.ensures;
@@ -21,6 +21,6 @@ loop-preserved g c =
     let (es, all, count) = c.loop.invariant in
     let (e, went) = c.in-Went.ensures in (
       es ++ e ∷ [],
-      one_more g.L.Link.hears g.L.Link.says g.P.Speaker.answers es e _ _ _ all went,
+      one_more g.L.Transport.hears g.L.Transport.says g.P.Speaker.answers es e _ _ _ all went,
       rw c.saturating_add-answered.ensures (counted es e c.loop.answered count),
     )

@@ -5,5 +5,5 @@ use Rattle.wl_server.proofs.talk.talk.Given as goal
 -- the messages so far were answered
 abbrev pub invariant-loop : goal.invariant-loop
 invariant-loop g l = (es : List Exchange)
-    × Exchanged g.L.Link.hears g.L.Link.says g.P.Speaker.answers (l.fn.link, l.fn.speaker) es (l.link, l.speaker)
+    × Exchanged g.L.Transport.hears g.L.Transport.says g.P.Speaker.answers (l.fn.transport, l.fn.speaker) es (l.transport, l.speaker)
     × (l.answered ≡ min (length es) (2 ^ 64 - 1))

@@ -9,7 +9,7 @@ returns-then-not-may_push g c = (stays g.S.Read.remaining g.S.Write.contents g.P
 pub returns-in-Some : goal.returns-in-Some
 returns-in-Some g c =
     let tells : g.P.Speaker.pushes c.args.speaker (string_bytes c.in-Some.text) c.in-Ok.next = search rules in
-    rw c.settle.ensures (
+    rw c.after_sending.ensures (
     pushed g.S.Read.remaining g.S.Write.contents g.P.Speaker.answers g.P.Speaker.pushes g.P.Speaker.rests c.put-pushing.result _ _ _ _ (string_bytes c.in-Some.text) c.requires tells
     (rw c.as_str.ensures.value at c.put-pushing.ensures)
     )

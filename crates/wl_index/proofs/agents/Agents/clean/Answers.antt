@@ -23,7 +23,7 @@ written c =
     (record { own = λ n is has. has; signed = c.clean_list.ensures.kept })
 
 pub invariant_of-self-2 : goal.invariant_of-self-2
-invariant_of-self-2 c = let now = written (goal.at.invariant_of-self-2 c).After-clean_list in (now.roll, now.rising)
+invariant_of-self-2 c = let now = written (goal.at.invariant_of-self-2 c).After-clean_list in (now.agent_index, now.rising)
 
 pub returns-clause-rows : goal.returns-clause-rows
 returns-clause-rows c = rw (← c.self.view_is, (written (goal.at.returns-clause-rows c).After-clean_list).rows) refl

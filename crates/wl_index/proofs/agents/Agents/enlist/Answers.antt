@@ -3,9 +3,9 @@ use Rattle.std.specs.Option.{is_some, option_copied_mut}
 use Rattle.std.specs.List.{list_any}
 use Rattle.std.proofs.lemmas.Result.{on_ok_weaker}
 use Rattle.wl_index.specs.Lists.{IsOn, IsRising, at}
-use Rattle.wl_index.specs.Roll.{Register}
+use Rattle.wl_index.specs.AgentRows.{Register}
 use Rattle.wl_index.proofs.Registers.{Relisted, lent_some, relisted, written_here}
-use Rattle.wl_index.proofs.Rolls.{agent_there, listed_at, signal_made, some_is}
+use Rattle.wl_index.proofs.AgentIndexes.{agent_there, listed_at, signal_made, some_is}
 use Rattle.wl_index.proofs.agents.Agents.enlist.Goals.{After-unwrap-found, After-enroll}
 use Rattle.wl_index.proofs.agents.Agents.enlist.Goals as goal
 
@@ -38,7 +38,7 @@ written c =
     relisted c.args.live.now.entries c.args.agent c.unwrap-found.result.now w _ _ _ _ _ c.self.invariant.0 c.self.invariant.1 there set.0 (set.1 (ap is_some there)) same.0 same.1 same.2 c.enroll.ensures.rising c.enroll.ensures.kept
 
 pub invariant_of-self : goal.invariant_of-self
-invariant_of-self c = let now = written (goal.at.invariant_of-self c).After-enroll in (now.roll, now.rising)
+invariant_of-self c = let now = written (goal.at.invariant_of-self c).After-enroll in (now.agent_index, now.rising)
 
 pub returns-clause-rows : goal.returns-clause-rows
 returns-clause-rows c = rw (← c.self.view_is, (written (goal.at.returns-clause-rows c).After-enroll).rows) refl

@@ -1,5 +1,5 @@
 use Rattle.std.proofs.Common.{◌∙◌, sym}
-use Rattle.wl_index.proofs.Rolls.{agent_there}
+use Rattle.wl_index.proofs.AgentIndexes.{agent_there}
 use Rattle.wl_index.proofs.agents.Agents.has.Goals as goal
 
 pub returns : goal.returns

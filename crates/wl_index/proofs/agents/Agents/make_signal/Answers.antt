@@ -5,10 +5,10 @@ use Rattle.std.specs.Map.{keys_of, lookup, set_value, remove_entry}
 use Rattle.std.specs.BTreeMap.{is_at, insert_entry}
 use Rattle.wl_index.specs.declared.agents.Agent.{Agent}
 use Rattle.wl_index.specs.Lists.{IsRising, list_at, own_of, signed_of}
-use Rattle.wl_index.specs.Roll.{Register}
+use Rattle.wl_index.specs.AgentRows.{Register}
 use Rattle.wl_number_map.proofs.Keyed.{Found, entry_last, found, undone}
 use Rattle.wl_index.proofs.Registers.{list_more, lists_written, rises_as, rises_written, set_looks}
-use Rattle.wl_index.proofs.Rolls.{agent_there, listed_at, some_is, some_at, keys_last, rows_stay, roll_stays, signalled, signal_rows, signals_lower}
+use Rattle.wl_index.proofs.AgentIndexes.{agent_there, listed_at, some_is, some_at, keys_last, rows_stay, index_stays, signalled, signal_rows, signals_lower}
 use Rattle.wl_index.proofs.agents.Agents.make_signal.Goals.{In_ok-insert, After-remove, In-Ok}
 use Rattle.wl_index.proofs.agents.Agents.make_signal.Goals as goal
 
@@ -54,7 +54,7 @@ invariant_of-self-in_default c =
     let m = there at in
     let es = c.self.inside.agents.entries in
     rw (undo c, now.1) (
-      roll_stays _ _ _ _ _ _ now.0 c.self.invariant.0 (member at) (ap keys_of now.5),
+      index_stays _ _ _ _ _ _ now.0 c.self.invariant.0 (member at) (ap keys_of now.5),
       rises_written c.args.agent now.0 es _ (λ q. set_looks c.args.agent q m.0 now.0 es (member at)) (rises_as m.0 now.0 now.4 (same c) (subst IsRising m.1 (c.self.invariant.1 c.args.agent))) c.self.invariant.1,
     )
 

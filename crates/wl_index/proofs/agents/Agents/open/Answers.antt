@@ -3,7 +3,7 @@ use Rattle.std.specs.Map.{keys_of}
 use Rattle.wl_index.specs.declared.agents.Agent.{Agent}
 use Rattle.wl_index.specs.Lists.{at, list_at, own_of, signed_of}
 use Rattle.wl_index.proofs.Registers.{empty_rises, lists_written, none_above, rises_written}
-use Rattle.wl_index.proofs.Rolls.{entered_roll, entered_rows}
+use Rattle.wl_index.proofs.AgentIndexes.{opened_index, opened_rows}
 use Rattle.wl_index.proofs.agents.Agents.open.Goals.{In_ok-insert}
 use Rattle.wl_index.proofs.agents.Agents.open.Goals as goal
 
@@ -15,14 +15,14 @@ pub invariant_of-self-2 : goal.invariant_of-self-2
 invariant_of-self-2 c =
     let i = c.self.inside in
     let a = agent (goal.at.invariant_of-self-2 c).In_ok-insert in (
-      entered_roll i.agents.entries c.insert.new.self.entries i.signals.entries i.next_agent i.next_signal a c.self.invariant.0 (ap keys_of c.new-2.ensures.empty) c.in_ok-insert.ensures.entries c.in_ok-insert.ensures.ordered,
+      opened_index i.agents.entries c.insert.new.self.entries i.signals.entries i.next_agent i.next_signal a c.self.invariant.0 (ap keys_of c.new-2.ensures.empty) c.in_ok-insert.ensures.entries c.in_ok-insert.ensures.ordered,
       rises_written i.next_agent a i.agents.entries c.insert.new.self.entries c.in_ok-insert.ensures.updates (empty_rises a c.new.ensures.items c.new-2.ensures.empty) c.self.invariant.1,
     )
 
-pub returns-clause-entered : goal.returns-clause-entered
-returns-clause-entered c =
+pub returns-clause-opened : goal.returns-clause-opened
+returns-clause-opened c =
     let i = c.self.inside in
-    rw (← c.self.view_is, entered_rows i.agents.entries c.insert.new.self.entries i.next_agent (agent (goal.at.returns-clause-entered c).In_ok-insert) c.self.invariant.0.members_below c.in_ok-insert.ensures.entries) refl
+    rw (← c.self.view_is, opened_rows i.agents.entries c.insert.new.self.entries i.next_agent (agent (goal.at.returns-clause-opened c).In_ok-insert) c.self.invariant.0.members_below c.in_ok-insert.ensures.entries) refl
 
 pub returns-clause-lists : goal.returns-clause-lists
 returns-clause-lists c =

@@ -1,6 +1,6 @@
 use Rattle.std.proofs.Common.{◌∙◌, sym, ap}
-use Rattle.wl_index.specs.Roll.{reason_at}
-use Rattle.wl_index.proofs.Rolls.{reason_found}
+use Rattle.wl_index.specs.AgentRows.{reason_at}
+use Rattle.wl_index.proofs.AgentIndexes.{reason_found}
 use Rattle.wl_index.proofs.agents.Agents.reason.Goals as goal
 
 pub returns-in-Some : goal.returns-in-Some

@@ -5,7 +5,7 @@ use Rattle.std.specs.BTreeMap.{is_at}
 use Rattle.wl_number_map.proofs.Keyed.{found}
 use Rattle.wl_index.specs.Lists.{IsRising, own_of, signed_of}
 use Rattle.wl_index.proofs.Registers.{lists_written, rises_written}
-use Rattle.wl_index.proofs.Rolls.{active_roll, active_set, active_none}
+use Rattle.wl_index.proofs.AgentIndexes.{active_index, active_set, active_none}
 use Rattle.wl_index.proofs.agents.Agents.set_active.Goals.{In-Some}
 use Rattle.wl_index.proofs.agents.Agents.set_active.Goals as goal
 
@@ -25,7 +25,7 @@ invariant_of-self-2 c =
     let at = there (goal.at.invariant_of-self-2 c).In-Some in
     let w = record m { active = c.args.active } in
     let holds = c.get_mut.follows.holds w in (
-      rw holds.0 (active_roll c.args.agent c.args.active i.agents.entries i.signals.entries i.next_agent i.next_signal m c.self.invariant.0 at),
+      rw holds.0 (active_index c.args.agent c.args.active i.agents.entries i.signals.entries i.next_agent i.next_signal m c.self.invariant.0 at),
       rises_written c.args.agent w i.agents.entries (c.get_mut.follows.lender w).entries (holds.1 (ap is_some at)) (let rises = subst IsRising at (c.self.invariant.1 c.args.agent) in record { own = rises.own; signed = rises.signed }) c.self.invariant.1,
     )
 

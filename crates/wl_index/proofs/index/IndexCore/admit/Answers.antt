@@ -22,16 +22,16 @@ returns-then-is_unavailable-clause-admitted c =
 
 -- ---- it comes to its queue
 
-pub enter-requires-clause-accepted : goal.enter-requires-clause-accepted
-enter-requires-clause-accepted c = as_seen _ _ _ (command.Request c.args.agent c.args.ask.now) c.self.view_is c.requires.accepted
+pub enqueue-requires-clause-accepted : goal.enqueue-requires-clause-accepted
+enqueue-requires-clause-accepted c = as_seen _ _ _ (command.Request c.args.agent c.args.ask.now) c.self.view_is c.requires.accepted
 
 pub invariant_of-self-2 : goal.invariant_of-self-2
 invariant_of-self-2 c = (
-  asked_core c.enter.new.agents c.self.inside.locks c.enter.new.locks c.process.new.self c.args.agent c.args.ask.now _ c.in_ok-number.ensures.entered (let room = c.in_ok-reserve.ensures.ok in let live = ap (λ (r : Rows). length r.entries) c.requests.ensures.entries in let len = c.len.ensures.entries in omega (arith, room, live, len)) c.enter.ensures.grouped c.process.ensures.quiet c.process.ensures.tags,
+  asked_core c.enqueue.new.agents c.self.inside.locks c.enqueue.new.locks c.process.new.self c.args.agent c.args.ask.now _ c.in_ok-number.ensures.enqueued (let room = c.in_ok-reserve.ensures.ok in let live = ap (λ (r : Rows). length r.entries) c.requests.ensures.entries in let len = c.len.ensures.entries in omega (arith, room, live, len)) c.enqueue.ensures.grouped c.process.ensures.quiet c.process.ensures.tags,
   c.in_ok-reserve.ensures.items ∙ c.self.invariant.1,
 )
 
 pub returns-clause-admitted : goal.returns-clause-admitted
 returns-clause-admitted c =
-    plain_seen c.args.self.now c.self.inside.agents.rows c.enter.new.agents.rows c.self.inside.locks c.enter.new.locks c.process.new.self c.args.agent c.args.ask.now _ c.self.view_is c.requires.accepted c.requires.plain
-    (sym (c.is_unavailable.ensures c.args.agent) ∙ c.if-is_unavailable.false) c.requires.no_changes c.in_ok-number.ensures.entered (record { lists = c.process.ensures.settled; names = c.process.ensures.names; next = c.process.ensures.next }) c.enter.ensures.rows c.in_ok-number.ensures.number
+    plain_seen c.args.self.now c.self.inside.agents.rows c.enqueue.new.agents.rows c.self.inside.locks c.enqueue.new.locks c.process.new.self c.args.agent c.args.ask.now _ c.self.view_is c.requires.accepted c.requires.plain
+    (sym (c.is_unavailable.ensures c.args.agent) ∙ c.if-is_unavailable.false) c.requires.no_changes c.in_ok-number.ensures.enqueued (record { lists = c.process.ensures.processed; names = c.process.ensures.names; next = c.process.ensures.next }) c.enqueue.ensures.rows c.in_ok-number.ensures.number

@@ -7,9 +7,9 @@ use Rattle.wl_machine.specs.Refusals.{refusal, reason_in}
 use Rattle.wl_index.specs.declared.request.Owner.TheVariants.{Signal}
 use Rattle.wl_index.specs.Core.{IsCore, machine_state}
 use Rattle.wl_index.specs.Locks.{Board}
-use Rattle.wl_index.specs.Roll.{Roll}
+use Rattle.wl_index.specs.AgentRows.{AgentRows}
 use Rattle.wl_index.proofs.Cores.{begun_core, begun_gives, ended_core}
-use Rattle.wl_index.proofs.Ended.{abort_gives, owned_settled}
+use Rattle.wl_index.proofs.Ended.{abort_gives, owned_processed}
 use Rattle.wl_index.proofs.Tags.{grouped_kept, owners_signed}
 use Rattle.wl_index.proofs.index.IndexCoreLockCore.abort.Goals.{After-begin}
 use Rattle.wl_index.proofs.index.IndexCoreLockCore.abort.Goals as goal
@@ -36,9 +36,9 @@ invariant_of-self-2 c =
 pub returns-clause-aborted : goal.returns-clause-aborted
 returns-clause-aborted c =
     let i = c.self.inside in
-    let state = λ (rows : Roll). machine_state rows c.begin.new.self in
+    let state = λ (rows : AgentRows). machine_state rows c.begin.new.self in
     let accepted : refusal (state i.agents.rows) (command.Abort c.args.agent c.args.signal c.args.reason) ≡ None = sym c.in_default.ensures in
     let fresh : is_some (reason_in i.agents.rows.signals c.args.agent c.args.signal) ≡ false = ap is_some (sym c.reason.ensures) ∙ sym c.is_some.ensures ∙ c.if-is_some.false in
     rw (← c.self.view_is) (begun_gives i.agents.rows i.locks c.begin.new.self (command.Abort c.args.agent c.args.signal c.args.reason) _ _ _ c.begin.ensures
     (abort_gives (state i.agents.rows) (state c.abort.new.self.rows) _ c.args.agent c.args.signal c.args.reason _ accepted fresh (ap state c.abort.ensures.rows)
-    (owned_settled c.abort.new.self.rows c.begin.new.self c.end_owned.new.locks c.process.new.self (Signal c.args.agent c.args.signal) _ _ (reply.Aborted answer.Done) (ap (λ (b : Board). b.changes) c.begin.ensures) c.end_owned.ensures.ended (record { lists = c.process.ensures.settled; names = c.process.ensures.names; next = c.process.ensures.next }))))
+    (owned_processed c.abort.new.self.rows c.begin.new.self c.end_owned.new.locks c.process.new.self (Signal c.args.agent c.args.signal) _ _ (reply.Aborted answer.Done) (ap (λ (b : Board). b.changes) c.begin.ensures) c.end_owned.ensures.ended (record { lists = c.process.ensures.processed; names = c.process.ensures.names; next = c.process.ensures.next }))))

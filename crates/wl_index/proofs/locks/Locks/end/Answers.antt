@@ -4,7 +4,7 @@ use Rattle.std.specs.Map.{lookup}
 use Rattle.std.specs.BTreeMap.{is_at}
 use Rattle.wl_index.specs.Event.{Happened}
 use Rattle.wl_index.specs.Locks.{Board}
-use Rattle.wl_index.specs.Queue.{without}
+use Rattle.wl_index.specs.NameQueue.{without}
 use Rattle.wl_index.specs.Queues.{names_of, place_of}
 use Rattle.wl_number_map.proofs.Keyed.{Found, found}
 use Rattle.wl_index.proofs.Boards.{board_as, ended_room}

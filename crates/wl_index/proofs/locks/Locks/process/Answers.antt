@@ -1,6 +1,6 @@
 use Rattle.std.proofs.Common.{◌∙◌, ◌==◌, [], ℕ, List, ap, sym}
 use Rattle.std.specs.Prelude.{filter}
-use Rattle.wl_machine.specs.Grants.{Lists, in_use, lists_of, settle_names}
+use Rattle.wl_machine.specs.Grants.{Lists, in_use, lists_of, process_queues}
 use Rattle.wl_index.specs.Locks.{Stands, Underway}
 use Rattle.wl_index.specs.Queues.{names_of}
 use Rattle.wl_index.specs.Rows.{held_of, pending_of}
@@ -25,7 +25,7 @@ pub process_all-requires-clause-room : goal.process_all-requires-clause-room
 process_all-requires-clause-room c = rw c.sort.ensures.room c.self.invariant.room
 
 abbrev target : After-sort → Lists
-target c = settle_names (before c) (names_of c.self.inside.queues)
+target c = process_queues (before c) (names_of c.self.inside.queues)
 
 abbrev stay : After-sort → List (List ℕ)
 stay c = filter (in_use (target c).held (target c).pending) (names_of c.self.inside.queues)
@@ -52,10 +52,10 @@ done : (c : After-process_all)
     Arrived (target at) (stay at) c.process_all.new.queues (lists_of (held_of c.process_all.new.requests.entries) (pending_of c.process_all.new.requests.entries) c.process_all.new.event.changes)
 done c = arrived _ _ _ _ (processed c)
 
-pub returns-clause-settled : goal.returns-clause-settled
-returns-clause-settled c =
+pub returns-clause-processed : goal.returns-clause-processed
+returns-clause-processed c =
     let i = c.self.inside in
-    rw (← c.self.view_is) ((done (goal.at.returns-clause-settled c).After-process_all).lists ∙ ap (λ cs. settle_names (lists_of (held_of i.requests.entries) (pending_of i.requests.entries) cs) (names_of i.queues)) c.sort.ensures.changes)
+    rw (← c.self.view_is) ((done (goal.at.returns-clause-processed c).After-process_all).lists ∙ ap (λ cs. process_queues (lists_of (held_of i.requests.entries) (pending_of i.requests.entries) cs) (names_of i.queues)) c.sort.ensures.changes)
 
 pub returns-clause-names : goal.returns-clause-names
 returns-clause-names c =

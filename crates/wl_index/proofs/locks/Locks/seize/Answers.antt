@@ -3,7 +3,7 @@ use Rattle.std.specs.Option.{IsSome}
 use Rattle.wl_index.specs.Event.{Happened}
 use Rattle.wl_index.specs.Locks.{Board, WaitsAlone}
 use Rattle.wl_machine.specs.Grants.{locks}
-use Rattle.wl_index.specs.Queue.{seized}
+use Rattle.wl_index.specs.NameQueue.{after_seize}
 use Rattle.wl_index.specs.Queues.{names_of, place_of}
 use Rattle.wl_index.specs.Rows.{held_of, pending_of, request_row}
 use Rattle.wl_number_map.proofs.Keyed.{found}
@@ -67,7 +67,7 @@ invariant_of-self c =
     record {
       ordered = same_tags_ordered c.grant.new.self.entries i.requests.entries c.grant.ensures.tags is.ordered;
       stands = rw (queues, touched) (one_seized c.args.number c.unwrap-place.result c.args.name.now i.requests.entries c.grant.new.self.entries i.queues i.event.touched is.ordered w (place at.After-unwrap-place) (gone at.After-place) c.grant.ensures.held c.grant.ensures.pending is.stands);
-      below = rw (queues, c.grant.ensures.next) (below_updated i.requests.next c.unwrap-place.result (seized c.args.number) i.queues is.below);
+      below = rw (queues, c.grant.ensures.next) (below_updated i.requests.next c.unwrap-place.result (after_seize c.args.number) i.queues is.below);
       room = omega (arith, left, room, now);
     }
 
@@ -81,4 +81,4 @@ pub returns-clause-changes : goal.returns-clause-changes
 returns-clause-changes c = rw (← c.self.view_is) (ap (λ (h : Happened). h.changes) c.note_at.ensures)
 
 pub returns-clause-names : goal.returns-clause-names
-returns-clause-names c = rw (← c.self.view_is) (ap names_of c.seize.ensures.queues ∙ names_updated c.unwrap-place.result (seized c.args.number) (seized_keeps c.args.number) c.self.inside.queues)
+returns-clause-names c = rw (← c.self.view_is) (ap names_of c.seize.ensures.queues ∙ names_updated c.unwrap-place.result (after_seize c.args.number) (seized_keeps c.args.number) c.self.inside.queues)

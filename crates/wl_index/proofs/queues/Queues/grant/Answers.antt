@@ -4,8 +4,8 @@ use Rattle.std.specs.HashMap.{get_by_text}
 use Rattle.std.specs.Map.{set_value}
 use Rattle.std.specs.BTreeMap.{is_at}
 use Rattle.wl_number_map.proofs.Keyed.{set_same}
-use Rattle.wl_index.specs.Queue.{after_grant}
-use Rattle.wl_index.specs.Queues.{at_place, updated}
+use Rattle.wl_index.specs.NameQueue.{after_grant}
+use Rattle.wl_index.specs.Queues.{at_place, with_updated}
 use Rattle.wl_index.proofs.InUse.{are_updated, grant_keeps, if_none, if_some, is_updated, none_grants, set_updated}
 use Rattle.wl_index.proofs.queues.Queues.grant.Goals.{After-grant_first}
 use Rattle.wl_index.proofs.queues.Queues.grant.Goals as goal
@@ -14,7 +14,7 @@ there : (c : After-grant_first) → at_place c.args.place c.self.inside.queues.e
 there c = sym c.get_mut.ensures.value ∙ ap option_copied_mut c.in-Some.is
 
 -- the queue after its grant
-set : (c : After-grant_first) → (c.get_mut.follows.lender c.grant_first.new.self).entries ≡ updated c.args.place after_grant c.self.inside.queues.entries
+set : (c : After-grant_first) → (c.get_mut.follows.lender c.grant_first.new.self).entries ≡ with_updated c.args.place after_grant c.self.inside.queues.entries
 set c =
     let es = c.self.inside.queues.entries in
     (c.get_mut.follows.holds c.grant_first.new.self).0 ∙ ap (set_value (is_at (nat_cmp c.args.place)) es) c.grant_first.ensures.after ∙ set_updated c.args.place after_grant es c.in-Some.queue.now c.self.invariant.are.ordered (there c)

@@ -3,14 +3,14 @@ use Rattle.std.specs.Option.{option_copied_mut}
 use Rattle.std.specs.HashMap.{get_by_text}
 use Rattle.std.specs.Map.{set_value}
 use Rattle.std.specs.BTreeMap.{is_at}
-use Rattle.wl_index.specs.Queue.{without}
-use Rattle.wl_index.specs.Queues.{at_place, updated}
+use Rattle.wl_index.specs.NameQueue.{without}
+use Rattle.wl_index.specs.Queues.{at_place, with_updated}
 use Rattle.wl_index.proofs.InUse.{are_updated, is_updated, none_updated, set_updated}
 use Rattle.wl_index.proofs.queues.Queues.remove.Goals.{After-remove}
 use Rattle.wl_index.proofs.queues.Queues.remove.Goals as goal
 
 -- the queue without the number
-set : (c : After-remove) → (c.get_mut.follows.lender c.remove.new.self).entries ≡ updated c.args.place (without c.args.number) c.self.inside.queues.entries
+set : (c : After-remove) → (c.get_mut.follows.lender c.remove.new.self).entries ≡ with_updated c.args.place (without c.args.number) c.self.inside.queues.entries
 set c =
     let es = c.self.inside.queues.entries in
     let there : at_place c.args.place es ≡ Some c.in-Some.queue.now = sym c.get_mut.ensures.value ∙ ap option_copied_mut c.in-Some.is in

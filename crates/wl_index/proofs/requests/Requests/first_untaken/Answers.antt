@@ -8,7 +8,7 @@ use Rattle.std.proofs.lemmas.List.{drop_all}
 use Rattle.wl_index.specs.declared.request.Standing.TheVariants.{Holds}
 use Rattle.wl_index.specs.declared.request.Place.{Place}
 use Rattle.wl_index.specs.Ends.{ends_entry}
-use Rattle.wl_index.specs.Order.{from_stamp, first_of}
+use Rattle.wl_index.specs.Order.{from_grant_seq, first_of}
 use Rattle.wl_index.proofs.Picks.{picked}
 use Rattle.wl_index.proofs.Turns.{rest_next}
 use Rattle.wl_index.proofs.Untaken.{all_offered, offered}
@@ -24,7 +24,7 @@ loop-number-preserved c =
     let n : ℕ = get_or ns l.number-index 0 in
     let rest : List ℕ = drop (l.number-index + 1) ns in
     let next : drop l.number-index ns ≡ n ∷ rest = rest_next ns l.number-index 0 c.loop-number-test.true in
-    let offer = c.earlier-first.ensures ∙ ap (λ o. first_of (option_to_list l.first ++ from_stamp c.args.low (option_to_list o))) c.ending_place.ensures in
+    let offer = c.earlier-first.ensures ∙ ap (λ o. first_of (option_to_list l.first ++ from_grant_seq c.args.low (option_to_list o))) c.ending_place.ensures in
     offered c.args.low c.args.owner l.first c.earlier-first.result n (drop l.number-index ns) rest c.args.self.now.entries next offer l.invariant
 
 -- the only place is the first
@@ -36,4 +36,4 @@ pub returns : goal.returns
 returns c =
     let l = c.loop-number in
     let none : drop l.number-index c.args.numbers.now ≡ [] = drop_all l.number-index c.args.numbers.now (omega arith) in
-    alone l.first ∙ ap (λ (k : List ℕ). first_of (option_to_list l.first ++ from_stamp c.args.low (picked (ends_entry c.args.owner Holds) c.args.self.now.entries k))) (sym none) ∙ l.invariant
+    alone l.first ∙ ap (λ (k : List ℕ). first_of (option_to_list l.first ++ from_grant_seq c.args.low (picked (ends_entry c.args.owner Holds) c.args.self.now.entries k))) (sym none) ∙ l.invariant

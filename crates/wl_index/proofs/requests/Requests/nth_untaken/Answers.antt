@@ -1,9 +1,9 @@
 use Rattle.std.proofs.Common.{Some, ◌≡◌, ◌∙◌, subst, sym, ◌-◌, arith}
 use Rattle.std.specs.Prelude.{filter}
 use Rattle.wl_index.specs.Order.{first_of}
-use Rattle.wl_index.specs.Stamps.{Distinct}
-use Rattle.wl_index.specs.Rows.{Rows, holding, stamp_of}
-use Rattle.wl_index.proofs.Untaken.{none_passed, one_passed, all_passed, offers, reached, first_stamped}
+use Rattle.wl_index.specs.GrantOrder.{Distinct}
+use Rattle.wl_index.specs.Rows.{Rows, holding, grant_seq_of}
+use Rattle.wl_index.proofs.Untaken.{none_passed, one_passed, all_passed, offers, reached, first_below}
 use Rattle.wl_index.proofs.requests.Requests.nth_untaken.Goals as goal
 
 pub loop-passed-init : goal.loop-passed-init
@@ -13,14 +13,14 @@ pub overflow_add-low : goal.overflow_add-low
 overflow_add-low c =
     let i = c.self.inside in
     let there = subst (λ (v : Rows). first_of (offers c.loop-passed.low c.args.owner v.entries) ≡ Some c.in_ok-low.field-0) (sym c.self.view_is) (sym c.first_untaken.ensures ∙ c.in_ok-low.was) in
-    let below = first_stamped c.loop-passed.low c.args.owner i.stamp i.requests.entries c.in_ok-low.field-0 c.self.invariant.stamped there in
+    let below = first_below c.loop-passed.low c.args.owner i.grant_seq i.requests.entries c.in_ok-low.field-0 c.self.invariant.below_next there in
     let room = c.self.invariant.room in
     let high = c.self.invariant.high in
     omega (arith, below, room, high)
 
 pub loop-passed-preserved : goal.loop-passed-preserved
 loop-passed-preserved c =
-    let apart = subst (λ (v : Rows). Distinct stamp_of (filter holding v.entries)) c.self.view_is c.self.invariant.distinct in
+    let apart = subst (λ (v : Rows). Distinct grant_seq_of (filter holding v.entries)) c.self.view_is c.self.invariant.distinct in
     one_passed c.args.owner c.args.i c.loop-passed.passed c.loop-passed.low c.args.self.now.entries c.in_ok-low.field-0 apart c.loop-passed-test.true (sym c.first_untaken.ensures ∙ c.in_ok-low.was) c.loop-passed.invariant
 
 pub returns-in_err-low : goal.returns-in_err-low

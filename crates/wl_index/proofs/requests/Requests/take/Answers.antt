@@ -19,7 +19,7 @@ pub invariant_of-self : goal.invariant_of-self
 invariant_of-self c =
     let i = c.self.inside in
     rw (written (goal.at.invariant_of-self c).After-mark_taken)
-    (marked_table c.args.number i.requests.entries i.stamp i.next c.self.invariant)
+    (marked_table c.args.number i.requests.entries i.grant_seq i.next c.self.invariant)
 
 pub returns-in-Some-clause-found : goal.returns-in-Some-clause-found
 returns-in-Some-clause-found c =

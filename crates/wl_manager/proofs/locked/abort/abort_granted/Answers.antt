@@ -6,7 +6,7 @@ use Rattle.wl_manager.proofs.Aborting.{untried, aborted_one, found_taken, tried_
 use Rattle.wl_manager.proofs.locked.abort.abort_granted.Goals as goal
 
 pub loop-id-init : goal.loop-id-init
-loop-id-init g c = ([], untried c.args.book.now c.args.keepers.now c.args.agent c.args.signal c.args.reason c.requires.standing c.requires.from_one c.requires.settled, refl)
+loop-id-init g c = ([], untried c.args.book.now c.args.keepers.now c.args.agent c.args.signal c.args.reason c.requires.standing c.requires.from_one c.requires.published, refl)
 
 pub try_abort-requires : goal.try_abort-requires
 try_abort-requires g c = next_granted c.args.book.now c.args.keepers.now c.args.agent c.args.signal c.args.reason c.loop-id.book c.loop-id.keepers c.loop-id.invariant.0 c.loop-id.after c.in-Some.id c.loop-id.invariant.1 c.in-Some.ensures

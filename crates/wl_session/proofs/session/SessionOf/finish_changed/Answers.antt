@@ -1,5 +1,5 @@
-use Rattle.wl_session.proofs.News.{writable}
+use Rattle.wl_session.proofs.DueNotices.{writable}
 use Rattle.wl_session.proofs.session.SessionOf.finish_changed.Goals as goal
 
 pub write_reply-requires : goal.write_reply-requires
-write_reply-requires g c = rw c.in_ok-notices.ensures (writable _ c.args.outcome c.args.looks.now)
+write_reply-requires g c = rw c.in_ok-notices.ensures (writable _ c.args.outcome c.args.observed.now)
