@@ -70,10 +70,6 @@ Answered before line outcome now = Answers before.live line outcome now.live now
 abbrev pub Says : World → List ℕ → Reply → World → Type 0
 Says before line reply now = (outcome : Result (Unit {0}) Fault) × Answered before line outcome now × IsReply outcome reply now
 
-abbrev pub has_asked : Ptr → Ptr → ℕ → Ptr → Ptr → Asking → Fml
-has_asked world line n reply reply_length g =
-    fsep (handle g.alloc world g.world) (fsep (lies_at (Array u8 n) g.share line g.line) (fsep (room_at RawPtr reply) (room_at usize reply_length)))
-
 -- what the pointers that aren't null lead to
 abbrev pub may_ask : Ptr → Ptr → ℕ → Ptr → Ptr → Asking → Fml
 may_ask world line n reply reply_length g =
@@ -110,9 +106,6 @@ Audited before outcome now = Audits before.live outcome now.live now.reply.items
 
 abbrev pub SaysAudit : World → Reply → World → Type 0
 SaysAudit before reply now = (outcome : Result (Unit {0}) Fault) × Audited before outcome now × IsReply outcome reply now
-
-abbrev pub has_audit : Ptr → Ptr → Ptr → Auditing → Fml
-has_audit world reply reply_length g = fsep (handle g.alloc world g.world) (fsep (room_at RawPtr reply) (room_at usize reply_length))
 
 abbrev pub may_audit : Ptr → Ptr → Ptr → Auditing → Fml
 may_audit world reply reply_length g = fsep (if_non_null world (handle g.alloc world g.world))

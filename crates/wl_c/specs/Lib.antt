@@ -1,3 +1,4 @@
 pub mod Codes
 pub mod Worlds
 pub mod Handles
+pub mod inner

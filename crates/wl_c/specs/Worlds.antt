@@ -1,5 +1,5 @@
 -- What the calls of a world do. A world is live until a growth is refused.
-use Rattle.std.specs.Prelude.{ℕ, List, [], ◌∷◌, ◌++◌, ◌≡◌, ◌≤◌, ◌<◌, length, Bool, if◌then◌else◌, Option, Some, None, option_map, Result, Ok, Err}
+use Rattle.std.specs.Prelude.{ℕ, List, [], ◌∷◌, ◌++◌, ◌≡◌, ◌<◌, length, Bool, if◌then◌else◌, Option, Some, None, option_map, Result, Ok, Err}
 use Rattle.wl_world.specs.World.{World, next, reply, opening}
 use Rattle.wl_world.specs.Worlds.{world_of}
 use Rattle.wl_script.specs.Lines.{HasNoLf, lines}
@@ -39,16 +39,6 @@ Refuses before line LineFeed now = (now ≡ Some before) × (HasNoLf line → �
 Refuses before line Spent now = ⊥
 Refuses before line NoBooks now = ⊥
 Refuses before line Null now = ⊥
-
--- what is found of a line before it is answered
-abbrev pub MayBeAnswered : List ℕ → Result (Unit {0}) Fault → Type 0
-MayBeAnswered line (Ok done) = (length line ≤ 65536) × HasNoLf line
-MayBeAnswered line (Err TooLong) = 65536 < length line
-MayBeAnswered line (Err LineFeed) = HasNoLf line → ⊥
-MayBeAnswered line (Err Memory) = ⊥
-MayBeAnswered line (Err Spent) = ⊥
-MayBeAnswered line (Err NoBooks) = ⊥
-MayBeAnswered line (Err Null) = ⊥
 
 -- what a call with a line does to a live world
 abbrev pub AnswersLive : Live → List ℕ → Result (Unit {0}) Fault → Option Live → List ℕ → Type 0

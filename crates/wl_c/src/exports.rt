@@ -4,7 +4,8 @@ ghost use Rattle.std.specs.Prelude.{◌≡◌, ◌≤◌, IfOk};
 ghost use Rattle.std.specs.Ptr.{if_non_null};
 ghost use denote.RawPtr.{Testable};
 ghost use types.Logic.{sem};
-ghost use Rattle.wl_c.specs.Handles.{Asking, Auditing, IsNew, after_answer, after_audit, handle, has_asked, has_audit, may_ask, may_audit, was_answered, was_audited};
+ghost use Rattle.wl_c.specs.Handles.{Asking, Auditing, IsNew, after_answer, after_audit, handle, may_ask, may_audit, was_answered, was_audited};
+ghost use Rattle.wl_c.specs.inner.Handles.{has_asked, has_audit};
 ghost use Rattle.wl_c.specs.Worlds.{IsOpening};
 ghost use Rattle.wl_c.specs.declared.world.World as code;
 

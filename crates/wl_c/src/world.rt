@@ -3,7 +3,8 @@
 ghost use Rattle.std.specs.Prelude.{◌≡◌, option_map, Err, IfOk, OnOk, Some, None, if◌then◌else◌, []};
 ghost use Rattle.wl_world.specs.World.{next, reply};
 ghost use Rattle.wl_c.specs.declared.fault.Fault.TheVariants.{Memory as FaultMemory};
-ghost use Rattle.wl_c.specs.Worlds.{Answers, Audits, IsAudit, IsOpening, longer, MayBeAnswered, script_of, world_of_live};
+ghost use Rattle.wl_c.specs.Worlds.{Answers, Audits, IsAudit, IsOpening, longer, script_of, world_of_live};
+ghost use Rattle.wl_c.specs.inner.Worlds.{MayBeAnswered};
 
 use crate::fault::Fault;
 use crate::seed::Seed;

@@ -8,8 +8,9 @@ use Rattle.wl_types.specs.declared.phases.Phase.{Phase}
 use Rattle.wl_types.specs.declared.phases.Phase.TheVariants.{Pending}
 use Rattle.wl_cell.specs.declared.view.View.{View}
 use Rattle.wl_cell.specs.declared.view.View.TheVariants.{First, Keeper, Owner, Watch, Note, Spent}
-use Rattle.wl_cell.specs.Rule.{Fits, Kept, owner_at}
-use Rattle.wl_cell.specs.Steps.{owner_at_first, keeper_at_first, watch_of, note_of, told}
+use Rattle.wl_cell.specs.Rule.{Fits, Kept}
+use Rattle.wl_cell.specs.inner.Rule.{owner_at}
+use Rattle.wl_cell.specs.inner.Steps.{owner_at_first, keeper_at_first, watch_of, note_of, told}
 
 -- an element of a list with one more at its end
 at_end : {A : Type 0} (l : List A) (a b : A) (j : ℕ) → get_elem? (l ++ a ∷ []) j ≡ some b → (get_elem? l j ≡ some b) ⊎ ((j ≡ length l) × (a ≡ b))

@@ -15,8 +15,9 @@ use Rattle.wl_cell.specs.declared.view.View.{View}
 use Rattle.wl_cell.specs.declared.view.View.TheVariants.{First, Keeper, Owner, Watch, Note, Spent}
 use Rattle.wl_cell.specs.Words.{word_of, word_count}
 use Rattle.wl_cell.specs.Seats.{may_settle}
-use Rattle.wl_cell.specs.Rule.{UpToTaken, Fits, Kept, took, keeper_at, owner_at}
-use Rattle.wl_cell.specs.Steps.{Mine, Precedes, seeing, Looked, Settled, taking, Exchanged, TriedAbort}
+use Rattle.wl_cell.specs.Rule.{UpToTaken, Fits, Kept, took}
+use Rattle.wl_cell.specs.inner.Rule.{keeper_at, owner_at}
+use Rattle.wl_cell.specs.inner.Steps.{Mine, Precedes, seeing, Looked, Settled, taking, Exchanged, TriedAbort}
 
 -- the seats other than this one still fit when the word's phase changes
 abbrev pub Others : ℕ → Phase → Phase → ℕ → Type 0

@@ -1,6 +1,6 @@
 pub mod Words
 pub mod Rule
-pub mod Steps
 pub mod Seats
 pub mod Laws
 pub use Rattle.wl_types.specs.Phases
+pub mod inner

@@ -46,13 +46,3 @@ seen view = Pending
 abbrev pub took : View → Bool
 took (Owner t s) = t
 took view = false
-
--- the views of the three ends between calls
-abbrev pub keeper_at : Phase → View
-keeper_at settled = Keeper settled
-
-abbrev pub owner_at : Bool → Phase → View
-owner_at t s = Owner t s
-
-abbrev pub watch_at : Phase → View
-watch_at s = Watch s Pending

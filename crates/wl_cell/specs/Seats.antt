@@ -4,18 +4,12 @@ use Rattle.atomic_table.specs.Seated.{TableId}
 use Rattle.wl_types.specs.declared.phases.Phase.{Phase}
 use Rattle.wl_types.specs.declared.phases.Phase.TheVariants as phase
 use Rattle.wl_types.specs.Phases.{is_move, Reaches}
-use Rattle.wl_cell.specs.declared.view.View.{View}
 use Rattle.wl_cell.specs.declared.owner.Taking.{Taking}
 use Rattle.wl_cell.specs.declared.owner.Taking.TheVariants.{Taken, Pending, Before}
 
 -- names a cell: no two have the same
 abbrev pub CellId : Type 0
 CellId = TableId
-
--- any seat, with its view
-pub record Sitting : Type 0 where
-  pub cell : CellId
-  pub knows : View
 
 -- the phase is the one last settled or found
 pub record KeeperSeat : Type 0 where

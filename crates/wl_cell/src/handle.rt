@@ -6,8 +6,9 @@ ghost use Rattle.std.specs.Bool.{OnTrue, OnFalse};
 ghost use Rattle.wl_types.specs.declared.phases.Phase.{Phase};
 ghost use Rattle.wl_types.specs.declared.phases.Phase.TheVariants.{Granted, Taken, Aborted};
 ghost use Rattle.wl_cell.specs.declared.view.View.TheVariants.{Keeper};
-ghost use Rattle.wl_cell.specs.Rule.{seen, took, owner_at};
-ghost use Rattle.wl_cell.specs.Steps.{Precedes, seeing, taking, told, note_of, watch_of, owner_at_first, keeper_at_first};
+ghost use Rattle.wl_cell.specs.Rule.{seen, took};
+ghost use Rattle.wl_cell.specs.inner.Rule.{owner_at};
+ghost use Rattle.wl_cell.specs.inner.Steps.{Precedes, seeing, taking, told, note_of, watch_of, owner_at_first, keeper_at_first};
 ghost use Rattle.wl_cell.specs.Seats.{may_settle};
 
 use crate::plays::{ForKeeper, ForNote, ForWatch, Look, Settle, Take, Told, TryAbort};
@@ -28,7 +29,7 @@ pub(crate) struct Handle {
 impl Model for Handle {
     ghost use Rattle.std.specs.Prelude.{◌≡◌, []};
     ghost use Rattle.std.specs.Arc.{arc_value};
-    ghost use Rattle.wl_cell.specs.Seats.{Sitting};
+    ghost use Rattle.wl_cell.specs.inner.Seats.{Sitting};
 
     ghost Value = { Sitting };
 

@@ -21,7 +21,7 @@ pub struct Keeper {
 impl Model for Keeper {
     ghost use Rattle.std.specs.Prelude.{◌≡◌};
     ghost use Rattle.wl_cell.specs.Seats.{KeeperSeat};
-    ghost use Rattle.wl_cell.specs.Rule.{keeper_at};
+    ghost use Rattle.wl_cell.specs.inner.Rule.{keeper_at};
 
     ghost Value = { KeeperSeat };
 

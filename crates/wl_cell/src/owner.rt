@@ -30,7 +30,8 @@ pub struct Owner {
 impl Model for Owner {
     ghost use Rattle.std.specs.Prelude.{◌≡◌};
     ghost use Rattle.wl_cell.specs.Seats.{OwnerSeat};
-    ghost use Rattle.wl_cell.specs.Rule.{took, seen, owner_at};
+    ghost use Rattle.wl_cell.specs.Rule.{took, seen};
+    ghost use Rattle.wl_cell.specs.inner.Rule.{owner_at};
 
     ghost Value = { OwnerSeat };
 

@@ -7,7 +7,7 @@ use atomic_table::{Join, Play, Split};
 pub struct Look;
 
 impl Play<(), View> for Look {
-    ghost use Rattle.wl_cell.specs.Steps.{Looked};
+    ghost use Rattle.wl_cell.specs.inner.Steps.{Looked};
 
     ghost then = { Looked };
 }
@@ -16,7 +16,7 @@ impl Play<(), View> for Look {
 pub struct Settle;
 
 impl Play<(), View> for Settle {
-    ghost use Rattle.wl_cell.specs.Steps.{Settled};
+    ghost use Rattle.wl_cell.specs.inner.Steps.{Settled};
 
     ghost then = { Settled };
 }
@@ -25,7 +25,7 @@ impl Play<(), View> for Settle {
 pub struct Take;
 
 impl Play<(), View> for Take {
-    ghost use Rattle.wl_cell.specs.Steps.{Exchanged};
+    ghost use Rattle.wl_cell.specs.inner.Steps.{Exchanged};
 
     ghost then = { Exchanged };
 }
@@ -34,7 +34,7 @@ impl Play<(), View> for Take {
 pub struct TryAbort;
 
 impl Play<(), View> for TryAbort {
-    ghost use Rattle.wl_cell.specs.Steps.{TriedAbort};
+    ghost use Rattle.wl_cell.specs.inner.Steps.{TriedAbort};
 
     ghost then = { TriedAbort };
 }
@@ -43,7 +43,7 @@ impl Play<(), View> for TryAbort {
 pub struct ForKeeper;
 
 impl Split<View> for ForKeeper {
-    ghost use Rattle.wl_cell.specs.Steps.{owner_at_first, keeper_at_first};
+    ghost use Rattle.wl_cell.specs.inner.Steps.{owner_at_first, keeper_at_first};
 
     ghost left = { λ _. owner_at_first };
 
@@ -54,7 +54,7 @@ impl Split<View> for ForKeeper {
 pub struct ForWatch;
 
 impl Split<View> for ForWatch {
-    ghost use Rattle.wl_cell.specs.Steps.{watch_of};
+    ghost use Rattle.wl_cell.specs.inner.Steps.{watch_of};
 
     ghost left = { λ v. v };
 
@@ -65,7 +65,7 @@ impl Split<View> for ForWatch {
 pub struct ForNote;
 
 impl Split<View> for ForNote {
-    ghost use Rattle.wl_cell.specs.Steps.{note_of};
+    ghost use Rattle.wl_cell.specs.inner.Steps.{note_of};
 
     ghost left = { λ v. v };
 
@@ -76,7 +76,7 @@ impl Split<View> for ForNote {
 pub struct Told;
 
 impl Join<View> for Told {
-    ghost use Rattle.wl_cell.specs.Steps.{told};
+    ghost use Rattle.wl_cell.specs.inner.Steps.{told};
     ghost use Rattle.wl_cell.specs.declared.view.View.TheVariants.{Spent};
 
     ghost both = { told };

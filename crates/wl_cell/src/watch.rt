@@ -18,7 +18,8 @@ pub struct Watch {
 impl Model for Watch {
     ghost use Rattle.std.specs.Prelude.{◌≡◌};
     ghost use Rattle.wl_cell.specs.Seats.{WatchSeat};
-    ghost use Rattle.wl_cell.specs.Rule.{seen, watch_at};
+    ghost use Rattle.wl_cell.specs.Rule.{seen};
+    ghost use Rattle.wl_cell.specs.inner.Rule.{watch_at};
 
     ghost Value = { WatchSeat };
 

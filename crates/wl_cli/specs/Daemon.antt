@@ -1,5 +1,5 @@
 -- The subcommand `daemon`, and what its options ask for (own).
-use Rattle.std.specs.Prelude.{◌≡◌, ℕ, List, [], ◌∷◌, ◌⊎◌, Bool, true, false, Option, Some, None, is_some, map, option_map, unwrap_or, codes, pos}
+use Rattle.std.specs.Prelude.{◌≡◌, ℕ, List, [], ◌∷◌, Bool, true, false, Option, Some, None, is_some, map, option_map, unwrap_or, codes, pos}
 use Rattle.std.specs.Net.Grammar.{IsSocketText}
 use Rattle.std.specs.declared.net.socket_addr.SocketAddr.{SocketAddr}
 use Rattle.clap.specs.Words.{App, Row, Rule, Text, all_of, first_of, new_app, new_rule, one_of, with_rule}
@@ -10,8 +10,6 @@ use Rattle.log.specs.Level.{parse_filter}
 use Rattle.wl_cli.specs.Endpoints.{ListensAt}
 use Rattle.wl_cli.specs.Numbers.{HasNumberTo, MayHaveNumberTo}
 use Rattle.wl_cli.specs.declared.daemon.DaemonOptions.{DaemonOptions}
-use Rattle.wl_cli.specs.declared.arguments.OptionFault.{OptionFault}
-use Rattle.wl_cli.specs.declared.arguments.OptionFault.TheVariants as fault
 use Rattle.wl_cli.specs.declared.epoch.EpochSource.{EpochSource}
 use Rattle.wl_cli.specs.declared.epoch.EpochSource.TheVariants.{Number, File}
 
@@ -95,9 +93,6 @@ MayHaveEpoch rows (Some (File path)) = (one_of (codes "epoch") rows ≡ None) ×
 -- a number and a file are to give it
 abbrev pub HasTwoEpochs : List Row → Type 0
 HasTwoEpochs rows = (is_some (one_of (codes "epoch") rows) ≡ true) × (is_some (first_of (codes "epoch-file") rows) ≡ true)
-
-abbrev pub IsEpochFault : OptionFault → Type 0
-IsEpochFault why = (why ≡ fault.Memory) ⊎ (why ≡ fault.TwoEpochs)
 
 -- the options' texts ask for this
 pub record AsksFor (rows : List Row) (options : DaemonOptions) : Type 0 where

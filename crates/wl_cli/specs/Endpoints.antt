@@ -1,11 +1,9 @@
 -- Where the daemon is to listen (own).
-use Rattle.std.specs.Prelude.{◌≡◌, ◌≢◌, ◌⊎◌, List, [], ◌++◌, Option, Some, None, unwrap_or, codes}
+use Rattle.std.specs.Prelude.{◌≡◌, ◌≢◌, List, [], ◌++◌, Option, Some, None, unwrap_or, codes}
 use Rattle.std.specs.List.{AllZip, Contains}
 use Rattle.std.specs.Net.Grammar.{IsSocketText}
 use Rattle.clap.specs.Words.{Row, Text, all_of}
 use Rattle.std.specs.declared.net.socket_addr.SocketAddr.{SocketAddr}
-use Rattle.wl_cli.specs.declared.arguments.OptionFault.{OptionFault}
-use Rattle.wl_cli.specs.declared.arguments.OptionFault.TheVariants.{Listen, Memory}
 use Rattle.wl_cli.specs.declared.endpoint.Endpoint.{Endpoint}
 use Rattle.wl_cli.specs.declared.endpoint.Endpoint.TheVariants.{Tcp, Unix}
 
@@ -35,6 +33,3 @@ pub record ListensAt (rows : List Row) (endpoints : List Endpoint) : Type 0 wher
 
 abbrev pub HasWrongEndpoint : List Row → Type 0
 HasWrongEndpoint rows = SomeIsWrong (listen_texts rows)
-
-abbrev pub IsListenFault : OptionFault → Type 0
-IsListenFault why = (why ≡ Memory) ⊎ (why ≡ Listen)

@@ -4,7 +4,6 @@ use Rattle.clap.specs.Words.{App, Row, Rule, Text, Kinds, IsAmong, new_app, new_
 use Rattle.clap.specs.Simple.{on_top}
 use Rattle.clap.specs.Values.{kind_of}
 use Rattle.clap.specs.declared.builder.action.ArgAction.TheVariants.{Set}
-use Rattle.clap.specs.declared.error.kind.ErrorKind.{ErrorKind}
 use Rattle.clap.specs.declared.error.kind.ErrorKind.TheVariants.{ArgumentConflict, ValueValidation}
 use Rattle.clap.specs.declared.builder.value_parser.ValueParser.TheVariants as values
 use Rattle.wl_cli.specs.declared.job.Job.{Job}
@@ -81,15 +80,3 @@ abbrev pub IsUsageFault : Kinds → Option (Text × List Row) → UsageFault →
 IsUsageFault kinds used (Usage error) = IsAmong (kind_of error) kinds
     ⊎ (((kind_of error ≡ ValueValidation) × IsWrongOption used) ⊎ ((kind_of error ≡ ArgumentConflict) × IsTwice used))
 IsUsageFault kinds used Memory = Unit {0}
-
-abbrev pub kind_for : OptionFault → ErrorKind
-kind_for fault.TwoEpochs = ArgumentConflict
-kind_for fault.Listen = ValueValidation
-kind_for fault.Log = ValueValidation
-kind_for fault.Status = ValueValidation
-kind_for fault.Memory = ValueValidation
-
--- this option's error, unless memory ran out
-abbrev pub IsUsageError : OptionFault → UsageFault → Type 0
-IsUsageError why (Usage error) = kind_of error ≡ kind_for why
-IsUsageError why Memory = Unit {0}

@@ -3,7 +3,8 @@
 ghost use Rattle.std.specs.Prelude.{◌≡◌, ◌≢◌, [], map, IfErr, IfNone, IfOk, IfSome};
 ghost use Rattle.std.specs.List.{AllZip, filter_map};
 ghost use Rattle.clap.specs.Words.{found_of, rows_of};
-ghost use Rattle.wl_cli.specs.Endpoints.{address_of, HasNoEndpoint, HasWrongEndpoint, IsEndpointText, IsListenFault, ListensAt, SomeIsWrong};
+ghost use Rattle.wl_cli.specs.Endpoints.{address_of, HasNoEndpoint, HasWrongEndpoint, IsEndpointText, ListensAt, SomeIsWrong};
+ghost use Rattle.wl_cli.specs.inner.Endpoints.{IsListenFault};
 
 use crate::arguments::{OptionFault, texts_in};
 use clap::ArgMatches;

@@ -2,7 +2,8 @@
 
 ghost use Rattle.std.specs.Prelude.{◌≡◌, IfErr, IfOk, codes};
 ghost use Rattle.clap.specs.Words.{found_of, rows_of};
-ghost use Rattle.wl_cli.specs.Daemon.{HasTwoEpochs, IsEpochFault, MayHaveEpoch};
+ghost use Rattle.wl_cli.specs.Daemon.{HasTwoEpochs, MayHaveEpoch};
+ghost use Rattle.wl_cli.specs.inner.Daemon.{IsEpochFault};
 ghost use Rattle.wl_cli.specs.Numbers.{HasNumberTo};
 
 use crate::arguments::OptionFault;

@@ -2,7 +2,8 @@
 
 ghost use Rattle.std.specs.Prelude.{◌≡◌, [], map, IfOk, IfErr, IfSome, IsOk, IsSome, OnOk, Some, codes};
 ghost use Rattle.clap.specs.Words.{fault_of, found_of, kind_of, rows_of, subcommand_name_of, subcommand_of, subcommand_rows_of};
-ghost use Rattle.wl_cli.specs.Words.{weblocks_app, HasNumber, IsJob, IsUsageError, IsUsageFault};
+ghost use Rattle.wl_cli.specs.Words.{weblocks_app, HasNumber, IsJob, IsUsageFault};
+ghost use Rattle.wl_cli.specs.inner.Words.{IsUsageError};
 
 use crate::arguments::OptionFault;
 use crate::command::weblocks_command;

@@ -19,7 +19,7 @@ use Rattle.serde_json.proofs.OnLiterals.{serde_json_on_literals}
 use Rattle.wl_types.specs.declared.infos.LockInfo.{LockInfo}
 use Rattle.wl_types.specs.Words.{mode_word}
 use Rattle.wl_codec.specs.Replies.{info_value, infos_value, snapshot_data, notices_value, whole_value, outcome_value, reply_object, reply_value, reply_text}
-use Rattle.wl_codec.specs.Pieces.{id_and_notices}
+use Rattle.wl_codec.specs.inner.Pieces.{id_and_notices}
 use Rattle.wl_codec.specs.declared.reply.WireReply.{WireReply}
 use Rattle.wl_types.specs.declared.infos.Snapshot.{Snapshot}
 use Rattle.wl_types.specs.Client.{client_id}

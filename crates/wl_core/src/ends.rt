@@ -5,7 +5,7 @@ ghost use Rattle.std.specs.Option.{option_to_list};
 ghost use Rattle.wl_machine.specs.Grants.{locks};
 ghost use Rattle.wl_machine.specs.Least.{IsLeast, above};
 ghost use Rattle.wl_machine.specs.Step.{is_lock_of, lock_ends, with_taken, is_untaken, is_signal, request_ends, is_abortable};
-ghost use Rattle.wl_core.specs.Ends.{selects_lock, selects_request};
+ghost use Rattle.wl_core.specs.inner.Ends.{selects_lock, selects_request};
 
 use crate::room::push_in_room;
 use wl_machine::{HeldRow, PendingRow};

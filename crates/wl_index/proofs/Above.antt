@@ -20,11 +20,11 @@ use Rattle.wl_index.specs.declared.request.Owner.{Owner}
 use Rattle.wl_index.specs.declared.request.Standing.TheVariants.{Holds}
 use Rattle.wl_index.specs.declared.request.Place.{Place}
 use Rattle.wl_index.specs.declared.request.Request.{Request}
-use Rattle.wl_index.specs.GrantOrder.{by_grant_seq}
-use Rattle.wl_index.specs.Rows.{Entry, holding, grant_seq_of, lock_row, held_of}
-use Rattle.wl_index.specs.Order.{place_of}
-use Rattle.wl_index.specs.Ends.{IsOwners, ends_entry, ends_lock, place_if, numbers_of}
-use Rattle.wl_index.specs.Untaken.{finds_untaken}
+use Rattle.wl_index.specs.inner.GrantOrder.{by_grant_seq}
+use Rattle.wl_index.specs.inner.Rows.{Entry, holding, grant_seq_of, lock_row, held_of}
+use Rattle.wl_index.specs.inner.Order.{place_of}
+use Rattle.wl_index.specs.inner.Ends.{IsOwners, ends_entry, ends_lock, place_if, numbers_of}
+use Rattle.wl_index.specs.inner.Untaken.{finds_untaken}
 use Rattle.wl_index.proofs.Lists.{any_by_grant_seq, filter_whole}
 use Rattle.wl_index.proofs.Rows.{held_filter}
 use Rattle.wl_index.proofs.Picks.{pick, picked, all_picked}

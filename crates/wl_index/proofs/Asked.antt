@@ -13,10 +13,10 @@ use Rattle.wl_machine.specs.declared.rows.PendingRow.{PendingRow}
 use Rattle.wl_machine.specs.Grants.{granted_lock, locks}
 use Rattle.wl_machine.specs.Refusals.{refusal}
 use Rattle.wl_machine.specs.Step.{Gives, available, lock_ends, new_request, with_name}
-use Rattle.wl_index.specs.Core.{machine_state}
-use Rattle.wl_index.specs.Locks.{Board, IsQuiet, WaitsAlone, request_for, no_lock_on}
-use Rattle.wl_index.specs.AgentRows.{AgentRows}
-use Rattle.wl_index.specs.Rows.{Entry, held_of, pending_of}
+use Rattle.wl_index.specs.inner.Core.{machine_state}
+use Rattle.wl_index.specs.inner.Locks.{Board, IsQuiet, WaitsAlone, request_for, no_lock_on}
+use Rattle.wl_index.specs.inner.AgentRows.{AgentRows}
+use Rattle.wl_index.specs.inner.Rows.{Entry, held_of, pending_of}
 use Rattle.wl_index.proofs.Ended.{Processed}
 use Rattle.wl_index.proofs.Enqueuing.{last_waits}
 use Rattle.wl_index.proofs.Events.{plain_gives}

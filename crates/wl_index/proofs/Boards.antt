@@ -9,21 +9,21 @@ use Rattle.std.proofs.lemmas.List.{length-append}
 use Rattle.wl_types.specs.declared.phases.Change.{Change}
 use Rattle.wl_types.specs.declared.phases.Phase.{Phase}
 use Rattle.wl_types.specs.declared.words.Mode.{Mode}
-use Rattle.wl_index.specs.NameQueue.{with_one_more}
-use Rattle.wl_index.specs.Queues.{Placed, with_joined, with_joined_at, place_of}
+use Rattle.wl_index.specs.inner.NameQueue.{with_one_more}
+use Rattle.wl_index.specs.inner.Queues.{Placed, with_joined, with_joined_at, place_of}
 use Rattle.wl_index.proofs.Lists.{all_append, all_weaker}
 use Rattle.wl_index.proofs.Processing.{below_updated}
 use Rattle.wl_index.specs.declared.request.Request.{Request}
 use Rattle.wl_index.specs.declared.request.Stage.TheVariants.{Pending}
 use Rattle.wl_index.specs.declared.request.Place.{Place}
-use Rattle.wl_index.specs.Ends.{numbers_of, place_ends}
-use Rattle.wl_index.specs.Lists.{is_spared}
-use Rattle.wl_index.specs.Locks.{Board}
+use Rattle.wl_index.specs.inner.Ends.{numbers_of, place_ends}
+use Rattle.wl_index.specs.inner.Lists.{is_spared}
+use Rattle.wl_index.specs.inner.Locks.{Board}
 use Rattle.wl_machine.specs.declared.rows.HeldRow.{HeldRow}
 use Rattle.wl_machine.specs.declared.rows.PendingRow.{PendingRow}
 use Rattle.wl_machine.specs.Grants.{granted_lock}
 use Rattle.wl_machine.proofs.Lists.{map_twice}
-use Rattle.wl_index.specs.Rows.{Entry, Tag, other, request_row, held_of, pending_of, tag, tags_of}
+use Rattle.wl_index.specs.inner.Rows.{Entry, Tag, other, request_row, held_of, pending_of, tag, tags_of}
 use Rattle.wl_number_map.proofs.Keyed.{Found}
 use Rattle.wl_index.proofs.Counting.{length-filter-not}
 use Rattle.wl_index.proofs.Ends.{held_without, one_fewer, other_lock, other_request, pending_without}

@@ -21,12 +21,12 @@ use Rattle.wl_machine.specs.Step.{Gives, available, is_untaken, new_request, wit
 use Rattle.wl_index.specs.declared.request.Owner.{Owner}
 use Rattle.wl_index.specs.declared.request.Owner.TheVariants.{Agent}
 use Rattle.wl_index.specs.declared.request.Standing.TheVariants.{Holds, Waits}
-use Rattle.wl_index.specs.Core.{IsCore, machine_state}
-use Rattle.wl_index.specs.Ends.{HasNone, ends_entry, without_ends}
-use Rattle.wl_index.specs.Lists.{IsGrouped, SameLists}
-use Rattle.wl_index.specs.Locks.{Board, IsQuiet, request_for}
-use Rattle.wl_index.specs.AgentRows.{Register, AgentRows}
-use Rattle.wl_index.specs.Rows.{Entry, held_of, pending_of, tags_of}
+use Rattle.wl_index.specs.inner.Core.{IsCore, machine_state}
+use Rattle.wl_index.specs.inner.Ends.{HasNone, ends_entry, without_ends}
+use Rattle.wl_index.specs.inner.Lists.{IsGrouped, SameLists}
+use Rattle.wl_index.specs.inner.Locks.{Board, IsQuiet, request_for}
+use Rattle.wl_index.specs.inner.AgentRows.{Register, AgentRows}
+use Rattle.wl_index.specs.inner.Rows.{Entry, held_of, pending_of, tags_of}
 use Rattle.wl_index.proofs.Accepted.{request_accepted}
 use Rattle.wl_index.proofs.Asked.{Ousted, plain_asked, steal_asked, with_asked}
 use Rattle.wl_index.proofs.Counting.{length-filter-not}

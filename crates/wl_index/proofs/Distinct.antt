@@ -1,7 +1,7 @@
 -- Lists whose grant sequences differ, and a list sorted by grant sequence.
 use Rattle.std.proofs.Common.{◌≡◌, ℕ, ◌<◌, Bool, true, false, cond, List, [], ◌∷◌, ◌++◌, sym, ◌∙◌, map, filter, arith}
 use Rattle.std.specs.List.{AllByRecursion}
-use Rattle.wl_index.specs.GrantOrder.{Distinct}
+use Rattle.wl_index.specs.inner.GrantOrder.{Distinct}
 use Rattle.wl_index.proofs.Lists.{all_filter, all_weaker, all_append, all_front, all_back}
 
 module _ {X : Type 0} (f : X → ℕ) where

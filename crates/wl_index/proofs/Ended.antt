@@ -17,11 +17,11 @@ use Rattle.wl_machine.specs.Step.{Gives, lock_ends, request_ends, after_processi
 use Rattle.wl_index.specs.declared.request.Owner.{Owner}
 use Rattle.wl_index.specs.declared.request.Owner.TheVariants.{Signal, Agent}
 use Rattle.wl_index.specs.declared.request.Standing.TheVariants.{Holds, Waits}
-use Rattle.wl_index.specs.Core.{machine_state}
-use Rattle.wl_index.specs.Ends.{ends_lock, ends_request, owned_ends, without_ends, without_owned}
-use Rattle.wl_index.specs.Locks.{Board}
-use Rattle.wl_index.specs.AgentRows.{AgentRows}
-use Rattle.wl_index.specs.Rows.{held_of, pending_of}
+use Rattle.wl_index.specs.inner.Core.{machine_state}
+use Rattle.wl_index.specs.inner.Ends.{ends_lock, ends_request, owned_ends, without_ends, without_owned}
+use Rattle.wl_index.specs.inner.Locks.{Board}
+use Rattle.wl_index.specs.inner.AgentRows.{AgentRows}
+use Rattle.wl_index.specs.inner.Rows.{held_of, pending_of}
 use Rattle.wl_index.proofs.Events.{processed_is}
 use Rattle.wl_index.proofs.Owned.{locks_held, locks_pending, requests_held, requests_pending}
 

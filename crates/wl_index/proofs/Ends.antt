@@ -17,11 +17,11 @@ use Rattle.wl_machine.specs.Grants.{granted_lock, locks, queue}
 use Rattle.wl_machine.proofs.Lists.{same_bytes, filters_commute, filter_map}
 use Rattle.wl_number_map.proofs.Keyed.{Found, found, number_same}
 use Rattle.wl_index.specs.declared.request.Request.{Request}
-use Rattle.wl_index.specs.GrantOrder.{by_grant_seq, by_grant_seq_all}
-use Rattle.wl_index.specs.Rows.{Entry, other, waiting, holding, grant_seq_of, request_row, lock_row, held_of, pending_of}
-use Rattle.wl_index.specs.NameQueue.{Waiting, Matches, without, other_than, number_and_mode, lock_and_mode, after_seize}
-use Rattle.wl_index.specs.Queues.{Placed, place_of, with_updated}
-use Rattle.wl_index.specs.Locks.{Stands, WaitsAlone}
+use Rattle.wl_index.specs.inner.GrantOrder.{by_grant_seq, by_grant_seq_all}
+use Rattle.wl_index.specs.inner.Rows.{Entry, other, waiting, holding, grant_seq_of, request_row, lock_row, held_of, pending_of}
+use Rattle.wl_index.specs.inner.NameQueue.{Waiting, Matches, without, other_than, number_and_mode, lock_and_mode, after_seize}
+use Rattle.wl_index.specs.inner.Queues.{Placed, place_of, with_updated}
+use Rattle.wl_index.specs.inner.Locks.{Stands, WaitsAlone}
 use Rattle.wl_index.proofs.Lists.{filter_whole, all_weaker, all_append, all_filter, all_map}
 use Rattle.wl_index.proofs.Rows.{is_request, pending_filter, held_filter, pending_there, live_count}
 use Rattle.wl_index.proofs.Grants.{pending_one}

@@ -4,7 +4,7 @@ use Rattle.std.specs.List.{AllByRecursion, slice_get}
 use Rattle.std.specs.Option.{option_to_list, unwrap_or}
 use Rattle.std.proofs.lemmas.Bool.Decides.{nat_tests}
 use Rattle.std.proofs.lemmas.Option.{none-some}
-use Rattle.wl_index.specs.GrantOrder.{place, by_grant_seq}
+use Rattle.wl_index.specs.inner.GrantOrder.{place, by_grant_seq}
 use Rattle.wl_index.proofs.Lists.{filter_whole, all_weaker}
 use Rattle.wl_index.proofs.Sorted.{Climbing}
 

@@ -8,8 +8,8 @@ use Rattle.std.specs.BTreeMap.{is_at}
 use Rattle.std.specs.Ordering.{nat_cmp}
 use Rattle.std.proofs.lemmas.Bool.Decides.{nat_tests}
 use Rattle.wl_machine.proofs.Covers.{alike, less, rising_filter, rising_more}
-use Rattle.wl_index.specs.Lists.{at, list_at, numbers_on, IsRising, KeepsLive}
-use Rattle.wl_index.specs.Rows.{Entry}
+use Rattle.wl_index.specs.inner.Lists.{at, list_at, numbers_on, IsRising, KeepsLive}
+use Rattle.wl_index.specs.inner.Rows.{Entry}
 use Rattle.std.specs.declared.vec.Vec.{Vec}
 use Rattle.wl_number_map.proofs.Keyed.{same_number}
 use Rattle.wl_index.proofs.Lists.{all_weaker, filter_passed, filter_whole}

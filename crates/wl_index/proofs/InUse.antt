@@ -17,8 +17,8 @@ use Rattle.std.proofs.lemmas.List.{map-append}
 use Rattle.std.proofs.lemmas.Option.{none-some}
 use Rattle.wl_machine.proofs.Lists.{other_bytes, same_bytes}
 use Rattle.wl_number_map.proofs.Keyed.{found, number_same, same_number, set_same}
-use Rattle.wl_index.specs.NameQueue.{Numbered, Waiting, admits, after_grant, if_admitted, is_busy, next_grant, without_admitted}
-use Rattle.wl_index.specs.Queues.{Placed, names_of, place_of, queue_of, at_place, changed, with_updated, stays, without_idle, Differs, Apart, AreQueues, IsNames}
+use Rattle.wl_index.specs.inner.NameQueue.{Numbered, Waiting, admits, after_grant, if_admitted, is_busy, next_grant, without_admitted}
+use Rattle.wl_index.specs.inner.Queues.{Placed, names_of, place_of, queue_of, at_place, changed, with_updated, stays, without_idle, Differs, Apart, AreQueues, IsNames}
 use Rattle.wl_index.proofs.Lists.{all_append, all_back, all_filter, all_map, all_weaker, filter_whole}
 
 -- ---- one place is one name

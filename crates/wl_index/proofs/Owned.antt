@@ -14,11 +14,11 @@ use Rattle.wl_index.specs.declared.request.Standing.TheVariants.{Waits, Holds}
 use Rattle.wl_index.specs.declared.request.Place.{Place}
 use Rattle.wl_index.specs.declared.request.Stage.{Stage}
 use Rattle.wl_index.specs.declared.request.Stage.TheVariants.{Pending, Held}
-use Rattle.wl_index.specs.GrantOrder.{Distinct, by_grant_seq, filter_by_grant_seq}
-use Rattle.wl_index.specs.Rows.{Entry, waits, holds, waiting, holding, grant_seq_of, request_row, lock_row, pending_of, held_of}
-use Rattle.wl_index.specs.Lists.{is_spared}
-use Rattle.wl_index.specs.Order.{place_of}
-use Rattle.wl_index.specs.Ends.{ends_request, ends_lock, ends_entry, numbers_of, place_ends, without_ends, AreLive}
+use Rattle.wl_index.specs.inner.GrantOrder.{Distinct, by_grant_seq, filter_by_grant_seq}
+use Rattle.wl_index.specs.inner.Rows.{Entry, waits, holds, waiting, holding, grant_seq_of, request_row, lock_row, pending_of, held_of}
+use Rattle.wl_index.specs.inner.Lists.{is_spared}
+use Rattle.wl_index.specs.inner.Order.{place_of}
+use Rattle.wl_index.specs.inner.Ends.{ends_request, ends_lock, ends_entry, numbers_of, place_ends, without_ends, AreLive}
 use Rattle.wl_index.proofs.Lists.{filter_like, map_by_grant_seq, any_by_grant_seq}
 use Rattle.wl_index.proofs.Rows.{holds_or_waits}
 use Rattle.wl_index.proofs.Distinct.{distinct_filter, distinct_map}

@@ -20,9 +20,9 @@ use Rattle.wl_index.specs.declared.request.Standing.{Standing}
 use Rattle.wl_index.specs.declared.request.Standing.TheVariants.{Waits, Holds}
 use Rattle.wl_index.specs.declared.request.Place.{Place}
 use Rattle.wl_index.specs.declared.request.Request.{Request}
-use Rattle.wl_index.specs.Rows.{Entry, is_taken, waiting, holding}
-use Rattle.wl_index.specs.Order.{place_of}
-use Rattle.wl_index.specs.Ends.{IsOwners, ends_entry, is_owned, place_if}
+use Rattle.wl_index.specs.inner.Rows.{Entry, is_taken, waiting, holding}
+use Rattle.wl_index.specs.inner.Order.{place_of}
+use Rattle.wl_index.specs.inner.Ends.{IsOwners, ends_entry, is_owned, place_if}
 use Rattle.wl_index.proofs.Lists.{all_back}
 use Rattle.wl_number_map.proofs.Keyed.{found, found_each}
 

@@ -3,9 +3,9 @@ use Rattle.std.proofs.Common.{◌≡◌, List, refl, sym, ap, ◌∙◌, map, fi
 use Rattle.wl_machine.specs.declared.rows.HeldRow.{HeldRow}
 use Rattle.wl_machine.proofs.Lists.{map_twice}
 use Rattle.wl_index.specs.declared.request.Place.{Place}
-use Rattle.wl_index.specs.GrantOrder.{by_grant_seq, Distinct}
-use Rattle.wl_index.specs.Rows.{Entry, holding, grant_seq_of, lock_row}
-use Rattle.wl_index.specs.Order.{place_of, places_of}
+use Rattle.wl_index.specs.inner.GrantOrder.{by_grant_seq, Distinct}
+use Rattle.wl_index.specs.inner.Rows.{Entry, holding, grant_seq_of, lock_row}
+use Rattle.wl_index.specs.inner.Order.{place_of, places_of}
 use Rattle.wl_index.proofs.Lists.{map_by_grant_seq}
 use Rattle.wl_index.proofs.Distinct.{distinct_map}
 

@@ -16,9 +16,9 @@ use Rattle.wl_machine.specs.declared.rows.HeldRow.{HeldRow}
 use Rattle.wl_machine.specs.declared.rows.PendingRow.{PendingRow}
 use Rattle.wl_machine.specs.Grants.{Lists, grants, in_use, locks, queue, process_queue, process_queues}
 use Rattle.wl_machine.proofs.Quiet.{quiet, processed_quiet, processes_keep}
-use Rattle.wl_index.specs.NameQueue.{Waiting, Matches, after_grant, is_busy, lock_and_mode, next_grant}
-use Rattle.wl_index.specs.Queues.{Placed, names_of, place_of, queue_of, at_place, grant_at, stays, with_updated, without_idle, AreQueues}
-use Rattle.wl_index.specs.Locks.{has_place, IsQuiet, QueueStands, Stands, Underway}
+use Rattle.wl_index.specs.inner.NameQueue.{Waiting, Matches, after_grant, is_busy, lock_and_mode, next_grant}
+use Rattle.wl_index.specs.inner.Queues.{Placed, names_of, place_of, queue_of, at_place, grant_at, stays, with_updated, without_idle, AreQueues}
+use Rattle.wl_index.specs.inner.Locks.{has_place, IsQuiet, QueueStands, Stands, Underway}
 use Rattle.wl_index.proofs.Lists.{all_filter, all_weaker, filter_whole}
 use Rattle.wl_index.proofs.Local.{FrontQuiet, process_all_quiet, process_first, process_quiet}
 use Rattle.wl_index.proofs.InUse.{SameAs, are_updated, at_its_place, busy_stays, grant_keeps, idle_leaves, names_updated, none_at, none_leaves, one_place, queue_at, place_here, place_updated, place_without, queue_there}

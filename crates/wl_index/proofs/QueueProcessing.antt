@@ -15,8 +15,8 @@ use Rattle.wl_machine.proofs.InTurn.{in_turn}
 use Rattle.wl_machine.proofs.Quiet.{queue_without, queue_other}
 use Rattle.wl_index.proofs.Counting.{length-filter-not}
 use Rattle.wl_types.specs.declared.phases.Phase.TheVariants.{Granted}
-use Rattle.wl_index.specs.Rows.{Apart}
-use Rattle.wl_index.specs.NameQueue.{Waiting, admits, next_grant, if_admitted, without_admitted, after_grant, excludes, number_and_mode, lock_and_mode, Matches}
+use Rattle.wl_index.specs.inner.Rows.{Apart}
+use Rattle.wl_index.specs.inner.NameQueue.{Waiting, admits, next_grant, if_admitted, without_admitted, after_grant, excludes, number_and_mode, lock_and_mode, Matches}
 use Rattle.wl_index.proofs.Lists.{filter_whole, filter_none, filter_passed, all_weaker}
 use Rattle.wl_index.proofs.Rows.{is_request}
 use Rattle.wl_index.proofs.Local.{process_quiet}

@@ -12,9 +12,9 @@ use Rattle.std.specs.Ordering.{nat_cmp}
 use Rattle.std.proofs.lemmas.Bool.Decides.{nat_tests}
 use Rattle.wl_index.specs.declared.agents.Agent.{Agent}
 use Rattle.wl_index.specs.declared.agents.Signal.{Signal}
-use Rattle.wl_index.specs.Lists.{IsRising, Keeps, SameLists, at, list_at, numbers_on, own_of, signed_of}
-use Rattle.wl_index.specs.AgentRows.{IsAgentIndex, agent_row}
-use Rattle.wl_index.specs.Rows.{Entry}
+use Rattle.wl_index.specs.inner.Lists.{IsRising, Keeps, SameLists, at, list_at, numbers_on, own_of, signed_of}
+use Rattle.wl_index.specs.inner.AgentRows.{IsAgentIndex, agent_row}
+use Rattle.wl_index.specs.inner.Rows.{Entry}
 use Rattle.wl_number_map.proofs.Keyed.{Found, found, number_same, same_number}
 use Rattle.wl_index.proofs.Grouping.{no_group_rises, with_updated}
 use Rattle.wl_index.proofs.AgentIndexes.{index_stays, rows_stay}

@@ -13,8 +13,8 @@ use Rattle.wl_machine.proofs.Lists.{any_map}
 use Rattle.wl_index.specs.declared.request.Request.{Request}
 use Rattle.wl_index.specs.declared.request.Stage.{Stage}
 use Rattle.wl_index.specs.declared.request.Stage.TheVariants.{Pending, Held}
-use Rattle.wl_index.specs.GrantOrder.{by_grant_seq}
-use Rattle.wl_index.specs.Rows.{Entry, other, waits, holds, holding, grant_seq_of, lock_row, pending_of, held_of, IsLock}
+use Rattle.wl_index.specs.inner.GrantOrder.{by_grant_seq}
+use Rattle.wl_index.specs.inner.Rows.{Entry, other, waits, holds, holding, grant_seq_of, lock_row, pending_of, held_of, IsLock}
 use Rattle.wl_index.proofs.Lists.{filter_whole, filter_none, all_weaker, any_by_grant_seq}
 use Rattle.std.proofs.Math.Bool.{and-false}
 use Rattle.wl_number_map.proofs.Keyed.{same_number, number_same, above_apart, found}

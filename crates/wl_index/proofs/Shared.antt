@@ -15,7 +15,7 @@ use Rattle.std.proofs.lemmas.Bool.{not-true}
 use Rattle.wl_types.specs.declared.words.Mode.{Mode}
 use Rattle.wl_types.specs.declared.words.Mode.TheVariants.{Exclusive, Shared}
 use Rattle.wl_machine.specs.Grants.{is_exclusive, is_empty}
-use Rattle.wl_index.specs.NameQueue.{Numbered, Waiting, excludes, admits, other_than, head_number, first_left, first_or, holders_of, holder_without, live_after, waits_from, after_grant, without_admitted, IsQueue}
+use Rattle.wl_index.specs.inner.NameQueue.{Numbered, Waiting, excludes, admits, other_than, head_number, first_left, first_or, holders_of, holder_without, live_after, waits_from, after_grant, without_admitted, IsQueue}
 use Rattle.wl_index.proofs.Lists.{all_append, all_filter}
 use Rattle.wl_number_map.proofs.Keyed.{removed_at, entry_last}
 use Rattle.wl_index.proofs.Waits.{seam, after_seam, heads_apart, head_left}

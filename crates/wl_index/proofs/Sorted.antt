@@ -4,7 +4,7 @@ use Rattle.std.specs.List.{AllByRecursion, swap}
 use Rattle.std.specs.List.Sorted.{IsPermutation, IsNonDecreasingBy}
 use Rattle.std.proofs.lemmas.List.Elements.{recursion_from_All}
 use Rattle.std.proofs.lemmas.List.Sorted.{IsPermutation-keeps, IsPermutation-refl, IsPermutation-sym, IsPermutation-trans, IsPermutation-cons, IsPermutation-middle}
-use Rattle.wl_index.specs.GrantOrder.{Distinct, Rising, place, by_grant_seq, place_apart, place_first, by_grant_seq_rising}
+use Rattle.wl_index.specs.inner.GrantOrder.{Distinct, Rising, place, by_grant_seq, place_apart, place_first, by_grant_seq_rising}
 
 -- A relation holds along each permutation if it is reflexive and transitive, and goes under a head and over an exchange of two heads.
 module _ {X : Type 0} (R : List X → List X → Type 0) (same : (xs : List X) → R xs xs)

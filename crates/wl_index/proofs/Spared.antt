@@ -7,7 +7,7 @@ use Rattle.std.specs.Map.{keys_of}
 use Rattle.std.specs.Ordering.{nat_cmp}
 use Rattle.std.proofs.lemmas.Bool.Decides.{nat_tests}
 use Rattle.std.proofs.lemmas.Map.Keys.{sorted_head, sorted_tail}
-use Rattle.wl_index.specs.Lists.{is_spared}
+use Rattle.wl_index.specs.inner.Lists.{is_spared}
 use Rattle.wl_number_map.proofs.Keyed.{number_same, above_apart}
 
 -- tests that agree on the elements

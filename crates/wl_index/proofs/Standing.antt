@@ -14,9 +14,9 @@ use Rattle.wl_machine.specs.declared.rows.PendingRow.{PendingRow}
 use Rattle.wl_machine.specs.Grants.{grants, locks, queue}
 use Rattle.wl_machine.specs.Step.{with_name}
 use Rattle.wl_machine.proofs.Lists.{or_false, other_bytes, same_bytes}
-use Rattle.wl_index.specs.NameQueue.{Waiting, Matches, lock_and_mode, number_and_mode, with_one_more}
-use Rattle.wl_index.specs.Queues.{Placed, names_of, place_of, with_updated, with_joined, with_joined_at, AreQueues}
-use Rattle.wl_index.specs.Locks.{has_place, QueueStands, Stands}
+use Rattle.wl_index.specs.inner.NameQueue.{Waiting, Matches, lock_and_mode, number_and_mode, with_one_more}
+use Rattle.wl_index.specs.inner.Queues.{Placed, names_of, place_of, with_updated, with_joined, with_joined_at, AreQueues}
+use Rattle.wl_index.specs.inner.Locks.{has_place, QueueStands, Stands}
 use Rattle.wl_index.proofs.Lists.{all_append}
 use Rattle.wl_index.proofs.InUse.{SameAs, are_updated, names_updated, one_place, place_before, place_last, place_updated}
 use Rattle.wl_index.proofs.Use.{in_use_same}

@@ -12,8 +12,8 @@ use Rattle.std.proofs.lemmas.List.Elements.{filter-append}
 use Rattle.wl_machine.proofs.Lists.{filters_commute}
 use Rattle.wl_index.specs.declared.request.Request.{Request}
 use Rattle.wl_index.specs.declared.request.Stage.TheVariants.{Pending}
-use Rattle.wl_index.specs.GrantOrder.{Distinct}
-use Rattle.wl_index.specs.Rows.{Entry, other, waiting, holding, grant_seq_of, IsTable}
+use Rattle.wl_index.specs.inner.GrantOrder.{Distinct}
+use Rattle.wl_index.specs.inner.Rows.{Entry, other, waiting, holding, grant_seq_of, IsTable}
 use Rattle.wl_index.proofs.Distinct.{distinct_filter}
 use Rattle.wl_index.proofs.Lists.{filter_whole, all_filter, all_weaker, all_append}
 use Rattle.wl_number_map.proofs.Keyed.{number_same, entry_last, Found, found}

@@ -17,11 +17,11 @@ use Rattle.wl_machine.proofs.Lists.{and_first, and_second, any_map, or_false}
 use Rattle.wl_index.specs.declared.request.Owner.{Owner}
 use Rattle.wl_index.specs.declared.request.Owner.TheVariants as owner
 use Rattle.wl_index.specs.declared.agents.Agent.{Agent}
-use Rattle.wl_index.specs.GrantOrder.{by_grant_seq}
-use Rattle.wl_index.specs.Rows.{Entry, Tag, tag, tags_of, other, waits, waiting, holding, grant_seq_of, request_row, lock_row, pending_of, held_of}
-use Rattle.wl_index.specs.Lists.{at, own_of, signed_of, IsOn, Keeps, IsGrouped, SameLists}
-use Rattle.wl_index.specs.Ends.{ends_request, ends_lock, HasNone, IsOwners}
-use Rattle.wl_index.specs.Locks.{Board, request_for}
+use Rattle.wl_index.specs.inner.GrantOrder.{by_grant_seq}
+use Rattle.wl_index.specs.inner.Rows.{Entry, Tag, tag, tags_of, other, waits, waiting, holding, grant_seq_of, request_row, lock_row, pending_of, held_of}
+use Rattle.wl_index.specs.inner.Lists.{at, own_of, signed_of, IsOn, Keeps, IsGrouped, SameLists}
+use Rattle.wl_index.specs.inner.Ends.{ends_request, ends_lock, HasNone, IsOwners}
+use Rattle.wl_index.specs.inner.Locks.{Board, request_for}
 use Rattle.wl_index.proofs.Lists.{all_append, any_by_grant_seq}
 use Rattle.wl_number_map.proofs.Keyed.{found_each, same_number}
 use Rattle.wl_index.proofs.Rows.{holds_or_waits}

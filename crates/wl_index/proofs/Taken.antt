@@ -8,9 +8,9 @@ use Rattle.wl_machine.specs.declared.rows.PendingRow.{PendingRow}
 use Rattle.wl_machine.specs.Grants.{any_exclusive, grants, in_use, is_empty, is_exclusive, locks, queue}
 use Rattle.wl_machine.specs.Step.{is_untaken, with_taken}
 use Rattle.wl_machine.proofs.Lists.{filter_map}
-use Rattle.wl_index.specs.NameQueue.{lock_and_mode}
-use Rattle.wl_index.specs.Queues.{Placed}
-use Rattle.wl_index.specs.Locks.{IsQuiet, QueueStands, Stands}
+use Rattle.wl_index.specs.inner.NameQueue.{lock_and_mode}
+use Rattle.wl_index.specs.inner.Queues.{Placed}
+use Rattle.wl_index.specs.inner.Locks.{IsQuiet, QueueStands, Stands}
 use Rattle.wl_index.proofs.Lists.{all_weaker, filter_like}
 
 taken_same : {X : Type 0} (f : HeldRow → X) (id : ℕ) (l : HeldRow) → ((b : Bool) → f (record l { taken = b }) ≡ f l) → f (with_taken id l) ≡ f l

@@ -15,9 +15,9 @@ use Rattle.wl_machine.specs.Grants.{locks}
 use Rattle.wl_machine.specs.Step.{lock_ends}
 use Rattle.wl_machine.proofs.Lists.{any_filter, filters_commute, any_map}
 use Rattle.wl_index.specs.declared.request.Request.{Request}
-use Rattle.wl_index.specs.GrantOrder.{by_grant_seq}
-use Rattle.wl_index.specs.Rows.{Entry, other, holds, holding, grant_seq_of, lock_row, held_of}
-use Rattle.wl_index.specs.Locks.{no_lock_on}
+use Rattle.wl_index.specs.inner.GrantOrder.{by_grant_seq}
+use Rattle.wl_index.specs.inner.Rows.{Entry, other, holds, holding, grant_seq_of, lock_row, held_of}
+use Rattle.wl_index.specs.inner.Locks.{no_lock_on}
 use Rattle.wl_index.proofs.Lists.{filter_out, filter_none, filter_whole, all_weaker, any_by_grant_seq}
 use Rattle.wl_number_map.proofs.Keyed.{Found, found, same_number, number_same, above_apart}
 use Rattle.wl_index.proofs.Rows.{held_filter}

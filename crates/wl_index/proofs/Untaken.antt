@@ -7,15 +7,15 @@ use Rattle.std.proofs.lemmas.List.Elements.{filter-append}
 use Rattle.wl_machine.specs.declared.rows.HeldRow.{HeldRow}
 use Rattle.wl_machine.proofs.Lists.{filter_map}
 use Rattle.wl_index.specs.declared.request.Place.{Place}
-use Rattle.wl_index.specs.GrantOrder.{by_grant_seq, by_grant_seq_all, filter_by_grant_seq, Distinct}
-use Rattle.wl_index.specs.Rows.{Entry, holding, grant_seq_of, lock_row, held_of}
-use Rattle.wl_index.specs.Order.{place_of, from_grant_seq, first_of}
+use Rattle.wl_index.specs.inner.GrantOrder.{by_grant_seq, by_grant_seq_all, filter_by_grant_seq, Distinct}
+use Rattle.wl_index.specs.inner.Rows.{Entry, holding, grant_seq_of, lock_row, held_of}
+use Rattle.wl_index.specs.inner.Order.{place_of, from_grant_seq, first_of}
 use Rattle.std.specs.List.Sorted.{IsStrictlySortedBy}
 use Rattle.std.specs.Map.{keys_of}
 use Rattle.std.specs.Ordering.{nat_cmp}
 use Rattle.wl_index.specs.declared.request.Owner.{Owner}
 use Rattle.wl_index.specs.declared.request.Standing.TheVariants.{Holds}
-use Rattle.wl_index.specs.Ends.{IsOwners, ends_entry, ends_lock, untaken_places}
+use Rattle.wl_index.specs.inner.Ends.{IsOwners, ends_entry, ends_lock, untaken_places}
 use Rattle.wl_index.proofs.Lists.{all_filter, all_map}
 use Rattle.wl_index.proofs.Owned.{both_filters}
 use Rattle.wl_index.proofs.Picks.{all_picked, pick, picked}

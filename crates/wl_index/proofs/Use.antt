@@ -9,7 +9,7 @@ use Rattle.wl_machine.specs.declared.rows.PendingRow.{PendingRow}
 use Rattle.wl_machine.specs.Grants.{is_empty, grants, locks, queue, Lists, process_queue, process_queues, in_use}
 use Rattle.wl_machine.proofs.Quiet.{locks_unprocessed, queue_other}
 use Rattle.wl_machine.proofs.Lists.{or_false, other_bytes}
-use Rattle.wl_index.specs.NameQueue.{Waiting, Matches, is_busy, lock_and_mode, number_and_mode}
+use Rattle.wl_index.specs.inner.NameQueue.{Waiting, Matches, is_busy, lock_and_mode, number_and_mode}
 use Rattle.wl_index.proofs.Local.{process_quiet}
 
 any_own : {X : Type 0} (p : X → Bool) (l : List X) → list_any p (filter p l) ≡ list_any p l

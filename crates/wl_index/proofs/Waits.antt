@@ -13,7 +13,7 @@ use Rattle.std.specs.declared.ops.Bound.TheVariants.{Included, Excluded, Unbound
 use Rattle.std.proofs.lemmas.List.Elements.{filter-append}
 use Rattle.std.proofs.lemmas.Bool.Decides.{nat_tests}
 use Rattle.std.proofs.lemmas.Map.Keys.{sorted_head, sorted_tail}
-use Rattle.wl_index.specs.NameQueue.{Numbered, other_than, head_number, live_after, waits_from}
+use Rattle.wl_index.specs.inner.NameQueue.{Numbered, other_than, head_number, live_after, waits_from}
 use Rattle.wl_index.proofs.Lists.{all_append, all_weaker, filter_none, filter_whole}
 
 less_back : (n : ℕ) (front rest : List Numbered) (e : Numbered) → AllByRecursion (λ y. nat_cmp n y ≡ Less) (keys_of (front ++ e ∷ rest)) → n < e.0

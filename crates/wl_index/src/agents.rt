@@ -8,9 +8,9 @@ ghost use Rattle.std.specs.Ordering.{nat_cmp};
 ghost use Rattle.wl_index.specs.declared.agents.Agent.{Agent};
 ghost use Rattle.wl_machine.specs.Refusals.{is_window, reason_in, signals_of};
 ghost use Rattle.wl_machine.specs.Step.{with_active, with_reason};
-ghost use Rattle.wl_index.specs.AgentRows.{aborted, agent_row, signal_row};
+ghost use Rattle.wl_index.specs.inner.AgentRows.{aborted, agent_row, signal_row};
 ghost use Rattle.std.specs.Option.{option_copied};
-ghost use Rattle.wl_index.specs.Lists.{IsOn, IsRising, Keeps, KeepsLive, SameLists, at, list_at, numbers_of_owner, only_live, own_of, signed_of, is_spared};
+ghost use Rattle.wl_index.specs.inner.Lists.{IsOn, IsRising, Keeps, KeepsLive, SameLists, at, list_at, numbers_of_owner, only_live, own_of, signed_of, is_spared};
 
 use crate::listing::{enlist, retain_live};
 use crate::request::Owner;
@@ -52,8 +52,8 @@ impl Model for Agents {
     ghost use Rattle.std.specs.Prelude.{ℕ, map};
     ghost use Rattle.std.specs.Coded.{codes};
     ghost use Rattle.wl_index.specs.contracts.agents.Agent as agent;
-    ghost use Rattle.wl_index.specs.Lists.{IsRising, at};
-    ghost use Rattle.wl_index.specs.AgentRows.{Register, IsAgentIndex, agent_row, signal_row};
+    ghost use Rattle.wl_index.specs.inner.Lists.{IsRising, at};
+    ghost use Rattle.wl_index.specs.inner.AgentRows.{Register, IsAgentIndex, agent_row, signal_row};
 
     ghost Value = { Register };
 

@@ -6,9 +6,9 @@ ghost use Rattle.std.specs.Map.{keys_of, lookup};
 ghost use Rattle.std.specs.BTreeMap.{is_at};
 ghost use Rattle.std.specs.Ordering.{nat_cmp};
 ghost use Rattle.wl_machine.specs.declared.rows.HeldRow.{HeldRow};
-ghost use Rattle.wl_index.specs.Rows.{held_of, pending_of, lock_row, is_taken};
-ghost use Rattle.wl_index.specs.Queues.{names_of};
-ghost use Rattle.wl_index.specs.Core.{machine_state};
+ghost use Rattle.wl_index.specs.inner.Rows.{held_of, pending_of, lock_row, is_taken};
+ghost use Rattle.wl_index.specs.inner.Queues.{names_of};
+ghost use Rattle.wl_index.specs.inner.Core.{machine_state};
 
 use crate::agents::Agents;
 use crate::locks::Locks;

@@ -7,11 +7,11 @@ ghost use Rattle.std.specs.Ordering.{nat_cmp};
 ghost use Rattle.wl_machine.specs.Step.{request_ends, lock_ends};
 ghost use Rattle.wl_index.specs.declared.request.Standing.TheVariants.{Waits, Holds};
 ghost use Rattle.wl_index.specs.declared.request.Place.{Place};
-ghost use Rattle.wl_index.specs.Ends.{IsOwners, ends_request, ends_lock, ends_entry, place_ends, numbers_of, without_ends, AreLive};
-ghost use Rattle.wl_index.specs.Lists.{is_spared};
-ghost use Rattle.wl_index.specs.Order.{place_of};
-ghost use Rattle.wl_index.specs.Rows.{held_of, pending_of, holding, grant_seq_of};
-ghost use Rattle.wl_index.specs.GrantOrder.{Distinct};
+ghost use Rattle.wl_index.specs.inner.Ends.{IsOwners, ends_request, ends_lock, ends_entry, place_ends, numbers_of, without_ends, AreLive};
+ghost use Rattle.wl_index.specs.inner.Lists.{is_spared};
+ghost use Rattle.wl_index.specs.inner.Order.{place_of};
+ghost use Rattle.wl_index.specs.inner.Rows.{held_of, pending_of, holding, grant_seq_of};
+ghost use Rattle.wl_index.specs.inner.GrantOrder.{Distinct};
 
 use crate::locks::Locks;
 use crate::order::sort;

@@ -3,7 +3,7 @@ ghost use Rattle.std.specs.Prelude.{◌≡◌, ℕ, Bool, ◌+◌, ◌-◌, ◌�
 ghost use Rattle.std.specs.List.{list_any};
 ghost use Rattle.std.specs.List.Sorted.{IsSorted};
 ghost use Rattle.std.specs.Ordering.{nat_cmp};
-ghost use Rattle.wl_index.specs.Event.{Happened};
+ghost use Rattle.wl_index.specs.inner.Event.{Happened};
 
 use std::alloc::Global;
 use std::marker::Model;
@@ -21,7 +21,7 @@ pub(crate) struct Event {
 
 impl Model for Event {
     ghost use Rattle.std.specs.Prelude.{vec_len, vec_capacity, ◌+◌, ◌≤◌, reverse};
-    ghost use Rattle.wl_index.specs.Event.{Happened};
+    ghost use Rattle.wl_index.specs.inner.Event.{Happened};
 
     ghost Value = { Happened };
 

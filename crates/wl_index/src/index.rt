@@ -3,10 +3,10 @@ ghost use Rattle.std.specs.Prelude.{◌≡◌, ℕ, ◌+◌, ◌<◌, ◌&&◌, 
 ghost use Rattle.std.specs.List.{AllByRecursion};
 ghost use Rattle.wl_machine.specs.Refusals.{refusal};
 ghost use Rattle.wl_machine.specs.Step.{Gives, available, new_request, with_name};
-ghost use Rattle.wl_index.specs.Core.{machine_state};
-ghost use Rattle.wl_index.specs.Lists.{IsGrouped};
-ghost use Rattle.wl_index.specs.Locks.{request_for};
-ghost use Rattle.wl_index.specs.Rows.{tags_of};
+ghost use Rattle.wl_index.specs.inner.Core.{machine_state};
+ghost use Rattle.wl_index.specs.inner.Lists.{IsGrouped};
+ghost use Rattle.wl_index.specs.inner.Locks.{request_for};
+ghost use Rattle.wl_index.specs.inner.Rows.{tags_of};
 
 use crate::agents::Agents;
 use crate::copies::plain_copy;
@@ -40,7 +40,7 @@ pub struct IndexCore {
 impl Model for IndexCore {
     ghost use Rattle.std.specs.Prelude.{vec_capacity, ◌≡◌, []};
     ghost use Rattle.wl_machine.specs.State.{Content};
-    ghost use Rattle.wl_index.specs.Core.{IsCore, machine_state};
+    ghost use Rattle.wl_index.specs.inner.Core.{IsCore, machine_state};
 
     ghost Value = { Content };
 

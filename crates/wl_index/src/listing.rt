@@ -6,7 +6,7 @@ ghost use Rattle.std.specs.Prelude.{◌≡◌, ◌<◌, ℕ, filter, is_some, na
 ghost use Rattle.std.specs.List.{AllByRecursion, Contains};
 ghost use Rattle.std.specs.List.Sorted.{IsStrictlySortedBy};
 ghost use Rattle.std.specs.Ordering.{nat_cmp};
-ghost use Rattle.wl_index.specs.Lists.{KeepsLive, at, only_live};
+ghost use Rattle.wl_index.specs.inner.Lists.{KeepsLive, at, only_live};
 
 use crate::requests::Requests;
 use wl_types::Memory;

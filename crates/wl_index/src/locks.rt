@@ -10,10 +10,10 @@ ghost use Rattle.wl_machine.specs.declared.rows.HeldRow.{HeldRow};
 ghost use Rattle.wl_machine.specs.declared.rows.PendingRow.{PendingRow};
 ghost use Rattle.wl_machine.specs.Grants.{Lists, granted_lock, grants, in_use, is_empty, lists_of, locks, queue, process_queues};
 ghost use Rattle.wl_machine.specs.Step.{is_lock_of, is_untaken, lock_ends, with_name, with_taken};
-ghost use Rattle.wl_index.specs.Rows.{IsLock, held_of, pending_of, tags_of, other};
-ghost use Rattle.wl_index.specs.NameQueue.{Matches};
-ghost use Rattle.wl_index.specs.Queues.{names_of};
-ghost use Rattle.wl_index.specs.Locks.{IsQuiet, Stands, Underway, WaitsAlone, request_for, no_lock_on};
+ghost use Rattle.wl_index.specs.inner.Rows.{IsLock, held_of, pending_of, tags_of, other};
+ghost use Rattle.wl_index.specs.inner.NameQueue.{Matches};
+ghost use Rattle.wl_index.specs.inner.Queues.{names_of};
+ghost use Rattle.wl_index.specs.inner.Locks.{IsQuiet, Stands, Underway, WaitsAlone, request_for, no_lock_on};
 
 use crate::event::Event;
 use crate::queues::Queues;
@@ -35,7 +35,7 @@ pub(crate) struct Locks {
 }
 
 impl Model for Locks {
-    ghost use Rattle.wl_index.specs.Locks.{Board, board, AreLocks};
+    ghost use Rattle.wl_index.specs.inner.Locks.{Board, board, AreLocks};
 
     ghost Value = { Board };
 

@@ -1,7 +1,7 @@
 //! The locks in the order of their grants.
 ghost use Rattle.std.specs.Prelude.{◌≡◌, vec_len, vec_capacity, OnOk, IfOk, ◌∷◌, [], ◌++◌, map};
-ghost use Rattle.wl_index.specs.GrantOrder.{by_grant_seq, Distinct};
-ghost use Rattle.wl_index.specs.Order.{places_of};
+ghost use Rattle.wl_index.specs.inner.GrantOrder.{by_grant_seq, Distinct};
+ghost use Rattle.wl_index.specs.inner.Order.{places_of};
 ghost use Rattle.wl_index.specs.declared.request.Place.{Place};
 
 use crate::request::{Place, Request, Stage};

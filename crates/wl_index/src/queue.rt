@@ -3,7 +3,7 @@ ghost use Rattle.std.specs.Prelude.{map, ◌≡◌, ◌<◌, [], ◌∷◌, OnOk
 ghost use Rattle.std.specs.List.{AllByRecursion};
 ghost use Rattle.wl_types.specs.declared.words.Mode.TheVariants.{Exclusive};
 ghost use Rattle.wl_machine.specs.Grants.{is_empty};
-ghost use Rattle.wl_index.specs.NameQueue.{admits, excludes, next_grant, after_grant, is_busy, with_one_more, without, holder_without, head_number, live_after, first_left, first_or};
+ghost use Rattle.wl_index.specs.inner.NameQueue.{admits, excludes, next_grant, after_grant, is_busy, with_one_more, without, holder_without, head_number, live_after, first_left, first_or};
 
 use std::alloc::Global;
 use std::collections::BTreeMap;
@@ -25,7 +25,7 @@ pub struct NameQueue {
 }
 
 impl Model for NameQueue {
-    ghost use Rattle.wl_index.specs.NameQueue.{Waiting, holders_of, waits_from, IsQueue};
+    ghost use Rattle.wl_index.specs.inner.NameQueue.{Waiting, holders_of, waits_from, IsQueue};
 
     ghost Value = { Waiting };
 

@@ -5,8 +5,8 @@ ghost use Rattle.std.specs.Map.{lookup};
 ghost use Rattle.std.specs.BTreeMap.{is_at};
 ghost use Rattle.std.specs.Option.{option_copied};
 ghost use Rattle.std.specs.Ordering.{nat_cmp};
-ghost use Rattle.wl_index.specs.NameQueue.{Waiting, without, after_seize, after_grant, is_busy, with_one_more};
-ghost use Rattle.wl_index.specs.Queues.{AreQueues, IsBelow, at_place, grant_at, place_of, queue_of, with_joined, with_updated, without_idle};
+ghost use Rattle.wl_index.specs.inner.NameQueue.{Waiting, without, after_seize, after_grant, is_busy, with_one_more};
+ghost use Rattle.wl_index.specs.inner.Queues.{AreQueues, IsBelow, at_place, grant_at, place_of, queue_of, with_joined, with_updated, without_idle};
 
 use crate::queue::NameQueue;
 use indexmap::IndexMap;
@@ -29,7 +29,7 @@ pub struct Queues {
 impl Model for Queues {
     ghost use Rattle.std.specs.Prelude.{List};
     ghost use Rattle.std.specs.HashMap.{get_by_text};
-    ghost use Rattle.wl_index.specs.Queues.{Placed, IsNames};
+    ghost use Rattle.wl_index.specs.inner.Queues.{Placed, IsNames};
 
     ghost Value = { List Placed };
 

@@ -1,9 +1,9 @@
 //! A live request, and whose it is.
 ghost use Rattle.std.specs.Prelude.{◌≡◌, ◌==◌, ◌&&◌, ℕ, Some};
 ghost use Rattle.wl_machine.specs.Step.{is_signal};
-ghost use Rattle.wl_index.specs.Rows.{holds, is_fresh, is_taken, taken_stage};
+ghost use Rattle.wl_index.specs.inner.Rows.{holds, is_fresh, is_taken, taken_stage};
 ghost use Rattle.wl_index.specs.declared.request.Standing.TheVariants.{Waits, Holds};
-ghost use Rattle.wl_index.specs.Ends.{ends_request, ends_lock, ends_entry, place_if};
+ghost use Rattle.wl_index.specs.inner.Ends.{ends_request, ends_lock, ends_entry, place_if};
 
 use wl_types::{Mode, Name};
 

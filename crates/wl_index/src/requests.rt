@@ -12,10 +12,10 @@ ghost use Rattle.wl_machine.specs.declared.rows.PendingRow.{PendingRow};
 ghost use Rattle.wl_machine.specs.Grants.{granted_lock};
 ghost use Rattle.wl_machine.specs.Step.{is_lock_of, is_untaken, with_taken};
 ghost use Rattle.wl_index.specs.declared.request.Request.{Request};
-ghost use Rattle.wl_index.specs.Rows.{Apart, IsLock, held_of, pending_of, tags_of, other, grant_seq_of, holding};
-ghost use Rattle.wl_index.specs.Ends.{IsOwners, ends_entry, place_if};
-ghost use Rattle.wl_index.specs.Order.{place_of};
-ghost use Rattle.wl_index.specs.GrantOrder.{Distinct};
+ghost use Rattle.wl_index.specs.inner.Rows.{Apart, IsLock, held_of, pending_of, tags_of, other, grant_seq_of, holding};
+ghost use Rattle.wl_index.specs.inner.Ends.{IsOwners, ends_entry, place_if};
+ghost use Rattle.wl_index.specs.inner.Order.{place_of};
+ghost use Rattle.wl_index.specs.inner.GrantOrder.{Distinct};
 
 mod untaken;
 
@@ -37,7 +37,7 @@ pub struct Requests {
 }
 
 impl Model for Requests {
-    ghost use Rattle.wl_index.specs.Rows.{Rows, IsTable};
+    ghost use Rattle.wl_index.specs.inner.Rows.{Rows, IsTable};
 
     ghost Value = { Rows };
 

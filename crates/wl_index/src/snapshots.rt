@@ -9,9 +9,9 @@ ghost use Rattle.std.specs.Ordering.{nat_cmp};
 ghost use Rattle.wl_machine.specs.declared.rows.HeldRow.{HeldRow};
 ghost use Rattle.wl_machine.specs.Grants.{queue};
 ghost use Rattle.wl_machine.specs.Step.{lock_info, request_info};
-ghost use Rattle.wl_index.specs.Rows.{held_of, pending_of};
-ghost use Rattle.wl_index.specs.NameQueue.{Matches};
-ghost use Rattle.wl_index.specs.Queues.{names_of};
+ghost use Rattle.wl_index.specs.inner.Rows.{held_of, pending_of};
+ghost use Rattle.wl_index.specs.inner.NameQueue.{Matches};
+ghost use Rattle.wl_index.specs.inner.Queues.{names_of};
 
 use crate::locks::Locks;
 use crate::queue::NameQueue;

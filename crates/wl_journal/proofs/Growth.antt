@@ -25,7 +25,7 @@ use Rattle.wl_machine.specs.Step.{StepResult, step, no_changes, accepted, unless
 use Rattle.wl_machine.specs.Grants.{locks}
 use Rattle.wl_types.specs.declared.phases.Phase.TheVariants.{Stolen, Released}
 use Rattle.wl_journal.specs.History.{recorded}
-use Rattle.wl_journal.specs.Room.{lock_entries, signal_entries, entries_owed}
+use Rattle.wl_journal.specs.inner.Room.{lock_entries, signal_entries, entries_owed}
 use Rattle.wl_journal.proofs.Sums.{filter-le, length-filter-le, left_out-less, left_out-fewer, change-less}
 use Rattle.wl_journal.proofs.Owed.{processed_owes, taken-le, taken-less, lock-least, signal-le, signal-less, is_unaborted, unaborted_row}
 

@@ -13,8 +13,8 @@ use Rattle.wl_machine.specs.Refusals.{refusal, reason_in}
 use Rattle.wl_machine.specs.Step.{StepResult, Gives, step, accepted, unless_refused, is_untaken, is_lock_of, available, new_request, stealing_request, plain_request, unavailable, replies_of, state_after}
 use Rattle.wl_core.proofs.Answering.{state_after-append}
 use Rattle.wl_journal.specs.declared.entry.Entry.{Entry}
-use Rattle.wl_journal.specs.Books.{IsKept}
-use Rattle.wl_journal.specs.Room.{entries_owed}
+use Rattle.wl_journal.specs.inner.Books.{IsKept}
+use Rattle.wl_journal.specs.inner.Room.{entries_owed}
 use Rattle.wl_journal.proofs.Growth.{growth, growth_is_enough}
 use Rattle.wl_machine.specs.Recorded.{is_recorded}
 use Rattle.wl_journal.specs.History.{IsLegal, state_of, commands_of, recorded}

@@ -15,7 +15,7 @@ use Rattle.wl_machine.specs.Refusals.{reason_in}
 use Rattle.wl_machine.specs.Grants.{Lists, lists_of, grants, queue, locks, without_first, granted_lock, process_queue, process_queues}
 use Rattle.wl_machine.specs.Step.{after_processing, with_taken, is_untaken, with_reason}
 use Rattle.wl_machine.proofs.Fronts.{first_requests, first_granted}
-use Rattle.wl_journal.specs.Room.{lock_entries, signal_entries, entries_owed}
+use Rattle.wl_journal.specs.inner.Room.{lock_entries, signal_entries, entries_owed}
 
 abbrev lists_owed : Lists → ℕ
 lists_owed lists = sum_by lock_entries lists.held + 2 * length lists.pending

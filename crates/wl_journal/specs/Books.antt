@@ -1,10 +1,8 @@
 -- What contracts see of a book, and what holds inside (own).
-use Rattle.std.specs.Prelude.{◌≡◌, ℕ, ◌+◌, ◌<◌, ◌≤◌, ◌^◌, List, [], ◌++◌, length}
+use Rattle.std.specs.Prelude.{◌≡◌, ℕ, ◌+◌, List, [], ◌++◌, length}
 use Rattle.wl_types.specs.declared.phases.Change.{Change}
 use Rattle.wl_machine.specs.State.{State}
 use Rattle.wl_journal.specs.declared.entry.Entry.{Entry}
-use Rattle.wl_journal.specs.History.{IsLegal, state_of}
-use Rattle.wl_journal.specs.Room.{entries_owed}
 
 -- the machine's state and the changes of the last call; the state at the last cut, the entries since, and the number ever recorded
 pub record Book : Type 0 where
@@ -13,14 +11,6 @@ pub record Book : Type 0 where
   pub base : State
   pub entries : List Entry
   pub total : ℕ
-
--- the entries are legal and lead from the base to the state, and there is room for those still owed
-pub record IsKept (base state : State) (entries : List Entry) (owed room handed_out : ℕ) : Type 0 where
-  pub legal : IsLegal base entries
-  pub leads : state ≡ state_of base entries
-  pub counted : entries_owed state ≤ owed
-  pub roomy : length entries + owed ≤ room
-  pub bounded : handed_out < 2 ^ 62
 
 -- the book adds these entries, and keeps its base
 pub record Appends (old new : Book) (added : List Entry) : Type 0 where

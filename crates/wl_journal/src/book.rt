@@ -46,7 +46,8 @@ pub struct Book<C: LockCore> {
 
 impl<C: LockCore> Model for Book<C> {
     ghost use Rattle.std.specs.Prelude.{◌+◌, [], length, vec_capacity, if◌then◌else◌};
-    ghost use Rattle.wl_journal.specs.Books.{Book as BookContent, IsKept};
+    ghost use Rattle.wl_journal.specs.Books.{Book as BookContent};
+    ghost use Rattle.wl_journal.specs.inner.Books.{IsKept};
 
     ghost Value = { BookContent };
 

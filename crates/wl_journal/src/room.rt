@@ -2,7 +2,7 @@
 
 ghost use Rattle.std.specs.Prelude.{◌≡◌, ◌+◌, ◌≤◌, ◌<◌, ◌^◌, vec_len, vec_capacity, IfErr, OnOk};
 ghost use Rattle.std.specs.List.{sum_by};
-ghost use Rattle.wl_journal.specs.Room.{entries_owed, lock_entries, signal_entries};
+ghost use Rattle.wl_journal.specs.inner.Room.{entries_owed, lock_entries, signal_entries};
 
 use crate::entry::Entry;
 use wl_core::{HeldRow, PlainCore, SignalRow};

@@ -26,7 +26,8 @@ use Rattle.wl_machine.proofs.Standing.{aborted_have_none}
 use Rattle.wl_machine.proofs.Untaken.{abort_ends_untaken}
 use Rattle.wl_journal.specs.Books.{Book, Appends}
 use Rattle.wl_journal.specs.History.{recorded}
-use Rattle.wl_manager.specs.Keepers.{Kept, phases_at, cells_at, MayPublishAll, after}
+use Rattle.wl_manager.specs.Keepers.{Kept, phases_at, cells_at}
+use Rattle.wl_manager.specs.inner.Keepers.{MayPublishAll, after}
 use Rattle.wl_manager.specs.Agents.{entries_of_abort}
 use Rattle.wl_manager.specs.Locked.{Inner, IsKept, Stays}
 use Rattle.wl_manager.specs.Aborts.{Found, numbers_of, taken, aborted, take_entry, with_takes, TriedAll, Aborts}

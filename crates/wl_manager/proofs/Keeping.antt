@@ -26,7 +26,8 @@ use Rattle.wl_machine.proofs.Standing.{standing_by_step}
 use Rattle.wl_core.proofs.Free.{request_unspent}
 use Rattle.wl_journal.specs.Books.{Book, Appends}
 use Rattle.wl_journal.specs.History.{recorded}
-use Rattle.wl_manager.specs.Keepers.{Kept, seat_at, phases_of_seat, cells_of_seat, phases_at, cells_at, ends_request, MayPublishAll, after}
+use Rattle.wl_manager.specs.Keepers.{Kept, seat_at, phases_of_seat, cells_of_seat, phases_at, cells_at}
+use Rattle.wl_manager.specs.inner.Keepers.{ends_request, MayPublishAll, after}
 use Rattle.wl_manager.specs.Locked.{Inner, IsKept, IsCut, ends_in, Does, Stays}
 use Rattle.wl_manager.proofs.Cutting.{still_cut}
 

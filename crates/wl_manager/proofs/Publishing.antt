@@ -7,7 +7,7 @@ use Rattle.wl_types.specs.declared.phases.Phase.{Phase}
 use Rattle.wl_types.specs.declared.phases.Change.{Change}
 use Rattle.wl_machine.specs.Laws.{phases_of}
 use Rattle.wl_machine.proofs.ProcessingMoves.{phases_of-append}
-use Rattle.wl_manager.specs.Keepers.{MayPublish, MayPublishAll, after}
+use Rattle.wl_manager.specs.inner.Keepers.{MayPublish, MayPublishAll, after}
 
 some_change : (changes : List Change) (i : ℕ) (d : Change) → i < length changes → phases_of (slice_index_or changes i d).id changes ≢ []
 some_change [] i d within none = omega (arith, within)

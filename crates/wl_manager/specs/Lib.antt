@@ -3,3 +3,4 @@ pub mod Locked
 pub mod Aborts
 pub mod Agents
 pub mod Listing
+pub mod inner

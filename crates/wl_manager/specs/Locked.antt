@@ -32,10 +32,6 @@ pub record Inner : Type 0 where
 abbrev pub first : State
 first = opening all_ones
 
--- the agents, signals and requests of a state
-abbrev pub rows_of : State → ℕ
-rows_of s = length s.agents + length s.signals + length s.held + length s.pending
-
 -- with those that were cut before, entries that a journal has from this base on are a legal history from the opening state
 pub record WasCut (base : State) (entries : List Entry) : Type 0 where
   pub cut : List Entry

@@ -5,7 +5,8 @@ ghost use Rattle.std.specs.Bool.{OnTrue, OnFalse};
 ghost use Rattle.wl_types.specs.declared.phases.Phase.TheVariants.{Granted, Taken, Aborted};
 ghost use Rattle.wl_machine.specs.Laws.{phases_of};
 ghost use Rattle.wl_cell.specs.Seats.{may_settle};
-ghost use Rattle.wl_manager.specs.Keepers.{seat_at, phases_at, cells_at, ends_request, MayPublish, MayPublishAll, after};
+ghost use Rattle.wl_manager.specs.Keepers.{seat_at, phases_at, cells_at};
+ghost use Rattle.wl_manager.specs.inner.Keepers.{ends_request, MayPublish, MayPublishAll, after};
 
 use crate::coarse_clock::CoarseClock;
 use crate::inbox::Inbox;

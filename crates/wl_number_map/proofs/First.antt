@@ -9,7 +9,7 @@ use Rattle.std.proofs.lemmas.Map.{NonePasses}
 use Rattle.std.proofs.lemmas.Map.Keys.{IsDistinct-cons, IsDistinct-head, IsDistinct-push, IsDistinct-tail}
 use Rattle.std.proofs.lemmas.Map.Made.{is_some-lookup}
 use Rattle.std.proofs.lemmas.Option.{none-some}
-use Rattle.wl_number_map.specs.Entries.{IsFirst}
+use Rattle.wl_number_map.specs.inner.Entries.{IsFirst}
 use Rattle.wl_number_map.proofs.InOrder.{keys_removed}
 
 distinct_nil : IsDistinct {K = ℕ} (λ a b. a == b) []

@@ -7,7 +7,7 @@ use Rattle.std.specs.Option.{option_or}
 use Rattle.std.proofs.lemmas.Bool.Decides.{nat_tests}
 use Rattle.std.proofs.lemmas.Cmp.{nat_eq_equiv}
 use Rattle.std.proofs.lemmas.Map.{lookup-remove_entry, lookup-set_value}
-use Rattle.wl_number_map.specs.Entries.{IsPut}
+use Rattle.wl_number_map.specs.inner.Entries.{IsPut}
 
 number_is : (n x y : ℕ) → (n == x) ≡ true → (n == y) ≡ (x == y)
 number_is n x y h = grind (arith, nat_tests, h)

@@ -1,3 +1,3 @@
 pub mod NumberMap
-pub mod Entries
 pub mod Lends
+pub mod inner

@@ -5,9 +5,9 @@ ghost use Rattle.std.specs.Borrow.{sem};
 ghost use Rattle.std.specs.List.{IsDistinct};
 ghost use Rattle.std.specs.Map.{keys_of, lookup};
 ghost use Rattle.std.specs.Option.{option_copied, option_copied_mut};
-ghost use Rattle.wl_number_map.specs.Entries.{IsFirst};
-ghost use Rattle.wl_number_map.specs.Lends.{lends_few};
-ghost use Rattle.wl_number_map.specs.Entries.{IsPut};
+ghost use Rattle.wl_number_map.specs.inner.Entries.{IsFirst};
+ghost use Rattle.wl_number_map.specs.inner.Lends.{lends_few};
+ghost use Rattle.wl_number_map.specs.inner.Entries.{IsPut};
 ghost use Rattle.wl_number_map.specs.NumberMap.{shown};
 
 use indexmap::IndexMap;

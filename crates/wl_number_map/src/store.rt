@@ -4,8 +4,8 @@ ghost use Rattle.std.specs.Borrow.{sem};
 ghost use Rattle.std.specs.List.{IsDistinct};
 ghost use Rattle.std.specs.Map.{keys_of, lookup};
 ghost use Rattle.std.specs.Option.{option_copied, option_copied_mut};
-ghost use Rattle.wl_number_map.specs.Lends.{lends_store};
-ghost use Rattle.wl_number_map.specs.Entries.{IsPut};
+ghost use Rattle.wl_number_map.specs.inner.Lends.{lends_store};
+ghost use Rattle.wl_number_map.specs.inner.Entries.{IsPut};
 ghost use Rattle.wl_number_map.specs.NumberMap.{shown};
 
 use crate::few::Few;
@@ -29,7 +29,7 @@ enum Held<V> {
 
 impl<V> Model for Store<V> {
     ghost use Rattle.std.specs.Prelude.{ℕ, List};
-    ghost use Rattle.wl_number_map.specs.Entries.{held_entries};
+    ghost use Rattle.wl_number_map.specs.inner.Entries.{held_entries};
 
     ghost Value = { List (ℕ × V) };
 

@@ -1,6 +1,7 @@
 //! The origin of the URL that a text spells.
 
-ghost use Rattle.wl_origin.specs.Standing.{Answers, AnswersOrigin};
+ghost use Rattle.wl_origin.specs.Standing.{Answers};
+ghost use Rattle.wl_origin.specs.inner.Standing.{AnswersOrigin};
 
 use crate::key::OriginKey;
 use std::alloc::Global;

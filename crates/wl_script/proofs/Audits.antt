@@ -18,7 +18,8 @@ use Rattle.wl_world.specs.World.{World}
 use Rattle.wl_script.specs.Leaves.{Answered}
 use Rattle.wl_script.specs.Lines.{lines}
 use Rattle.wl_script.specs.Transcript.{after}
-use Rattle.wl_script.specs.Audits.{Audited, CountsDone, IsUnwritten, LeavesAudit, LeavesOrigins, WritesNext, WritesOrigins, recording, cores_of, audit_line, audit_text, with_entries, entries_of, core_of}
+use Rattle.wl_script.specs.Audits.{Audited, CountsDone, LeavesAudit, WritesOrigins, recording, audit_line, audit_text, with_entries, entries_of}
+use Rattle.wl_script.specs.inner.Audits.{IsUnwritten, LeavesOrigins, WritesNext, cores_of, core_of}
 use Rattle.wl_script.specs.declared.fault.ScriptFault.{ScriptFault}
 use Rattle.wl_script.specs.declared.fault.ScriptFault.TheVariants.{Memory, Read, Write, LineTooLong, TooManyTurns}
 use Rattle.wl_script.proofs.AtOnce.{at_once_unread}

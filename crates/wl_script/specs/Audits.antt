@@ -1,6 +1,6 @@
 -- What an audit writes (own): a line for each manager whose journal has an entry. Below, "origin" stands for the bucket of an
 -- origin that it is the manager of.
-use Rattle.std.specs.Prelude.{ℕ, ◌+◌, ◌≡◌, ◌==◌, ◌≤◌, ◌<◌, ◌++◌, ◌∷◌, ◌⊎◌, [], List, Bool, true, not, codes, filter, length, map, take, All, Option, Some, if◌then◌else◌}
+use Rattle.std.specs.Prelude.{ℕ, ◌+◌, ◌≡◌, ◌==◌, ◌≤◌, ◌<◌, ◌++◌, ◌∷◌, ◌⊎◌, [], List, Bool, true, not, codes, filter, length, take, All, Option, Some, if◌then◌else◌}
 use Rattle.std.specs.List.{flat_map}
 use Rattle.std.specs.Option.{unwrap_or}
 use Rattle.std.specs.Io.KnownBytes.{Appends, Keeps}
@@ -9,7 +9,6 @@ use Rattle.serde_json.specs.Written.{compact_text}
 use Rattle.wl_origin.specs.Bucket.{is_default}
 use Rattle.wl_origin.specs.Origin.{tuple_text}
 use Rattle.wl_origin.specs.declared.manager_key.ManagerKey.{ManagerKey}
-use Rattle.wl_journal.specs.Books.{Book}
 use Rattle.wl_world.specs.Cores.{AreCoresOf}
 use Rattle.wl_world.specs.Origins.{Core}
 use Rattle.wl_world.specs.World.{World, opening_with}
@@ -81,14 +80,6 @@ OfWorld world Wrote = (cores : List (ManagerKey × Core)) × AreCoresOf (Some 0)
 abbrev pub Audited : World → ℕ → Option (List ℕ) → Option (List ℕ) → Type 0
 Audited world n old new = OfWorld world (λ cores. WritesOrigins cores n old new)
 
--- what a fault leaves of these origins, after so many lines of the script
-abbrev pub LeavesOrigins : ℕ → List (ManagerKey × Core) → ScriptFault → Option (List ℕ) → Option (List ℕ) → Type 0
-LeavesOrigins lines cores (Memory n) old new = (n ≡ lines) × WritesFirst cores old new
-LeavesOrigins lines cores (Write n) old new = WritesWithin cores n old new
-LeavesOrigins lines cores (Read n) old new = ⊥
-LeavesOrigins lines cores (TooManyTurns n) old new = ⊥
-LeavesOrigins lines cores (LineTooLong n) old new = ⊥
-
 -- the first n of the lines were done: there are so many, and none of them is longer than the limit
 abbrev pub DoneFirst : ℕ → List (List ℕ) → ℕ → Type 0
 DoneFirst limit lines n = (n ≤ length lines) × All (λ line. length line ≤ limit) (take n lines)
@@ -109,24 +100,3 @@ CountsDone lines (Write n) old new = Unit {0}
 CountsDone lines (Read n) old new = AnswersAtOnce (Read n) old new
 CountsDone lines (TooManyTurns n) old new = AnswersAtOnce (TooManyTurns n) old new
 CountsDone lines (LineTooLong n) old new = AnswersAtOnce (LineTooLong n) old new
-
--- of one more origin the line was written, if it has one, and with it n were
-pub record WritesNext (before : ℕ) (origin : ManagerKey × Core) (n : ℕ) (old new : Option (List ℕ)) : Type 0 where
-  pub count : n ≡ before + length (with_entries (origin ∷ []))
-  pub written : Appends old new (audit_text (origin ∷ []))
-
--- the line of one origin was not written, after so many lines of the script, and so many other origins
-abbrev pub IsUnwritten : ℕ → ℕ → ManagerKey × Core → Option (List ℕ) → ScriptFault → Option (List ℕ) → Type 0
-IsUnwritten lines written origin old (Memory n) new = (n ≡ lines) × Keeps old new
-IsUnwritten lines written origin old (Write n) new = (n ≡ written)
-    × ((part more : List ℕ) × (0 < length more) × (audit_line origin.0 (entries_of origin.1) ≡ part ++ more) × Appends old new part)
-IsUnwritten lines written origin old (Read n) new = ⊥
-IsUnwritten lines written origin old (LineTooLong n) new = ⊥
-IsUnwritten lines written origin old (TooManyTurns n) new = ⊥
-
--- what is seen of a book
-abbrev pub core_of : Book → Core
-core_of book = record { state = book.state; entries = Some book.total }
-
-abbrev pub cores_of : List (ManagerKey × Book) → List (ManagerKey × Core)
-cores_of books = map (λ origin. (origin.0, core_of origin.1)) books

@@ -6,3 +6,4 @@ pub mod Leaves
 pub mod Progress
 pub mod Laws
 pub mod Audits
+pub mod inner

@@ -63,10 +63,6 @@ pub record Breaks (limit : ℕ) (old : Moment) (bytes : List ℕ) (fault : Scrip
   pub fed : Fed limit old front now
   pub stops : Stops limit now back fault new
 
--- the run ended at a last line without LF
-abbrev pub BreaksAtEnd : Moment → ScriptFault → Option (List ℕ) → Type 0
-BreaksAtEnd old fault new = (0 < length old.unfinished) × IsUnanswered old.count old.world old.unfinished old.held fault new
-
 -- the beginning of a line wasn't kept
 abbrev pub IsNotKept : ℕ → ℕ → List ℕ → ScriptFault → Type 0
 IsNotKept limit count line (Memory n) = n ≡ count

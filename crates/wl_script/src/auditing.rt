@@ -4,7 +4,8 @@ ghost use Rattle.std.specs.Prelude.{◌≡◌, ◌+◌, ◌<◌, ◌≤◌, ◌^
 ghost use Rattle.serde_json.specs.Data.{member, object, string};
 ghost use Rattle.serde_json.specs.View.{view};
 ghost use Rattle.wl_origin.specs.Origin.{tuple_text};
-ghost use Rattle.wl_script.specs.Audits.{Audited, CountsDone, LeavesAudit, LeavesOrigins, IsUnwritten, WritesNext, WritesOrigins, cores_of, audit_line, audit_members, audit_value, recording, core_of};
+ghost use Rattle.wl_script.specs.Audits.{Audited, CountsDone, LeavesAudit, WritesOrigins, audit_line, audit_members, audit_value, recording};
+ghost use Rattle.wl_script.specs.inner.Audits.{LeavesOrigins, IsUnwritten, WritesNext, cores_of, core_of};
 ghost use Rattle.wl_script.specs.Faults.{is_read, is_write, IsTooManyTurns};
 ghost use Rattle.wl_script.specs.Leaves.{GaveBytes};
 ghost use Rattle.wl_script.specs.Lines.{lines};

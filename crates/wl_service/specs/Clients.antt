@@ -5,8 +5,6 @@ use Rattle.wl_types.specs.declared.words.Kind.{Kind}
 use Rattle.wl_types.specs.declared.refusal.Refusal.{Refusal}
 use Rattle.wl_types.specs.declared.refusal.Refusal.TheVariants.{NotAWindow}
 use Rattle.wl_machine.specs.Refusals.{is_window}
-use Rattle.wl_service.specs.declared.client.Side.{Side}
-use Rattle.wl_service.specs.declared.client.Side.TheVariants as side
 
 -- an agent of its origin's manager, by its number there; or an opaque one, and whether it is active
 pub data Who : Type 0 where
@@ -39,7 +37,3 @@ IfManaged (Opaque kind active) P = Unit
 abbrev pub made_active : Who → Bool → Who
 made_active (Managed n) wanted = Managed n
 made_active (Opaque kind active) wanted = Opaque kind (active_after kind active wanted)
-
-abbrev pub who_of : Side → Who
-who_of (side.Managed agent) = Managed agent.number
-who_of (side.Opaque agent) = Opaque agent.kind agent.active

@@ -2,3 +2,4 @@ pub mod Clients
 pub mod Opening
 pub mod Directory
 pub mod Listing
+pub mod inner

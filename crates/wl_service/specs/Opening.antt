@@ -1,8 +1,6 @@
 -- Which client a URL and a bucket give that are opened, and why they give none.
 use Rattle.std.specs.Prelude.{◌≡◌, true, Option, Some, None, Result, Ok, Err}
 use Rattle.wl_types.specs.declared.words.Kind.{Kind}
-use Rattle.wl_types.specs.declared.refusal.Refusal.{Refusal}
-use Rattle.wl_types.specs.declared.refusal.Refusal.TheVariants as refusal
 use Rattle.wl_origin.specs.declared.manager_key.ManagerKey.{ManagerKey}
 use Rattle.wl_origin.specs.declared.opening.ManagerFault.{ManagerFault}
 use Rattle.wl_origin.specs.declared.opening.ManagerFault.TheVariants as key
@@ -28,22 +26,3 @@ Opens manager kind (Err TooManyAgents) = HasManager manager
 Opens manager kind (Err NumbersSpent) = HasManager manager
 Opens manager kind (Err TooManyManagers) = HasManager manager
 Opens manager kind (Err Memory) = Unit
-
--- a manager's refusal of an agent, by the service's name; it has no third one but memory
-abbrev pub fault_of : Refusal → OpenFault
-fault_of refusal.TooManyAgents = TooManyAgents
-fault_of refusal.NumbersSpent = NumbersSpent
-fault_of refusal.Memory = Memory
-fault_of refusal.InvalidState = Memory
-fault_of refusal.Security = Memory
-fault_of refusal.ReservedName = Memory
-fault_of refusal.StealIfAvailable = Memory
-fault_of refusal.StealShared = Memory
-fault_of refusal.SignalCombined = Memory
-fault_of (refusal.SignalAborted reason) = Memory
-fault_of refusal.NameTooLong = Memory
-fault_of refusal.NoSuchSignal = Memory
-fault_of refusal.TooManyRequests = Memory
-fault_of refusal.TooManySignals = Memory
-fault_of refusal.NoSuchAgent = Memory
-fault_of refusal.NotAWindow = Memory

@@ -42,7 +42,8 @@ pub struct Client {
 }
 
 impl Model for Client {
-    ghost use Rattle.wl_service.specs.Clients.{Who, who_of};
+    ghost use Rattle.wl_service.specs.Clients.{Who};
+    ghost use Rattle.wl_service.specs.inner.Clients.{who_of};
 
     ghost Value = { Who };
 

@@ -8,7 +8,7 @@ ghost use Rattle.wl_origin.specs.Manager.{manager_cmp};
 ghost use Rattle.wl_service.specs.declared.fault.OpenFault.TheVariants.{BadUrl, BadBucket};
 ghost use Rattle.wl_service.specs.Directory.{Adds, KeepsOthers, kept_for};
 ghost use Rattle.wl_service.specs.Listing.{MayFollow, bound_after, first_of, left_after};
-ghost use Rattle.wl_service.specs.Opening.{fault_of};
+ghost use Rattle.wl_service.specs.inner.Opening.{fault_of};
 
 use crate::fault::OpenFault;
 use crate::listing::is_asked;

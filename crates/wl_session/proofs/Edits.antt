@@ -5,9 +5,10 @@ use Rattle.std.proofs.lemmas.List.{take-append-drop, take-set, drop-set}
 use Rattle.std.proofs.lemmas.List.Elements.{recursion_from_All, All-filter, filter-append, filter_passes}
 use Rattle.std.proofs.lemmas.List.Sums.{fold_more}
 use Rattle.wl_types.proofs.Lists.{filter_whole}
-use Rattle.wl_session.specs.LastReported.{RequestPhase, IsByNumber, IsReportedList, is_live, before, beyond, put, with_observed}
-use Rattle.wl_session.specs.Places.{IsAt, IsGapFor}
-use Rattle.wl_session.specs.Upkeep.{IsKept}
+use Rattle.wl_session.specs.LastReported.{RequestPhase, IsByNumber, is_live, before, beyond, put, with_observed}
+use Rattle.wl_session.specs.inner.LastReported.{IsReportedList}
+use Rattle.wl_session.specs.inner.Places.{IsAt, IsGapFor}
+use Rattle.wl_session.specs.inner.Upkeep.{IsKept}
 use Rattle.wl_session.proofs.Order.{from_filter, by_number_put}
 
 set_split : {X : Type 0} (xs : List X) (i : ℕ) (y : X) → i < length xs → set xs i y ≡ take i xs ++ y ∷ drop (i + 1) xs

@@ -5,7 +5,7 @@ use Rattle.wl_types.specs.declared.phases.Phase.{Phase}
 use Rattle.wl_types.specs.declared.phases.Phase.TheVariants.{Pending, Granted, Taken, Unavailable, Aborted, Released, Stolen}
 use Rattle.wl_types.specs.Phases.{Reaches}
 use Rattle.wl_codec.specs.declared.reply.Outcome.{Outcome}
-use Rattle.wl_session.specs.Places.{IsAt}
+use Rattle.wl_session.specs.inner.Places.{IsAt}
 use Rattle.wl_session.specs.LastReported.{RequestPhase, Fits, is_new, phase_in}
 
 pending_reaches : (to : Phase) → Reaches Pending to

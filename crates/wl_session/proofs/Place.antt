@@ -8,7 +8,7 @@ use Rattle.std.proofs.lemmas.Bool.{lt-ltb, le-ltb, ne_eqb, eq-eqb}
 use Rattle.std.proofs.lemmas.Bool.Decides.{nat_tests}
 use Rattle.wl_types.specs.declared.phases.Phase.TheVariants.{Pending}
 use Rattle.wl_session.specs.LastReported.{RequestPhase, IsFrom, IsByNumber}
-use Rattle.wl_session.specs.Places.{IsAt, IsGapFor}
+use Rattle.wl_session.specs.inner.Places.{IsAt, IsGapFor}
 use Rattle.wl_session.proofs.Order.{at_least, rises, below}
 
 -- any look, for what stands past a list's end

@@ -1,5 +1,5 @@
 -- What was last reported of requests, and which notices are due (own; Web Locks runs a callback and settles its promise).
-use Rattle.std.specs.Prelude.{◌≡◌, ◌⊎◌, ℕ, ◌+◌, ◌≤◌, List, [], ◌∷◌, ◌++◌, ◌==◌, nat_lt, Bool, true, false, not, map, filter, fold, All, Any, if◌then◌else◌}
+use Rattle.std.specs.Prelude.{◌≡◌, ◌⊎◌, ℕ, ◌+◌, ◌≤◌, List, [], ◌∷◌, ◌++◌, ◌==◌, nat_lt, Bool, true, false, not, map, filter, fold, Any, if◌then◌else◌}
 use Rattle.std.specs.List.{list_any}
 use Rattle.wl_types.specs.declared.phases.Phase.{Phase}
 use Rattle.wl_types.specs.declared.phases.Phase.TheVariants.{Pending, Granted, Taken, Unavailable, Aborted, Released, Stolen}
@@ -25,11 +25,6 @@ IsByNumber ls = IsFrom 0 ls
 
 abbrev pub is_live : RequestPhase → Bool
 is_live l = not (is_end l.1)
-
--- the requests whose end was not reported, by number
-pub record IsReportedList (last_reported : List RequestPhase) : Type 0 where
-  pub by_number : IsByNumber last_reported
-  pub live : All (λ l. is_live l ≡ true) last_reported
 
 abbrev pub before : ℕ → List RequestPhase → List RequestPhase
 before n ls = filter (λ l. nat_lt l.0 n) ls

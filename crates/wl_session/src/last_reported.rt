@@ -6,8 +6,9 @@
 
 ghost use Rattle.std.specs.Prelude.{◌≡◌, ◌+◌, ◌<◌, ◌≤◌, length, filter, fold, map, vec_len, vec_capacity, IfOk, IfErr, IsTrue};
 ghost use Rattle.wl_types.specs.Phases.{Reaches};
-ghost use Rattle.wl_session.specs.Places.{IsAt, IsGapFor};
-ghost use Rattle.wl_session.specs.LastReported.{Fits, IsByNumber, IsReportedList, is_live, put, phase_in, reported_phase, is_notice_due, has_due_notices, due_notices, as_released, with_released, with_observed};
+ghost use Rattle.wl_session.specs.inner.Places.{IsAt, IsGapFor};
+ghost use Rattle.wl_session.specs.LastReported.{Fits, IsByNumber, is_live, put, phase_in, reported_phase, is_notice_due, has_due_notices, due_notices, as_released, with_released, with_observed};
+ghost use Rattle.wl_session.specs.inner.LastReported.{IsReportedList};
 
 use crate::outcomes::is_new;
 use std::alloc::Global;

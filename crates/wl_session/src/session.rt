@@ -5,7 +5,7 @@ ghost use Rattle.wl_codec.specs.Replies.{reply_text};
 ghost use Rattle.wl_session.specs.Planned.{plan_for};
 ghost use Rattle.wl_session.specs.Step.{reply, after, carries_notices, last_reported_after, notices, closed};
 ghost use Rattle.wl_session.specs.LastReported.{Fits, IsByNumber, has_due_notices, is_live, with_released};
-ghost use Rattle.wl_session.specs.Upkeep.{IsKept};
+ghost use Rattle.wl_session.specs.inner.Upkeep.{IsKept};
 
 use crate::last_reported::{due_notices, fits, has_due_notices, with_released};
 use crate::outcomes::{carries_notices, opens};
@@ -33,7 +33,7 @@ impl<U: Upkeep> Model for SessionOf<U> {
     ghost use Rattle.std.specs.Prelude.{filter};
     ghost use Rattle.wl_session.specs.Step.{State};
     ghost use Rattle.wl_session.specs.LastReported.{is_live};
-    ghost use Rattle.wl_session.specs.Upkeep.{IsKept};
+    ghost use Rattle.wl_session.specs.inner.Upkeep.{IsKept};
 
     ghost Value = { State };
 

@@ -2,7 +2,7 @@
 
 ghost use Rattle.std.specs.Prelude.{◌≡◌, ◌+◌, ◌≤◌, Bool, true, false, length, filter, vec_len, vec_capacity, OnOk};
 ghost use Rattle.wl_session.specs.LastReported.{is_live, with_observed};
-ghost use Rattle.wl_session.specs.Upkeep.{IsKept};
+ghost use Rattle.wl_session.specs.inner.Upkeep.{IsKept};
 
 use crate::last_reported::{drop_ends, put_all, report_at_once};
 use wl_types::{Memory, Phase};

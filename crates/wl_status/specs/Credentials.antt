@@ -1,5 +1,5 @@
 -- Who may read the status, where a token is wanted (own).
-use Rattle.std.specs.Prelude.{◌≡◌, ◌≢◌, ℕ, nat_lt, ◌+◌, List, [], ◌∷◌, map, take, drop, length, ◌==◌, not, Bool, Option, Some, None, option_and_then, codes, if◌then◌else◌}
+use Rattle.std.specs.Prelude.{ℕ, nat_lt, ◌+◌, List, [], ◌∷◌, map, take, drop, length, ◌==◌, not, Option, Some, None, option_and_then, codes, if◌then◌else◌}
 use Rattle.std.specs.Char.{to_ascii_lowercase}
 use Rattle.std.specs.List.{prefix_len}
 use Rattle.std.specs.Option.{option_or}
@@ -45,7 +45,3 @@ headers_fault rules (header ∷ other ∷ more) = Some refusal.BadRequest
 abbrev pub access_fault : Option (List Rule) → List (List ℕ) → Option Refusal
 access_fault None headers = None
 access_fault (Some rules) headers = headers_fault rules headers
-
--- it is the expected one, unless memory ran out
-abbrev pub AnswersFault : Option Refusal → Option Refusal → Type 0
-AnswersFault expected result = result ≢ Some refusal.Memory → expected ≡ result

@@ -1,3 +1,4 @@
 pub mod Hosts
 pub mod Credentials
 pub mod Routes
+pub mod inner

@@ -4,7 +4,8 @@ ghost use Rattle.std.specs.Prelude.{◌≡◌, ◌≤◌, length, IfOk, map, opt
 ghost use Rattle.std.specs.Option.{option_copied};
 ghost use Rattle.wl_admission.specs.Scopes.{reach_of};
 ghost use Rattle.wl_admission.specs.Tokens.{reach_by, rules_of};
-ghost use Rattle.wl_status.specs.Credentials.{access_fault, basic_pair_of, fault_by, headers_fault, password_in, token_of, user_len, AnswersFault};
+ghost use Rattle.wl_status.specs.Credentials.{access_fault, basic_pair_of, fault_by, headers_fault, password_in, token_of, user_len};
+ghost use Rattle.wl_status.specs.inner.Credentials.{AnswersFault};
 
 use crate::routing::Refusal;
 use base64::DecodeAllocError;

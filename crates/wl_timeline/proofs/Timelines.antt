@@ -8,7 +8,8 @@ use Rattle.wl_script.specs.Leaves.{Answered}
 use Rattle.wl_script.specs.Lines.{lines}
 use Rattle.wl_script.specs.declared.fault.ScriptFault.{ScriptFault}
 use Rattle.wl_script.specs.declared.fault.ScriptFault.TheVariants.{Memory, Read, Write, LineTooLong, TooManyTurns}
-use Rattle.wl_timeline.specs.Timelines.{IsUnwritten, LeavesTimeline}
+use Rattle.wl_timeline.specs.Timelines.{LeavesTimeline}
+use Rattle.wl_timeline.specs.inner.Timelines.{IsUnwritten}
 
 -- all lines are the first lines
 all_done : (limit n : ℕ) (all : List (List ℕ)) → n ≡ length all → All (λ line. length line ≤ limit) all → DoneFirst limit all n

@@ -6,14 +6,6 @@ use Rattle.wl_script.specs.Leaves.{IsTooLong}
 use Rattle.wl_script.specs.declared.fault.ScriptFault.{ScriptFault}
 use Rattle.wl_script.specs.declared.fault.ScriptFault.TheVariants.{Memory, Read, Write, LineTooLong, TooManyTurns}
 
--- the picture of so many lines wasn't written, or not all of it
-abbrev pub IsUnwritten : ℕ → ScriptFault → Option (List ℕ) → Option (List ℕ) → Type 0
-IsUnwritten lines (Memory n) old new = (n ≡ lines) × Keeps old new
-IsUnwritten lines (Write n) old new = n ≡ lines
-IsUnwritten lines (Read n) old new = ⊥
-IsUnwritten lines (LineTooLong n) old new = ⊥
-IsUnwritten lines (TooManyTurns n) old new = ⊥
-
 -- What a fault leaves: the first n lines were done. Before the end of the script nothing is written.
 abbrev pub LeavesTimeline : ℕ → List (List ℕ) → ScriptFault → Option (List ℕ) → Option (List ℕ) → Type 0
 LeavesTimeline limit lines (Memory n) old new = DoneFirst limit lines n × Keeps old new

@@ -6,7 +6,8 @@ ghost use Rattle.wl_script.specs.Faults.{is_read, is_write, IsTooManyTurns};
 ghost use Rattle.wl_script.specs.Leaves.{GaveBytes};
 ghost use Rattle.wl_script.specs.Lines.{lines};
 ghost use Rattle.wl_script.specs.Streams.{Counts, GrewBy, GrewAtMostBy};
-ghost use Rattle.wl_timeline.specs.Timelines.{IsUnwritten, LeavesTimeline};
+ghost use Rattle.wl_timeline.specs.Timelines.{LeavesTimeline};
+ghost use Rattle.wl_timeline.specs.inner.Timelines.{IsUnwritten};
 
 use crate::following::{Follower, Unwritten};
 use crate::history::History;

@@ -7,7 +7,7 @@ use Rattle.wl_session.specs.Step as session
 use Rattle.wl_world.specs.Requests.{changed_requests}
 use Rattle.wl_world.specs.Origins.{Acted, Origin, act, as_taken, origin_after_collect}
 use Rattle.wl_world.specs.Agents.{Served, answering, after_reply, serve_result}
-use Rattle.wl_world.specs.Views.{act_result_of}
+use Rattle.wl_world.specs.inner.Views.{act_result_of}
 
 module _ (o done : Origin) (agent : ℕ) (s : session.State) (id : ℕ) (b : Body) (out : Outcome) (is : act_result_of done out ≡ act o agent b) where
   abbrev after_collect : Served

@@ -20,9 +20,10 @@ use Rattle.wl_session.specs.LastReported.{RequestPhase}
 use Rattle.wl_world.specs.declared.requests.Request.{Request}
 use Rattle.wl_types.specs.declared.answers.TakeAnswer.TheVariants as took
 use Rattle.std.proofs.Common.{map}
-use Rattle.wl_world.specs.Requests.{IsRising, after_answer, after_collect}
+use Rattle.wl_world.specs.Requests.{after_answer, after_collect}
+use Rattle.wl_world.specs.inner.Requests.{IsRising}
 use Rattle.wl_world.specs.Origins.{Core, Origin, Acted, act, admitted, after, is_granted, outcome_of, stepped, take_observed}
-use Rattle.wl_world.specs.Views.{act_result_of}
+use Rattle.wl_world.specs.inner.Views.{act_result_of}
 use Rattle.wl_world.proofs.Rising.{added, filtered, higher, with_changes_rising, collect_rising}
 
 -- a new request has a number from low on, and the next is above it

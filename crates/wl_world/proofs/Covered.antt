@@ -15,8 +15,9 @@ use Rattle.wl_types.specs.declared.phases.Phase.{Phase}
 use Rattle.wl_types.specs.declared.phases.Change.{Change}
 use Rattle.wl_world.specs.declared.requests.Request.{Request}
 use Rattle.wl_world.specs.declared.agent_index.AgentRequests.{AgentRequests}
-use Rattle.wl_world.specs.Requests.{IsRising, has_ended, with_change}
-use Rattle.wl_world.specs.AgentIndex.{IsCovered, IsEach, IsEnrolled, IsIndex, coming, found, close_one, inbox_of, own_of, collect_one}
+use Rattle.wl_world.specs.Requests.{has_ended, with_change}
+use Rattle.wl_world.specs.inner.Requests.{IsRising}
+use Rattle.wl_world.specs.inner.AgentIndex.{IsCovered, IsEach, IsEnrolled, IsIndex, coming, found, close_one, inbox_of, own_of, collect_one}
 use Rattle.wl_number_map.specs.NumberMap.{NumberMap}
 use Rattle.wl_machine.proofs.Covers.{alike}
 use Rattle.wl_number_map.proofs.Keyed.{entry_last, found_each, number_same, same_number}

@@ -15,7 +15,7 @@ use Rattle.wl_session.specs.LastReported.{RequestPhase}
 use Rattle.wl_world.specs.declared.requests.Request.{Request}
 use Rattle.wl_world.specs.declared.agent_index.AgentRequests.{AgentRequests}
 use Rattle.wl_world.specs.Requests.{observation_of, changed_requests}
-use Rattle.wl_world.specs.AgentIndex.{IsIndex, found, observed_of, inbox_of}
+use Rattle.wl_world.specs.inner.AgentIndex.{IsIndex, found, observed_of, inbox_of}
 use Rattle.wl_machine.proofs.Covers.{alike, looked_alike}
 
 -- ---- lists

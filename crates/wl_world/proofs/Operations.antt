@@ -20,7 +20,7 @@ use Rattle.wl_codec.specs.declared.reply.Outcome.TheVariants as outcome
 use Rattle.wl_world.specs.declared.requests.Request.{Request}
 use Rattle.wl_world.specs.Requests.{with_changes, after_answer}
 use Rattle.wl_world.specs.Origins.{Acted, Core, Origin, act, admitted, stepped, noting, outcome_of}
-use Rattle.wl_world.specs.Views.{IsRefused, Operates, AnswersRefusal, core, act_result, act_result_of, origin}
+use Rattle.wl_world.specs.inner.Views.{IsRefused, Operates, AnswersRefusal, core, act_result, act_result_of, origin}
 use Rattle.std.specs.Prelude.{Result, Ok, Err, IfOk, IsErrAnd, ◌+◌, if◌then◌else◌}
 use Rattle.wl_types.specs.declared.infos.Snapshot.{Snapshot}
 use Rattle.wl_types.specs.declared.memory.Memory as memory

@@ -16,7 +16,7 @@ use Rattle.wl_types.specs.declared.phases.Change.{Change}
 use Rattle.wl_machine.proofs.Covers.{all_above, equal, turned}
 use Rattle.wl_world.specs.declared.requests.Request.{Request}
 use Rattle.wl_world.specs.Requests.{has_ended, after_collect, with_change, without, without_change}
-use Rattle.wl_world.specs.AgentIndex.{IsEach, found, close_one, collect_one}
+use Rattle.wl_world.specs.inner.AgentIndex.{IsEach, found, close_one, collect_one}
 
 -- ---- numbers in order
 

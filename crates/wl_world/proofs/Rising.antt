@@ -7,7 +7,8 @@ use Rattle.std.specs.Prelude.{◌==◌}
 use Rattle.std.specs.List.{flat_map}
 use Rattle.wl_session.specs.LastReported.{IsFrom, RequestPhase}
 use Rattle.wl_world.specs.declared.requests.Request.{Request}
-use Rattle.wl_world.specs.Requests.{IsRising, has_ended, observation_of, changed_requests, with_changes, after_collect, with_change, without_change}
+use Rattle.wl_world.specs.Requests.{has_ended, observation_of, changed_requests, with_changes, after_collect, with_change, without_change}
+use Rattle.wl_world.specs.inner.Requests.{IsRising}
 use Rattle.wl_world.specs.Origins.{as_taken}
 
 pub higher : (low high top : ℕ) (requests : List Request) → high ≤ top → IsRising low high requests → IsRising low top requests

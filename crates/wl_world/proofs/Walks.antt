@@ -13,7 +13,7 @@ use Rattle.wl_number_map.proofs.Keyed.{same_number}
 use Rattle.wl_machine.proofs.Covers.{alike}
 use Rattle.wl_world.specs.declared.requests.Request.{Request}
 use Rattle.wl_world.specs.Requests.{has_ended}
-use Rattle.wl_world.specs.AgentIndex.{IsCovered, IsEach, IsEachAt, found, close_one, collect_one}
+use Rattle.wl_world.specs.inner.AgentIndex.{IsCovered, IsEach, IsEachAt, found, close_one, collect_one}
 
 -- ---- one number
 

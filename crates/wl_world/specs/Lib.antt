@@ -1,7 +1,5 @@
 pub mod Requests
-pub mod AgentIndex
 pub mod Origins
-pub mod Views
 pub mod Agents
 pub mod Labels
 pub mod World
@@ -9,3 +7,4 @@ pub mod Realms
 pub mod Worlds
 pub mod Cores
 pub mod Isolation
+pub mod inner

@@ -1,5 +1,5 @@
 -- The requests of a manager whose ends were not reported to their agents, each with what its agent is to learn of it (own).
-use Rattle.std.specs.Prelude.{ℕ, Bool, false, not, ◌&&◌, ◌==◌, ◌≤◌, ◌<◌, ◌+◌, List, [], ◌∷◌, ◌++◌, map, filter, Option, Some, None, if◌then◌else◌}
+use Rattle.std.specs.Prelude.{ℕ, Bool, false, not, ◌&&◌, ◌==◌, ◌+◌, List, [], ◌∷◌, ◌++◌, map, filter, Option, Some, None, if◌then◌else◌}
 use Rattle.std.specs.List.{fold, flat_map}
 use Rattle.wl_types.specs.declared.phases.Phase.{Phase}
 use Rattle.wl_types.specs.declared.phases.Phase.TheVariants.{Pending}
@@ -67,8 +67,3 @@ without_change agent request = if request.agent == agent then record request { c
 -- the agent's changed requests were collected: those that have ended leave, and none of the others is changed
 abbrev pub after_collect : ℕ → List Request → List Request
 after_collect agent requests = map (without_change agent) (filter (λ request. not (has_ended agent request)) requests)
-
--- each number is greater than the one before, from low on and below high
-abbrev pub IsRising : ℕ → ℕ → List Request → Type 0
-IsRising low high [] = Unit {0}
-IsRising low high (request ∷ requests) = (low ≤ request.number) × (request.number < high) × IsRising (request.number + 1) high requests

@@ -5,8 +5,9 @@ ghost use Rattle.std.specs.List.{Contains, flat_map};
 ghost use Rattle.std.specs.List.Sorted.{IsStrictlyIncreasing, IsStrictlySortedBy};
 ghost use Rattle.std.specs.Map.{keys_of, values_of};
 ghost use Rattle.std.specs.Ordering.{nat_cmp};
-ghost use Rattle.wl_world.specs.Requests.{IsRising, changed_requests, with_changes, after_collect, waiting, with_change, without};
-ghost use Rattle.wl_world.specs.AgentIndex.{AreObserved, IsCovered, IsEach, IsEachAt, IsEnrolled, IsIndex, coming, found, close_one, observed_of, collect_one};
+ghost use Rattle.wl_world.specs.Requests.{changed_requests, with_changes, after_collect, waiting, with_change, without};
+ghost use Rattle.wl_world.specs.inner.Requests.{IsRising};
+ghost use Rattle.wl_world.specs.inner.AgentIndex.{AreObserved, IsCovered, IsEach, IsEachAt, IsEnrolled, IsIndex, coming, found, close_one, observed_of, collect_one};
 
 use crate::requests::Request;
 use std::alloc::Global;

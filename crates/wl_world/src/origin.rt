@@ -5,7 +5,7 @@ ghost use Rattle.std.specs.List.{fold};
 ghost use Rattle.wl_session.specs.LastReported.{IsByNumber};
 ghost use Rattle.wl_world.specs.Origins.{act, admitted, as_taken, is_granted, take_observed, origin_after_collect, unused};
 ghost use Rattle.wl_world.specs.Requests.{changed_requests};
-ghost use Rattle.wl_world.specs.Views.{core as seen, act_result_of};
+ghost use Rattle.wl_world.specs.inner.Views.{core as seen, act_result_of};
 
 use crate::requests::Requests;
 use crate::steps::{accept, operate, refusal_outcome};
@@ -25,7 +25,7 @@ pub(crate) struct Origin<C: LockCore> {
 
 impl<C: LockCore> Model for Origin<C> {
     ghost use Rattle.wl_world.specs.Origins as origins;
-    ghost use Rattle.wl_world.specs.Requests.{IsRising};
+    ghost use Rattle.wl_world.specs.inner.Requests.{IsRising};
 
     ghost Value = { origins.Origin };
 

@@ -1,7 +1,8 @@
 //! The requests of a manager whose ends were not reported to their agents, each with what its agent is to learn of it.
 
 ghost use Rattle.std.specs.Prelude.{◌≡◌, ◌++◌, ◌∷◌, [], IfOk, OnOk, OnErr};
-ghost use Rattle.wl_world.specs.Requests.{IsRising, changed_requests, with_changes, after_collect, waiting, without};
+ghost use Rattle.wl_world.specs.Requests.{changed_requests, with_changes, after_collect, waiting, without};
+ghost use Rattle.wl_world.specs.inner.Requests.{IsRising};
 
 use crate::agent_index::{AgentRequests, add, close, collect, forget, note_all};
 use std::alloc::Global;
@@ -29,7 +30,7 @@ impl Model for Requests {
     ghost use Rattle.std.specs.Prelude.{List};
     ghost use Rattle.std.specs.Map.{values_of};
     ghost use Rattle.wl_world.specs.declared.requests.Request.{Request};
-    ghost use Rattle.wl_world.specs.AgentIndex.{IsIndex};
+    ghost use Rattle.wl_world.specs.inner.AgentIndex.{IsIndex};
 
     ghost Value = { List Request };
 

@@ -2,9 +2,10 @@
 
 ghost use Rattle.std.specs.Prelude.{◌≡◌, List, [], IfOk, OnErr, OnOk};
 ghost use Rattle.wl_world.specs.declared.requests.Request.{Request};
-ghost use Rattle.wl_world.specs.Requests.{with_changes, after_answer, IsRising};
-ghost use Rattle.wl_world.specs.AgentIndex.{IsNewest};
-ghost use Rattle.wl_world.specs.Views.{core as seen, fresh, Operates, AnswersRefusal};
+ghost use Rattle.wl_world.specs.Requests.{with_changes, after_answer};
+ghost use Rattle.wl_world.specs.inner.Requests.{IsRising};
+ghost use Rattle.wl_world.specs.inner.AgentIndex.{IsNewest};
+ghost use Rattle.wl_world.specs.inner.Views.{core as seen, fresh, Operates, AnswersRefusal};
 
 use crate::requests::Requests;
 use wl_codec::{Body, Outcome};

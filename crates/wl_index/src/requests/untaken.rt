@@ -6,10 +6,10 @@ ghost use Rattle.std.specs.Option.{option_to_list};
 ghost use Rattle.std.specs.Ordering.{nat_cmp};
 ghost use Rattle.wl_machine.specs.declared.rows.HeldRow.{HeldRow};
 ghost use Rattle.wl_machine.specs.Least.{IsLeast, above};
-ghost use Rattle.wl_index.specs.Ends.{IsOwners, ends_lock, untaken_places};
-ghost use Rattle.wl_index.specs.Order.{from_grant_seq, first_of};
-ghost use Rattle.wl_index.specs.Rows.{held_of};
-ghost use Rattle.wl_index.specs.Untaken.{finds_untaken};
+ghost use Rattle.wl_index.specs.inner.Ends.{IsOwners, ends_lock, untaken_places};
+ghost use Rattle.wl_index.specs.inner.Order.{from_grant_seq, first_of};
+ghost use Rattle.wl_index.specs.inner.Rows.{held_of};
+ghost use Rattle.wl_index.specs.inner.Untaken.{finds_untaken};
 
 use crate::request::{Owner, Place, Standing};
 use crate::requests::Requests;

@@ -3,7 +3,8 @@
 ghost use Rattle.std.specs.Prelude.{◌≡◌, ◌^◌, ◌-◌, min, true, false, IfSome, OnSome, IfNone};
 ghost use Rattle.wl_journal.specs.Books.{cut_off};
 ghost use Rattle.wl_journal.specs.History.{IsLegal};
-ghost use Rattle.wl_manager.specs.Locked.{WasCut, first, rows_of};
+ghost use Rattle.wl_manager.specs.Locked.{WasCut, first};
+ghost use Rattle.wl_manager.specs.inner.Locked.{rows_of};
 
 use crate::count::Count;
 use crate::locked::Locked;

@@ -38,7 +38,8 @@ use denote.Triple.Table.{framed}
 use denote.Triple.Walked.{Stays, walk_of, stay_dropped, Goes-dropped, ends_at}
 use types.SemTy.{Body}
 use Rattle.std.specs.contracts.impls.GlobalAllocator.TheImpl.{ghosts}
-use Rattle.wl_c.specs.Handles.{has_audit, SaysAudit, Audited, rooms, told, handle}
+use Rattle.wl_c.specs.Handles.{SaysAudit, Audited, rooms, told, handle}
+use Rattle.wl_c.specs.inner.Handles.{has_audit}
 use Rattle.wl_c.specs.Codes.{code_of}
 use Rattle.wl_c.specs.declared.fault.Fault.{Fault}
 use Rattle.std.specs.Prelude.{Result, is_ok}

@@ -3,7 +3,7 @@ use Rattle.std.specs.Option.{is_some, option_copied_mut}
 use Rattle.std.specs.List.Sorted.{IsStrictlySortedBy}
 use Rattle.std.specs.Ordering.{nat_cmp}
 use Rattle.wl_machine.proofs.Covers.{Contains-filter, rising_filter}
-use Rattle.wl_index.specs.Lists.{KeepsLive, at, list_at, numbers_on, only_live}
+use Rattle.wl_index.specs.inner.Lists.{KeepsLive, at, list_at, numbers_on, only_live}
 use Rattle.wl_index.proofs.Grouping.{one_list}
 use Rattle.wl_index.proofs.Registers.{written_here}
 use Rattle.wl_index.proofs.agents.clean_list.Goals.{After-shrink_to_fit}

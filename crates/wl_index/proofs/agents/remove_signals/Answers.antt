@@ -1,5 +1,5 @@
 use Rattle.std.proofs.Common.{◌∙◌, ap, sym, filter}
-use Rattle.wl_index.specs.Lists.{is_spared}
+use Rattle.wl_index.specs.inner.Lists.{is_spared}
 use Rattle.wl_number_map.proofs.Keyed.{removed_at}
 use Rattle.wl_index.proofs.Spared.{spared_all, spared_next}
 use Rattle.wl_index.proofs.agents.remove_signals.Goals as goal

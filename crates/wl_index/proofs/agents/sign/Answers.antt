@@ -2,7 +2,7 @@ use Rattle.std.proofs.Common.{◌≡◌, ◌∙◌, sym, ap, subst, Some}
 use Rattle.std.specs.Option.{is_some, option_copied_mut}
 use Rattle.std.specs.List.Sorted.{IsStrictlySortedBy}
 use Rattle.std.specs.Ordering.{nat_cmp}
-use Rattle.wl_index.specs.Lists.{at, numbers_on}
+use Rattle.wl_index.specs.inner.Lists.{at, numbers_on}
 use Rattle.wl_index.proofs.Grouping.{one_list}
 use Rattle.wl_index.proofs.Registers.{lent_some}
 use Rattle.wl_index.proofs.agents.sign.Goals.{After-unwrap-list}

@@ -1,5 +1,5 @@
 use Rattle.std.proofs.Common.{◌≡◌, ◌++◌, map}
-use Rattle.wl_index.specs.AgentRows.{agent_row}
+use Rattle.wl_index.specs.inner.AgentRows.{agent_row}
 use Rattle.wl_index.proofs.copies.add_agents.Given as goal
 
 -- the draft with the rows to come is the draft with all rows

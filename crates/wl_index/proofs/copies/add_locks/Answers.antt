@@ -1,7 +1,7 @@
 use Rattle.std.proofs.Common.{◌∙◌, ◌++◌, ap, append-nil, subst, sym}
 use Rattle.std.proofs.lemmas.List.{nil_from_length}
 use Rattle.std.specs.List.{AllByRecursion}
-use Rattle.wl_index.specs.Rows.{lock_row}
+use Rattle.wl_index.specs.inner.Rows.{lock_row}
 use Rattle.wl_index.proofs.Views.{Stands, found_at, locks_stand, locks_copied}
 use Rattle.wl_index.proofs.copies.add_locks.Goals as goal
 

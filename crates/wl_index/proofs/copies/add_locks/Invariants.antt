@@ -1,7 +1,7 @@
 use Rattle.std.proofs.Common.{◌≡◌, ◌++◌}
 use Rattle.std.specs.List.{AllByRecursion}
 use Rattle.std.specs.Vec.Iter.{into_iter_items}
-use Rattle.wl_index.specs.Rows.{lock_row}
+use Rattle.wl_index.specs.inner.Rows.{lock_row}
 use Rattle.wl_index.proofs.Views.{Stands, found_at}
 use Rattle.wl_index.proofs.copies.add_locks.Given as goal
 

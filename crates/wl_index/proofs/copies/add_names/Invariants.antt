@@ -1,5 +1,5 @@
 use Rattle.std.proofs.Common.{◌≡◌, ◌++◌}
-use Rattle.wl_index.specs.Queues.{names_of}
+use Rattle.wl_index.specs.inner.Queues.{names_of}
 use Rattle.wl_index.proofs.copies.add_names.Given as goal
 
 -- the draft with the rows to come is the draft with all rows

@@ -1,5 +1,5 @@
 use Rattle.std.proofs.Common.{◌≡◌, ◌++◌}
-use Rattle.wl_index.specs.Rows.{pending_of}
+use Rattle.wl_index.specs.inner.Rows.{pending_of}
 use Rattle.wl_index.proofs.copies.add_requests.Given as goal
 
 -- the draft with the rows to come is the draft with all rows

@@ -2,9 +2,9 @@ use Rattle.std.proofs.Common.{List, ◌≡◌, ◌∙◌, ◌∷◌, ◌++◌, [
 use Rattle.std.specs.Prelude.{filter}
 use Rattle.std.proofs.lemmas.List.{drop_all}
 use Rattle.wl_index.specs.declared.request.Place.{Place}
-use Rattle.wl_index.specs.Ends.{numbers_of, place_ends, AreLive}
-use Rattle.wl_index.specs.Lists.{is_spared}
-use Rattle.wl_index.specs.Locks.{Board}
+use Rattle.wl_index.specs.inner.Ends.{numbers_of, place_ends, AreLive}
+use Rattle.wl_index.specs.inner.Lists.{is_spared}
+use Rattle.wl_index.specs.inner.Locks.{Board}
 use Rattle.wl_index.proofs.Boards.{board_as}
 use Rattle.wl_index.proofs.Spared.{spared_all, spared_next}
 use Rattle.wl_index.proofs.Turns.{rest_next}

@@ -1,6 +1,6 @@
 use Rattle.std.proofs.Common.{◌≡◌, ◌++◌, filter, drop}
-use Rattle.wl_index.specs.Lists.{is_spared}
-use Rattle.wl_index.specs.Ends.{numbers_of, place_ends, AreLive}
+use Rattle.wl_index.specs.inner.Lists.{is_spared}
+use Rattle.wl_index.specs.inner.Ends.{numbers_of, place_ends, AreLive}
 use Rattle.wl_index.proofs.ending.end_all.Given as goal
 
 -- the ends told, and those to come, are those of the whole list

@@ -1,9 +1,9 @@
 use Rattle.std.proofs.Common.{◌≡◌, ◌∙◌, ap, filter, map}
 use Rattle.wl_index.specs.declared.request.Place.{Place}
-use Rattle.wl_index.specs.Ends.{ends_entry}
-use Rattle.wl_index.specs.Order.{place_of}
-use Rattle.wl_index.specs.Rows.{Rows}
-use Rattle.wl_index.specs.GrantOrder.{by_grant_seq}
+use Rattle.wl_index.specs.inner.Ends.{ends_entry}
+use Rattle.wl_index.specs.inner.Order.{place_of}
+use Rattle.wl_index.specs.inner.Rows.{Rows}
+use Rattle.wl_index.specs.inner.GrantOrder.{by_grant_seq}
 use Rattle.wl_index.specs.declared.request.Standing.TheVariants.{Holds}
 use Rattle.wl_index.proofs.Boards.{ended_as}
 use Rattle.wl_index.proofs.Owned.{locks_distinct, locks_gone, locks_live, locks_told}

@@ -1,9 +1,9 @@
 use Rattle.std.proofs.Common.{◌≡◌, ◌∙◌, ap, arith, true, length, refl}
 use Rattle.std.specs.Prelude.{not}
 use Rattle.std.specs.List.{Contains}
-use Rattle.wl_index.specs.Ends.{ends_entry, is_owned}
-use Rattle.wl_index.specs.Locks.{Board}
-use Rattle.wl_index.specs.Rows.{Entry}
+use Rattle.wl_index.specs.inner.Ends.{ends_entry, is_owned}
+use Rattle.wl_index.specs.inner.Locks.{Board}
+use Rattle.wl_index.specs.inner.Rows.{Entry}
 use Rattle.wl_index.specs.declared.request.Standing.TheVariants.{Waits}
 use Rattle.wl_index.proofs.Counting.{length-filter-not}
 use Rattle.wl_index.proofs.Lists.{all_filter}

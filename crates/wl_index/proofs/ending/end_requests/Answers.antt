@@ -1,7 +1,7 @@
 use Rattle.std.proofs.Common.{◌≡◌, ◌∙◌, ap, filter, map}
-use Rattle.wl_index.specs.Ends.{ends_entry}
-use Rattle.wl_index.specs.Order.{place_of}
-use Rattle.wl_index.specs.Rows.{Rows}
+use Rattle.wl_index.specs.inner.Ends.{ends_entry}
+use Rattle.wl_index.specs.inner.Order.{place_of}
+use Rattle.wl_index.specs.inner.Rows.{Rows}
 use Rattle.wl_index.specs.declared.request.Standing.TheVariants.{Waits}
 use Rattle.wl_index.proofs.Boards.{ended_as}
 use Rattle.wl_index.proofs.Owned.{requests_gone, requests_live, requests_told}

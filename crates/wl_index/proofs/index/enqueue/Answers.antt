@@ -1,4 +1,4 @@
-use Rattle.wl_index.specs.Core.{machine_state}
+use Rattle.wl_index.specs.inner.Core.{machine_state}
 use Rattle.wl_index.proofs.Accepted.{request_accepted}
 use Rattle.wl_index.proofs.Cores.{room_for_one}
 use Rattle.wl_index.proofs.Tags.{grouped_asked, grouped_kept, numbers_below}

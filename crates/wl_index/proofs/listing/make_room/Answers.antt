@@ -1,6 +1,6 @@
 use Rattle.std.proofs.Common.{is_some}
 use Rattle.wl_machine.proofs.Covers.{Contains-filter, rising_filter}
-use Rattle.wl_index.specs.Lists.{at}
+use Rattle.wl_index.specs.inner.Lists.{at}
 use Rattle.wl_index.proofs.listing.make_room.Goals as goal
 
 pub returns-in_err-reserve-clause-rising : goal.returns-in_err-reserve-clause-rising

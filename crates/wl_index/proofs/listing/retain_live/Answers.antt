@@ -1,6 +1,6 @@
 use Rattle.std.proofs.Common.{rules, is_some}
 use Rattle.std.proofs.lemmas.Fn.{filter_same}
-use Rattle.wl_index.specs.Lists.{at}
+use Rattle.wl_index.specs.inner.Lists.{at}
 use Rattle.wl_index.proofs.listing.retain_live.Goals as goal
 
 pub returns : goal.returns

@@ -1,9 +1,9 @@
 use Rattle.std.proofs.Common.{◌≡◌, ◌∙◌, ◌∷◌, length, ap, subst, refl, nat_cmp, arith}
 use Rattle.std.specs.List.Sorted.{IsSorted}
 use Rattle.wl_machine.specs.Grants.{Lists, lists_of}
-use Rattle.wl_index.specs.Event.{Happened}
-use Rattle.wl_index.specs.Locks.{Stands, Underway}
-use Rattle.wl_index.specs.Rows.{held_of, pending_of}
+use Rattle.wl_index.specs.inner.Event.{Happened}
+use Rattle.wl_index.specs.inner.Locks.{Stands, Underway}
+use Rattle.wl_index.specs.inner.Rows.{held_of, pending_of}
 use Rattle.wl_index.proofs.Lists.{sorted_least, sorted_next}
 use Rattle.wl_index.proofs.Processing.{start}
 use Rattle.wl_index.proofs.locks.process_all.Goals.{In-Some}

@@ -3,9 +3,9 @@ use Rattle.std.specs.List.{AllByRecursion}
 use Rattle.std.specs.List.Sorted.{IsSorted}
 use Rattle.std.specs.Ordering.{nat_cmp}
 use Rattle.wl_machine.specs.Grants.{Lists, lists_of}
-use Rattle.wl_index.specs.Locks.{Underway}
-use Rattle.wl_index.specs.Queues.{Placed}
-use Rattle.wl_index.specs.Rows.{held_of, pending_of, tags_of}
+use Rattle.wl_index.specs.inner.Locks.{Underway}
+use Rattle.wl_index.specs.inner.Queues.{Placed}
+use Rattle.wl_index.specs.inner.Rows.{held_of, pending_of, tags_of}
 use Rattle.wl_index.proofs.locks.process_all.Given as goal
 
 abbrev pub invariant-loop-place : goal.invariant-loop-place

@@ -2,11 +2,11 @@ use Rattle.std.proofs.Common.{◌≡◌, ◌∙◌, ◌≤◌, ◌∷◌, [], �
 use Rattle.std.specs.List.{AllByRecursion, list_any}
 use Rattle.wl_machine.specs.declared.rows.PendingRow.{PendingRow}
 use Rattle.wl_machine.specs.Grants.{Lists, lists_of}
-use Rattle.wl_index.specs.Event.{Happened}
-use Rattle.wl_index.specs.Locks.{Stands}
-use Rattle.wl_index.specs.NameQueue.{after_grant}
-use Rattle.wl_index.specs.Queues.{without_idle}
-use Rattle.wl_index.specs.Rows.{held_of, pending_of}
+use Rattle.wl_index.specs.inner.Event.{Happened}
+use Rattle.wl_index.specs.inner.Locks.{Stands}
+use Rattle.wl_index.specs.inner.NameQueue.{after_grant}
+use Rattle.wl_index.specs.inner.Queues.{without_idle}
+use Rattle.wl_index.specs.inner.Rows.{held_of, pending_of}
 use Rattle.wl_index.proofs.Processing.{Granting, below_updated, granted_all, granting, one_granted, retired, start, below_left}
 use Rattle.wl_index.proofs.Rows.{is_request}
 use Rattle.wl_index.proofs.QueueProcessing.{Step, next_listed, step_meets}

@@ -1,9 +1,9 @@
 use Rattle.std.proofs.Common.{◌≡◌, ◌+◌, ◌*◌, ◌≤◌, ◌<◌, ◌∷◌, ℕ, List, length}
 use Rattle.std.specs.List.{AllByRecursion}
 use Rattle.wl_machine.specs.Grants.{Lists, lists_of}
-use Rattle.wl_index.specs.Locks.{Underway}
-use Rattle.wl_index.specs.Queues.{Placed}
-use Rattle.wl_index.specs.Rows.{held_of, pending_of, tags_of}
+use Rattle.wl_index.specs.inner.Locks.{Underway}
+use Rattle.wl_index.specs.inner.Queues.{Placed}
+use Rattle.wl_index.specs.inner.Rows.{held_of, pending_of, tags_of}
 use Rattle.wl_index.proofs.locks.process_queue.Given as goal
 
 abbrev pub invariant-loop-number : goal.invariant-loop-number

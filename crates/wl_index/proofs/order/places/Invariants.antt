@@ -1,5 +1,5 @@
 use Rattle.std.proofs.Common.{◌≡◌, ◌++◌}
-use Rattle.wl_index.specs.Order.{places_of}
+use Rattle.wl_index.specs.inner.Order.{places_of}
 use Rattle.wl_index.proofs.order.places.Given as goal
 
 -- the places so far, and those of the requests that are left

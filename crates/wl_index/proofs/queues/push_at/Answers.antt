@@ -3,8 +3,8 @@ use Rattle.std.specs.Option.{option_copied_mut}
 use Rattle.std.specs.Map.{set_value}
 use Rattle.std.specs.BTreeMap.{is_at}
 use Rattle.std.proofs.lemmas.Result.{on_ok_weaker}
-use Rattle.wl_index.specs.NameQueue.{with_one_more}
-use Rattle.wl_index.specs.Queues.{IsBelow, Placed, at_place}
+use Rattle.wl_index.specs.inner.NameQueue.{with_one_more}
+use Rattle.wl_index.specs.inner.Queues.{IsBelow, Placed, at_place}
 use Rattle.wl_index.proofs.InUse.{none_updated, queue_at, set_updated, unless_pushed}
 use Rattle.wl_index.proofs.queues.push_at.Goals.{In-Some}
 use Rattle.wl_index.proofs.queues.push_at.Goals as goal

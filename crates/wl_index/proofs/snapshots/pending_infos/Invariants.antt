@@ -2,9 +2,9 @@ use Rattle.std.proofs.Common.{◌≡◌, ◌++◌, map}
 use Rattle.std.specs.List.{flat_map, AllByRecursion}
 use Rattle.wl_machine.specs.Grants.{queue}
 use Rattle.wl_machine.specs.Step.{request_info}
-use Rattle.wl_index.specs.Rows.{held_of, pending_of}
-use Rattle.wl_index.specs.NameQueue.{Matches}
-use Rattle.wl_index.specs.Queues.{names_of}
+use Rattle.wl_index.specs.inner.Rows.{held_of, pending_of}
+use Rattle.wl_index.specs.inner.NameQueue.{Matches}
+use Rattle.wl_index.specs.inner.Queues.{names_of}
 use Rattle.wl_index.proofs.snapshots.pending_infos.Given as goal
 
 -- what is shown, and the queues to come, are all queues

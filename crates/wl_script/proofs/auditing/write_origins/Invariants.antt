@@ -1,6 +1,7 @@
 use Rattle.std.proofs.Common.{◌≡◌, ◌≤◌, length, take}
 use Rattle.std.specs.Io.KnownBytes.{Appends}
-use Rattle.wl_script.specs.Audits.{cores_of, audit_text, with_entries}
+use Rattle.wl_script.specs.Audits.{audit_text, with_entries}
+use Rattle.wl_script.specs.inner.Audits.{cores_of}
 use Rattle.wl_script.proofs.auditing.write_origins.Given as goal
 
 -- the lines of the first origins were written

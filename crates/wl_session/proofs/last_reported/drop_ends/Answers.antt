@@ -1,6 +1,6 @@
 use Rattle.std.proofs.Common.{sym, subst, rules}
 use Rattle.std.proofs.lemmas.Fn.{filter_same}
-use Rattle.wl_session.specs.LastReported.{IsReportedList}
+use Rattle.wl_session.specs.inner.LastReported.{IsReportedList}
 use Rattle.wl_session.proofs.Edits.{live_of_reported, reported_list_left}
 use Rattle.wl_session.proofs.last_reported.drop_ends.Goals as goal
 

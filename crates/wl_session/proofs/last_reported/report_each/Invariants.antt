@@ -1,5 +1,6 @@
 use Rattle.std.proofs.Common.{◌≡◌, ◌+◌, ◌≤◌, length, take, vec_len, vec_capacity}
-use Rattle.wl_session.specs.LastReported.{IsReportedList, with_observed}
+use Rattle.wl_session.specs.LastReported.{with_observed}
+use Rattle.wl_session.specs.inner.LastReported.{IsReportedList}
 use Rattle.wl_session.proofs.last_reported.report_each.Given as goal
 
 abbrev pub invariant-loop-observation : goal.invariant-loop-observation

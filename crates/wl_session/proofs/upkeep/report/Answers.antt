@@ -1,6 +1,6 @@
 use Rattle.std.proofs.Common.{List, ap, sym, subst, filter, ◌∙◌}
 use Rattle.wl_session.specs.LastReported.{RequestPhase, is_live, with_observed}
-use Rattle.wl_session.specs.Upkeep.{IsKept}
+use Rattle.wl_session.specs.inner.Upkeep.{IsKept}
 use Rattle.wl_session.proofs.Edits.{live_of_reported, kept_is_reported, live_then_observed}
 use Rattle.wl_session.proofs.upkeep.report.Goals as goal
 

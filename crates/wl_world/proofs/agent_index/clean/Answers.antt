@@ -1,5 +1,5 @@
 use Rattle.std.specs.Option.{is_some}
-use Rattle.wl_world.specs.AgentIndex.{found}
+use Rattle.wl_world.specs.inner.AgentIndex.{found}
 use Rattle.wl_machine.proofs.Covers.{Contains-filter}
 use Rattle.wl_world.proofs.agent_index.clean.Goals as goal
 

@@ -1,5 +1,5 @@
 use Rattle.std.proofs.Common.{sym, subst, ◌∙◌}
-use Rattle.wl_world.specs.AgentIndex.{IsCovered, close_one, own_of}
+use Rattle.wl_world.specs.inner.AgentIndex.{IsCovered, close_one, own_of}
 use Rattle.wl_world.proofs.Covered.{left_covered, left_index}
 use Rattle.wl_world.proofs.Passed.{left_values}
 use Rattle.wl_world.proofs.Walks.{none_left}

@@ -1,5 +1,5 @@
 use Rattle.std.proofs.Common.{rules}
-use Rattle.wl_world.specs.AgentIndex.{close_one}
+use Rattle.wl_world.specs.inner.AgentIndex.{close_one}
 use Rattle.wl_world.proofs.Walks.{one_more_of, left_twice}
 use Rattle.wl_world.proofs.agent_index.close_all.Goals as goal
 

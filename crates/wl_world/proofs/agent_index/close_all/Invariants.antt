@@ -1,7 +1,7 @@
 use Rattle.std.proofs.Common.{drop, nat_cmp}
 use Rattle.std.specs.List.Sorted.{IsStrictlySortedBy}
 use Rattle.std.specs.Map.{keys_of}
-use Rattle.wl_world.specs.AgentIndex.{close_one}
+use Rattle.wl_world.specs.inner.AgentIndex.{close_one}
 use Rattle.wl_world.proofs.Walks.{IsUnderWay}
 use Rattle.wl_world.proofs.agent_index.close_all.Given as goal
 

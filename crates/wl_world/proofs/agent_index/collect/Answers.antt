@@ -5,7 +5,7 @@ use Rattle.std.specs.List.{Contains}
 use Rattle.std.specs.Map.{values_of}
 use Rattle.std.specs.Option.{is_some, option_copied_mut}
 use Rattle.wl_world.specs.Requests.{changed_requests}
-use Rattle.wl_world.specs.AgentIndex.{IsCovered, inbox_of, collect_one}
+use Rattle.wl_world.specs.inner.AgentIndex.{IsCovered, inbox_of, collect_one}
 use Rattle.wl_world.proofs.Covered.{collect_covered, collect_index}
 use Rattle.wl_world.proofs.Observed.{all_observed, no_change}
 use Rattle.wl_world.proofs.Passed.{collect_values}

@@ -1,5 +1,5 @@
 use Rattle.std.proofs.Common.{◌++◌, ◌∙◌, ap, arith, rules}
-use Rattle.wl_world.specs.AgentIndex.{found, observed_of, collect_one}
+use Rattle.wl_world.specs.inner.AgentIndex.{found, observed_of, collect_one}
 use Rattle.wl_world.proofs.Observed.{observed_more}
 use Rattle.wl_world.proofs.Walks.{one_more_of, collect_twice, untouched_more}
 use Rattle.wl_world.proofs.agent_index.collect_all.Goals as goal

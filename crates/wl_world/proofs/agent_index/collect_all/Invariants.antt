@@ -2,7 +2,7 @@ use Rattle.std.proofs.Common.{◌≡◌, take, drop, nat_cmp}
 use Rattle.std.specs.List.{flat_map}
 use Rattle.std.specs.List.Sorted.{IsStrictlySortedBy}
 use Rattle.std.specs.Map.{keys_of}
-use Rattle.wl_world.specs.AgentIndex.{found, observed_of, collect_one}
+use Rattle.wl_world.specs.inner.AgentIndex.{found, observed_of, collect_one}
 use Rattle.wl_world.proofs.Walks.{IsUnderWay, IsUntouchedFrom}
 use Rattle.wl_world.proofs.agent_index.collect_all.Given as goal
 

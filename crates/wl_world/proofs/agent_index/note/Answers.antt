@@ -4,7 +4,7 @@ use Rattle.std.proofs.lemmas.List.Elements.{Contains-append_left, Contains-push}
 use Rattle.std.specs.Map.{values_of}
 use Rattle.wl_world.specs.declared.requests.Request.{Request}
 use Rattle.wl_world.specs.Requests.{with_change}
-use Rattle.wl_world.specs.AgentIndex.{found}
+use Rattle.wl_world.specs.inner.AgentIndex.{found}
 use Rattle.wl_world.proofs.Covered.{with_change_each, inbox_index, inbox_kept_index, without_change_each}
 use Rattle.wl_world.proofs.Passed.{with_change_values}
 use Rattle.wl_world.proofs.agent_index.note.Goals.{In-Some}

@@ -1,7 +1,7 @@
 use Rattle.std.proofs.Common.{◌≡◌, take}
 use Rattle.std.specs.Map.{values_of}
 use Rattle.wl_world.specs.Requests.{with_changes}
-use Rattle.wl_world.specs.AgentIndex.{IsIndex}
+use Rattle.wl_world.specs.inner.AgentIndex.{IsIndex}
 use Rattle.wl_world.proofs.agent_index.note_all.Given as goal
 
 abbrev pub invariant-loop-change : goal.invariant-loop-change

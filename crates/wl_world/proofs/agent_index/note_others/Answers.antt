@@ -4,8 +4,9 @@ use Rattle.std.proofs.lemmas.List.Sums.{fold_more}
 use Rattle.wl_types.specs.declared.phases.Change.{Change}
 use Rattle.wl_types.specs.declared.phases.Phase.TheVariants.{Pending}
 use Rattle.wl_world.specs.declared.requests.Request.{Request}
-use Rattle.wl_world.specs.Requests.{IsRising, with_changes, waiting, with_change}
-use Rattle.wl_world.specs.AgentIndex.{coming}
+use Rattle.wl_world.specs.Requests.{with_changes, waiting, with_change}
+use Rattle.wl_world.specs.inner.Requests.{IsRising}
+use Rattle.wl_world.specs.inner.AgentIndex.{coming}
 use Rattle.wl_world.proofs.Covered.{other_change, own_change}
 use Rattle.wl_world.proofs.Rising.{with_changes_rising}
 use Rattle.wl_world.proofs.agent_index.note_others.Goals as goal

@@ -1,7 +1,8 @@
 use Rattle.std.proofs.Common.{◌≡◌, ◌∷◌, ◌++◌, [], ℕ, take}
 use Rattle.std.specs.Map.{values_of}
-use Rattle.wl_world.specs.Requests.{IsRising, with_changes, waiting}
-use Rattle.wl_world.specs.AgentIndex.{IsIndex, coming}
+use Rattle.wl_world.specs.Requests.{with_changes, waiting}
+use Rattle.wl_world.specs.inner.Requests.{IsRising}
+use Rattle.wl_world.specs.inner.AgentIndex.{IsIndex, coming}
 use Rattle.wl_world.proofs.agent_index.note_others.Given as goal
 
 -- with the request that is to come at the end, the changes so far are noted

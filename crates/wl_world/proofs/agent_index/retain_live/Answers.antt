@@ -1,6 +1,6 @@
 use Rattle.std.proofs.Common.{rules, is_some}
 use Rattle.std.proofs.lemmas.Fn.{filter_same}
-use Rattle.wl_world.specs.AgentIndex.{found}
+use Rattle.wl_world.specs.inner.AgentIndex.{found}
 use Rattle.wl_world.proofs.agent_index.retain_live.Goals as goal
 
 pub returns : goal.returns

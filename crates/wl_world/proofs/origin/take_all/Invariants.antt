@@ -1,7 +1,7 @@
 use Rattle.std.proofs.Common.{◌≡◌, ◌++◌, map, take, drop}
 use Rattle.std.specs.List.{fold}
 use Rattle.wl_world.specs.Origins.{as_taken, take_observed}
-use Rattle.wl_world.specs.Views.{core}
+use Rattle.wl_world.specs.inner.Views.{core}
 use Rattle.wl_world.proofs.origin.take_all.Given as goal
 
 -- taking the rest from here is taking all from the start

@@ -1,6 +1,6 @@
 use Rattle.std.proofs.Common.{◌≡◌, ◌∙◌, sym, ap, subst, refl, Some}
 use Rattle.std.specs.Option.{is_some, option_copied_mut}
-use Rattle.wl_index.specs.Lists.{IsRising, at}
+use Rattle.wl_index.specs.inner.Lists.{IsRising, at}
 use Rattle.wl_index.proofs.Registers.{Relisted, relisted}
 use Rattle.wl_index.proofs.agents.Agents.clean.Goals.{In-Some, After-clean_list}
 use Rattle.wl_index.proofs.agents.Agents.clean.Goals as goal

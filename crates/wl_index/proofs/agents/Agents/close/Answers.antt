@@ -5,8 +5,8 @@ use Rattle.std.specs.Map.{lookup}
 use Rattle.std.specs.BTreeMap.{is_at}
 use Rattle.wl_number_map.proofs.Keyed.{same_number}
 use Rattle.wl_index.specs.declared.agents.Signal.{Signal}
-use Rattle.wl_index.specs.Lists.{IsRising, is_spared}
-use Rattle.wl_index.specs.AgentRows.{Register}
+use Rattle.wl_index.specs.inner.Lists.{IsRising, is_spared}
+use Rattle.wl_index.specs.inner.AgentRows.{Register}
 use Rattle.wl_index.proofs.Grouping.{no_group_rises, with_updated}
 use Rattle.wl_index.proofs.Closing.{own_spared, closed_agents, closed_signals, closed_index}
 use Rattle.wl_index.proofs.AgentIndexes.{agent_there, listed_at, some_is}

@@ -2,8 +2,8 @@ use Rattle.std.proofs.Common.{◌≡◌, ◌∙◌, ◌==◌, ◌&&◌, sym, ap,
 use Rattle.std.specs.Option.{is_some, option_copied_mut}
 use Rattle.std.specs.List.{list_any}
 use Rattle.std.proofs.lemmas.Result.{on_ok_weaker}
-use Rattle.wl_index.specs.Lists.{IsOn, IsRising, at}
-use Rattle.wl_index.specs.AgentRows.{Register}
+use Rattle.wl_index.specs.inner.Lists.{IsOn, IsRising, at}
+use Rattle.wl_index.specs.inner.AgentRows.{Register}
 use Rattle.wl_index.proofs.Registers.{Relisted, lent_some, relisted, written_here}
 use Rattle.wl_index.proofs.AgentIndexes.{agent_there, listed_at, signal_made, some_is}
 use Rattle.wl_index.proofs.agents.Agents.enlist.Goals.{After-unwrap-found, After-enroll}

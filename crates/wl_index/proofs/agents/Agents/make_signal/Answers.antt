@@ -4,8 +4,8 @@ use Rattle.std.specs.List.{list_any}
 use Rattle.std.specs.Map.{keys_of, lookup, set_value, remove_entry}
 use Rattle.std.specs.BTreeMap.{is_at, insert_entry}
 use Rattle.wl_index.specs.declared.agents.Agent.{Agent}
-use Rattle.wl_index.specs.Lists.{IsRising, list_at, own_of, signed_of}
-use Rattle.wl_index.specs.AgentRows.{Register}
+use Rattle.wl_index.specs.inner.Lists.{IsRising, list_at, own_of, signed_of}
+use Rattle.wl_index.specs.inner.AgentRows.{Register}
 use Rattle.wl_number_map.proofs.Keyed.{Found, entry_last, found, undone}
 use Rattle.wl_index.proofs.Registers.{list_more, lists_written, rises_as, rises_written, set_looks}
 use Rattle.wl_index.proofs.AgentIndexes.{agent_there, listed_at, some_is, some_at, keys_last, rows_stay, index_stays, signalled, signal_rows, signals_lower}

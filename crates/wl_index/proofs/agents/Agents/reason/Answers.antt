@@ -1,5 +1,5 @@
 use Rattle.std.proofs.Common.{◌∙◌, sym, ap}
-use Rattle.wl_index.specs.AgentRows.{reason_at}
+use Rattle.wl_index.specs.inner.AgentRows.{reason_at}
 use Rattle.wl_index.proofs.AgentIndexes.{reason_found}
 use Rattle.wl_index.proofs.agents.Agents.reason.Goals as goal
 

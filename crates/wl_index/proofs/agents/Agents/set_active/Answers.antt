@@ -3,7 +3,7 @@ use Rattle.std.specs.Option.{is_some, option_copied_mut}
 use Rattle.std.specs.Map.{lookup}
 use Rattle.std.specs.BTreeMap.{is_at}
 use Rattle.wl_number_map.proofs.Keyed.{found}
-use Rattle.wl_index.specs.Lists.{IsRising, own_of, signed_of}
+use Rattle.wl_index.specs.inner.Lists.{IsRising, own_of, signed_of}
 use Rattle.wl_index.proofs.Registers.{lists_written, rises_written}
 use Rattle.wl_index.proofs.AgentIndexes.{active_index, active_set, active_none}
 use Rattle.wl_index.proofs.agents.Agents.set_active.Goals.{In-Some}

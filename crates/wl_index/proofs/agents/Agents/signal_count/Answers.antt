@@ -5,7 +5,7 @@ use Rattle.std.specs.Map.{lookup}
 use Rattle.std.specs.BTreeMap.{is_at}
 use Rattle.std.proofs.lemmas.List.{length-map}
 use Rattle.wl_machine.specs.Refusals.{signals_of}
-use Rattle.wl_index.specs.AgentRows.{Register, signal_row}
+use Rattle.wl_index.specs.inner.AgentRows.{Register, signal_row}
 use Rattle.wl_index.proofs.AgentIndexes.{agent_there, listed_at, keys_length, some_is}
 use Rattle.wl_index.proofs.Registers.{seen_some}
 use Rattle.wl_index.proofs.agents.Agents.signal_count.Goals as goal

@@ -1,6 +1,6 @@
 use Rattle.std.proofs.Common.{◌∙◌, ap, arith, length, sym}
 use Rattle.wl_machine.specs.declared.command.Command.TheVariants as command
-use Rattle.wl_index.specs.Rows.{Rows}
+use Rattle.wl_index.specs.inner.Rows.{Rows}
 use Rattle.wl_index.proofs.Cores.{as_seen, asked_core, plain_seen, refused_core, room_for_one, unavailable_asked}
 use Rattle.wl_index.proofs.index.IndexCore.admit.Goals as goal
 

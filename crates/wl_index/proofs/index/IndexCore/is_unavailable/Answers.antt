@@ -1,7 +1,7 @@
 use Rattle.std.proofs.Common.{◌∙◌, ap, sym, refl}
 use Rattle.std.specs.Prelude.{not, ◌&&◌}
 use Rattle.wl_machine.specs.Step.{available, new_request}
-use Rattle.wl_index.specs.Core.{machine_state}
+use Rattle.wl_index.specs.inner.Core.{machine_state}
 use Rattle.wl_index.proofs.index.IndexCore.is_unavailable.Goals as goal
 
 pub returns-then-ask : goal.returns-then-ask

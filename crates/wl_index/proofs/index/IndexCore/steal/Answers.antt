@@ -4,8 +4,8 @@ use Rattle.wl_machine.specs.State.{Content}
 use Rattle.wl_machine.specs.Grants.{locks}
 use Rattle.wl_machine.specs.Step.{lock_ends}
 use Rattle.wl_types.specs.declared.phases.Phase.TheVariants.{Stolen}
-use Rattle.wl_index.specs.Locks.{Board, no_lock_on}
-use Rattle.wl_index.specs.Rows.{Rows, held_of}
+use Rattle.wl_index.specs.inner.Locks.{Board, no_lock_on}
+use Rattle.wl_index.specs.inner.Rows.{Rows, held_of}
 use Rattle.wl_index.proofs.Asked.{Ousted, ousted_is}
 use Rattle.wl_index.proofs.Cores.{as_seen, ousted_core, steal_seen}
 use Rattle.wl_index.proofs.index.IndexCore.steal.Goals.{After-oust}

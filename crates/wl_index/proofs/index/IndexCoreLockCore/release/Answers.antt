@@ -1,6 +1,6 @@
 use Rattle.std.proofs.Common.{ap}
-use Rattle.wl_index.specs.Locks.{Board}
-use Rattle.wl_index.specs.Rows.{other}
+use Rattle.wl_index.specs.inner.Locks.{Board}
+use Rattle.wl_index.specs.inner.Rows.{other}
 use Rattle.wl_index.proofs.Cores.{begun_core, fewer_core}
 use Rattle.wl_index.proofs.index.IndexCoreLockCore.release.Goals as goal
 

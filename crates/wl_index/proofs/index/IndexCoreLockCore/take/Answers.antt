@@ -1,7 +1,7 @@
 use Rattle.std.proofs.Common.{◌∙◌, sym, ap}
 use Rattle.wl_machine.specs.declared.command.Command.TheVariants as command
-use Rattle.wl_index.specs.Core.{IsCore}
-use Rattle.wl_index.specs.Locks.{Board}
+use Rattle.wl_index.specs.inner.Core.{IsCore}
+use Rattle.wl_index.specs.inner.Locks.{Board}
 use Rattle.std.specs.Prelude.{vec_capacity}
 use Rattle.wl_index.proofs.Cores.{begun_core, begun_gives, taken_core, untaken_none}
 use Rattle.wl_index.proofs.index.IndexCoreLockCore.take.Goals.{After-take}

@@ -4,9 +4,9 @@ use Rattle.wl_machine.specs.declared.command.Command.TheVariants as command
 use Rattle.wl_machine.specs.declared.command.Reply.TheVariants as reply
 use Rattle.wl_machine.specs.Refusals.{refusal}
 use Rattle.wl_index.specs.declared.request.Owner.TheVariants.{Agent}
-use Rattle.wl_index.specs.Core.{IsCore, machine_state}
-use Rattle.wl_index.specs.Locks.{Board}
-use Rattle.wl_index.specs.AgentRows.{AgentRows}
+use Rattle.wl_index.specs.inner.Core.{IsCore, machine_state}
+use Rattle.wl_index.specs.inner.Locks.{Board}
+use Rattle.wl_index.specs.inner.AgentRows.{AgentRows}
 use Rattle.wl_index.proofs.Cores.{begun_core, begun_gives, ended_core, gone}
 use Rattle.wl_index.proofs.Ended.{owned_processed, terminate_gives}
 use Rattle.wl_index.proofs.Tags.{grouped_gone, owners_own}

@@ -2,10 +2,10 @@ use Rattle.std.proofs.Common.{◌≡◌, ◌∙◌, ap, subst, sym, nat_cmp, Som
 use Rattle.std.specs.Option.{IsSome}
 use Rattle.std.specs.Map.{lookup}
 use Rattle.std.specs.BTreeMap.{is_at}
-use Rattle.wl_index.specs.Event.{Happened}
-use Rattle.wl_index.specs.Locks.{Board}
-use Rattle.wl_index.specs.NameQueue.{without}
-use Rattle.wl_index.specs.Queues.{names_of, place_of}
+use Rattle.wl_index.specs.inner.Event.{Happened}
+use Rattle.wl_index.specs.inner.Locks.{Board}
+use Rattle.wl_index.specs.inner.NameQueue.{without}
+use Rattle.wl_index.specs.inner.Queues.{names_of, place_of}
 use Rattle.wl_number_map.proofs.Keyed.{Found, found}
 use Rattle.wl_index.proofs.Boards.{board_as, ended_room}
 use Rattle.wl_index.proofs.Ends.{live_named, one_ended, without_keeps}

@@ -4,10 +4,10 @@ use Rattle.std.specs.List.{AllByRecursion}
 use Rattle.std.specs.Map.{lookup}
 use Rattle.std.specs.BTreeMap.{is_at}
 use Rattle.wl_index.specs.declared.request.Stage.TheVariants.{Pending}
-use Rattle.wl_index.specs.Event.{Happened}
-use Rattle.wl_index.specs.Locks.{request_for}
-use Rattle.wl_index.specs.Queues.{Placed, IsBelow, with_joined, place_of}
-use Rattle.wl_index.specs.Rows.{Entry, Rows, other, request_row, held_of, pending_of}
+use Rattle.wl_index.specs.inner.Event.{Happened}
+use Rattle.wl_index.specs.inner.Locks.{request_for}
+use Rattle.wl_index.specs.inner.Queues.{Placed, IsBelow, with_joined, place_of}
+use Rattle.wl_index.specs.inner.Rows.{Entry, Rows, other, request_row, held_of, pending_of}
 use Rattle.wl_index.proofs.Boards.{board_as, enqueued_room, below_joined}
 use Rattle.wl_index.proofs.Enqueuing.{last_gone, last_there, queues_below}
 use Rattle.wl_index.proofs.Rows.{held_more, live_count, pending_more}

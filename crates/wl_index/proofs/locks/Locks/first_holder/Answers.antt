@@ -4,8 +4,8 @@ use Rattle.std.specs.Option.{option_copied}
 use Rattle.wl_machine.specs.declared.rows.HeldRow.{HeldRow}
 use Rattle.wl_machine.specs.Grants.{locks}
 use Rattle.wl_machine.proofs.Lists.{map_twice}
-use Rattle.wl_index.specs.NameQueue.{Numbered, lock_and_mode}
-use Rattle.wl_index.specs.Rows.{held_of, pending_of}
+use Rattle.wl_index.specs.inner.NameQueue.{Numbered, lock_and_mode}
+use Rattle.wl_index.specs.inner.Rows.{held_of, pending_of}
 use Rattle.wl_index.proofs.Processing.{name_queue_of, no_name_queue}
 use Rattle.wl_index.proofs.locks.Locks.first_holder.Goals as goal
 

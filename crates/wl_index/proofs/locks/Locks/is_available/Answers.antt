@@ -1,8 +1,8 @@
 use Rattle.std.proofs.Common.{◌∙◌, ap, sym}
 use Rattle.std.specs.Prelude.{◌&&◌}
 use Rattle.wl_machine.specs.Grants.{is_empty, locks, queue}
-use Rattle.wl_index.specs.NameQueue.{admits}
-use Rattle.wl_index.specs.Rows.{held_of, pending_of}
+use Rattle.wl_index.specs.inner.NameQueue.{admits}
+use Rattle.wl_index.specs.inner.Rows.{held_of, pending_of}
 use Rattle.wl_index.proofs.Enqueuing.{available_at, available_new}
 use Rattle.wl_index.proofs.Processing.{name_queue_of, no_name_queue}
 use Rattle.wl_index.proofs.locks.Locks.is_available.Goals as goal

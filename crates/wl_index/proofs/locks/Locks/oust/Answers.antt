@@ -3,8 +3,8 @@ use Rattle.std.specs.Prelude.{filter}
 use Rattle.wl_types.specs.declared.phases.Phase.TheVariants.{Stolen}
 use Rattle.wl_machine.specs.Grants.{locks}
 use Rattle.wl_machine.specs.Step.{lock_ends}
-use Rattle.wl_index.specs.Locks.{Board, no_lock_on}
-use Rattle.wl_index.specs.Rows.{held_of, other}
+use Rattle.wl_index.specs.inner.Locks.{Board, no_lock_on}
+use Rattle.wl_index.specs.inner.Rows.{held_of, other}
 use Rattle.wl_number_map.proofs.Keyed.{found}
 use Rattle.wl_index.proofs.Ends.{one_fewer}
 use Rattle.wl_index.proofs.Thefts.{stealing, no_number, no_theft, theft_entries}

@@ -2,8 +2,8 @@ use Rattle.std.proofs.Common.{◌≡◌, ◌++◌, length, filter}
 use Rattle.wl_types.specs.declared.phases.Phase.TheVariants.{Stolen}
 use Rattle.wl_machine.specs.Grants.{locks}
 use Rattle.wl_machine.specs.Step.{lock_ends}
-use Rattle.wl_index.specs.Locks.{no_lock_on}
-use Rattle.wl_index.specs.Rows.{held_of}
+use Rattle.wl_index.specs.inner.Locks.{no_lock_on}
+use Rattle.wl_index.specs.inner.Rows.{held_of}
 use Rattle.wl_index.proofs.locks.Locks.oust.Given as goal
 
 -- the ends told, and those to come, are those of all the name's locks

@@ -1,9 +1,9 @@
 use Rattle.std.proofs.Common.{◌∙◌, ◌==◌, [], ℕ, List, ap, sym}
 use Rattle.std.specs.Prelude.{filter}
 use Rattle.wl_machine.specs.Grants.{Lists, in_use, lists_of, process_queues}
-use Rattle.wl_index.specs.Locks.{Stands, Underway}
-use Rattle.wl_index.specs.Queues.{names_of}
-use Rattle.wl_index.specs.Rows.{held_of, pending_of}
+use Rattle.wl_index.specs.inner.Locks.{Stands, Underway}
+use Rattle.wl_index.specs.inner.Queues.{names_of}
+use Rattle.wl_index.specs.inner.Rows.{held_of, pending_of}
 use Rattle.wl_index.proofs.Boards.{same_tags_ordered}
 use Rattle.wl_index.proofs.Processing.{Arrived, any_order, arrived, start}
 use Rattle.wl_index.proofs.locks.Locks.process.Goals.{After-sort, After-process_all}

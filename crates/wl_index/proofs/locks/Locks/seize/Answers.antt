@@ -1,11 +1,11 @@
 use Rattle.std.proofs.Common.{◌≡◌, ◌∙◌, [], ap, subst, sym, Some, arith}
 use Rattle.std.specs.Option.{IsSome}
-use Rattle.wl_index.specs.Event.{Happened}
-use Rattle.wl_index.specs.Locks.{Board, WaitsAlone}
+use Rattle.wl_index.specs.inner.Event.{Happened}
+use Rattle.wl_index.specs.inner.Locks.{Board, WaitsAlone}
 use Rattle.wl_machine.specs.Grants.{locks}
-use Rattle.wl_index.specs.NameQueue.{after_seize}
-use Rattle.wl_index.specs.Queues.{names_of, place_of}
-use Rattle.wl_index.specs.Rows.{held_of, pending_of, request_row}
+use Rattle.wl_index.specs.inner.NameQueue.{after_seize}
+use Rattle.wl_index.specs.inner.Queues.{names_of, place_of}
+use Rattle.wl_index.specs.inner.Rows.{held_of, pending_of, request_row}
 use Rattle.wl_number_map.proofs.Keyed.{found}
 use Rattle.wl_index.proofs.Boards.{same_tags_ordered, seized_room}
 use Rattle.wl_index.proofs.Ends.{Waiter, any_from, live_named, one_seized, seized_keeps, waiter}

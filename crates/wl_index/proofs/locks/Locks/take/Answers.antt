@@ -1,7 +1,7 @@
 use Rattle.std.proofs.Common.{◌∙◌, ap, length, arith}
 use Rattle.std.proofs.lemmas.List.{length-map}
 use Rattle.wl_machine.specs.Step.{with_taken}
-use Rattle.wl_index.specs.Rows.{held_of, pending_of}
+use Rattle.wl_index.specs.inner.Rows.{held_of, pending_of}
 use Rattle.wl_index.proofs.Boards.{same_tags_ordered}
 use Rattle.wl_index.proofs.Taken.{stands_taken}
 use Rattle.wl_index.proofs.locks.Locks.take.Goals as goal

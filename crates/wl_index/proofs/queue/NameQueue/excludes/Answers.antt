@@ -1,5 +1,5 @@
 use Rattle.std.proofs.Common.{◌∙◌}
-use Rattle.wl_index.specs.NameQueue.{waits_from}
+use Rattle.wl_index.specs.inner.NameQueue.{waits_from}
 use Rattle.wl_index.proofs.Shared.{excluded}
 use Rattle.wl_index.proofs.queue.NameQueue.excludes.Goals as goal
 

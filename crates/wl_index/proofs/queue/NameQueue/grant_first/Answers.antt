@@ -1,6 +1,6 @@
 use Rattle.std.proofs.Common.{◌≡◌, ◌∙◌, ◌∷◌, ◌++◌, [], List, true, ap, ap₂, sym, Some}
 use Rattle.std.specs.Prelude.{slice_get}
-use Rattle.wl_index.specs.NameQueue.{Numbered, Waiting, admits, after_grant, head_number, holders_of, live_after, waits_from}
+use Rattle.wl_index.specs.inner.NameQueue.{Numbered, Waiting, admits, after_grant, head_number, holders_of, live_after, waits_from}
 use Rattle.wl_index.proofs.Shared.{Begins, Stepped, begun, exclusive_grant, granted, name_queue_now, shared_grant, tail_left}
 use Rattle.wl_index.proofs.queue.NameQueue.grant_first.Goals.{After-exclusive, After-pop_first, Else-exclusive}
 use Rattle.wl_index.proofs.queue.NameQueue.grant_first.Goals as goal

@@ -2,7 +2,7 @@ use Rattle.std.proofs.Common.{rules, ◌≡◌, ◌∙◌, Bool, true, ap, sym, 
 use Rattle.std.specs.Prelude.{◌&&◌, not, is_some}
 use Rattle.std.specs.Option.{option_eq}
 use Rattle.wl_machine.specs.Grants.{is_empty}
-use Rattle.wl_index.specs.NameQueue.{Waiting, head_number, waits_from}
+use Rattle.wl_index.specs.inner.NameQueue.{Waiting, head_number, waits_from}
 use Rattle.wl_index.proofs.Shared.{is_free}
 use Rattle.wl_index.proofs.queue.NameQueue.is_free.Goals as goal
 

@@ -1,6 +1,6 @@
 use Rattle.std.proofs.Common.{◌<◌, ap₂, subst, sym}
 use Rattle.std.specs.List.{AllByRecursion}
-use Rattle.wl_index.specs.NameQueue.{Numbered, Waiting, holders_of, waits_from}
+use Rattle.wl_index.specs.inner.NameQueue.{Numbered, Waiting, holders_of, waits_from}
 use Rattle.wl_index.proofs.Shared.{name_queue_now, pushed}
 use Rattle.wl_index.proofs.queue.NameQueue.push.Goals as goal
 

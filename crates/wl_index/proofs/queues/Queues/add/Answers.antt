@@ -8,8 +8,8 @@ use Rattle.std.specs.Map.{keys_of, remove_entry}
 use Rattle.std.specs.BTreeMap.{is_at}
 use Rattle.std.proofs.lemmas.Map.Text.{hash_map_updates_text}
 use Rattle.wl_number_map.proofs.Keyed.{entry_last, undone}
-use Rattle.wl_index.specs.NameQueue.{Waiting}
-use Rattle.wl_index.specs.Queues.{IsNames, Placed, place_of}
+use Rattle.wl_index.specs.inner.NameQueue.{Waiting}
+use Rattle.wl_index.specs.inner.Queues.{IsNames, Placed, place_of}
 use Rattle.wl_index.proofs.InUse.{is_more}
 use Rattle.wl_index.proofs.queues.Queues.add.Goals.{In_ok-insert, In-Ok-insert, Joined-remove}
 use Rattle.wl_index.proofs.queues.Queues.add.Goals as goal

@@ -1,6 +1,6 @@
 use Rattle.std.proofs.Common.{◌∙◌, ap, sym}
 use Rattle.std.specs.Option.{option_copied}
-use Rattle.wl_index.specs.Queues.{at_place}
+use Rattle.wl_index.specs.inner.Queues.{at_place}
 use Rattle.wl_index.proofs.InUse.{no_queue, queue_there}
 use Rattle.wl_index.proofs.queues.Queues.get.Goals as goal
 

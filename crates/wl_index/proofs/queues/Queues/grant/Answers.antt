@@ -4,8 +4,8 @@ use Rattle.std.specs.HashMap.{get_by_text}
 use Rattle.std.specs.Map.{set_value}
 use Rattle.std.specs.BTreeMap.{is_at}
 use Rattle.wl_number_map.proofs.Keyed.{set_same}
-use Rattle.wl_index.specs.NameQueue.{after_grant}
-use Rattle.wl_index.specs.Queues.{at_place, with_updated}
+use Rattle.wl_index.specs.inner.NameQueue.{after_grant}
+use Rattle.wl_index.specs.inner.Queues.{at_place, with_updated}
 use Rattle.wl_index.proofs.InUse.{are_updated, grant_keeps, if_none, if_some, is_updated, none_grants, set_updated}
 use Rattle.wl_index.proofs.queues.Queues.grant.Goals.{After-grant_first}
 use Rattle.wl_index.proofs.queues.Queues.grant.Goals as goal

@@ -2,8 +2,8 @@ use Rattle.std.proofs.Common.{◌≡◌, ◌∙◌, ap, refl, sym, Some, None}
 use Rattle.std.specs.HashMap.{get_by_text}
 use Rattle.wl_machine.proofs.Lists.{same_bytes}
 use Rattle.std.proofs.Common.{◌∷◌, [], cond}
-use Rattle.wl_index.specs.NameQueue.{Waiting, with_one_more}
-use Rattle.wl_index.specs.Queues.{place_of}
+use Rattle.wl_index.specs.inner.NameQueue.{Waiting, with_one_more}
+use Rattle.wl_index.specs.inner.Queues.{place_of}
 use Rattle.wl_index.proofs.InUse.{are_updated, is_updated, place_last, place_updated}
 use Rattle.wl_index.proofs.queues.Queues.push.Goals as goal
 

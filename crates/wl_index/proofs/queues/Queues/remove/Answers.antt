@@ -3,8 +3,8 @@ use Rattle.std.specs.Option.{option_copied_mut}
 use Rattle.std.specs.HashMap.{get_by_text}
 use Rattle.std.specs.Map.{set_value}
 use Rattle.std.specs.BTreeMap.{is_at}
-use Rattle.wl_index.specs.NameQueue.{without}
-use Rattle.wl_index.specs.Queues.{at_place, with_updated}
+use Rattle.wl_index.specs.inner.NameQueue.{without}
+use Rattle.wl_index.specs.inner.Queues.{at_place, with_updated}
 use Rattle.wl_index.proofs.InUse.{are_updated, is_updated, none_updated, set_updated}
 use Rattle.wl_index.proofs.queues.Queues.remove.Goals.{After-remove}
 use Rattle.wl_index.proofs.queues.Queues.remove.Goals as goal

@@ -7,8 +7,8 @@ use Rattle.std.specs.List.Sorted.{IsStrictlySortedBy}
 use Rattle.std.specs.Map.{keys_of}
 use Rattle.std.proofs.lemmas.Map.Text.{hash_map_updates_text}
 use Rattle.wl_number_map.proofs.Keyed.{removed_at}
-use Rattle.wl_index.specs.NameQueue.{Waiting, is_busy}
-use Rattle.wl_index.specs.Queues.{IsNames, Placed, at_place}
+use Rattle.wl_index.specs.inner.NameQueue.{Waiting, is_busy}
+use Rattle.wl_index.specs.inner.Queues.{IsNames, Placed, at_place}
 use Rattle.wl_index.proofs.InUse.{idle_leaves, is_less, none_leaves, stays_busy}
 use Rattle.wl_index.proofs.queues.Queues.retire.Goals.{After-swap_remove}
 use Rattle.wl_index.proofs.queues.Queues.retire.Goals as goal

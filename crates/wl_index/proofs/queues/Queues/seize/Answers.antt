@@ -5,8 +5,8 @@ use Rattle.std.specs.Map.{set_value}
 use Rattle.std.specs.BTreeMap.{is_at}
 use Rattle.std.specs.Option.{IfSome}
 use Rattle.wl_types.specs.declared.words.Mode.TheVariants.{Exclusive}
-use Rattle.wl_index.specs.NameQueue.{Waiting, other_than, after_seize}
-use Rattle.wl_index.specs.Queues.{at_place, with_updated}
+use Rattle.wl_index.specs.inner.NameQueue.{Waiting, other_than, after_seize}
+use Rattle.wl_index.specs.inner.Queues.{at_place, with_updated}
 use Rattle.wl_index.proofs.InUse.{are_updated, is_updated, none_updated, set_updated}
 use Rattle.wl_index.proofs.queues.Queues.seize.Goals.{After-remove, After-seize}
 use Rattle.wl_index.proofs.queues.Queues.seize.Goals as goal

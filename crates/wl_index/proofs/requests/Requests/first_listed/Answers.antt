@@ -1,7 +1,7 @@
 use Rattle.std.proofs.Common.{◌≡◌, ◌+◌, ◌∷◌, ℕ, false, refl, sym, ap, ◌∙◌, drop, get_or}
 use Rattle.std.specs.Prelude.{is_some}
 use Rattle.std.specs.List.{find}
-use Rattle.wl_index.specs.Untaken.{finds_untaken}
+use Rattle.wl_index.specs.inner.Untaken.{finds_untaken}
 use Rattle.wl_index.proofs.Turns.{rest_next}
 use Rattle.wl_index.proofs.requests.Requests.first_listed.Goals as goal
 

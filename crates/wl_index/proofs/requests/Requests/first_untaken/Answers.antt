@@ -2,13 +2,13 @@ use Rattle.std.proofs.Common.{◌≡◌, ◌∙◌, ◌+◌, ◌++◌, ◌∷◌
 use Rattle.std.specs.List.Sorted.{IsStrictlySortedBy}
 use Rattle.std.specs.Map.{keys_of}
 use Rattle.std.specs.Ordering.{nat_cmp}
-use Rattle.wl_index.specs.Rows.{Rows}
+use Rattle.wl_index.specs.inner.Rows.{Rows}
 use Rattle.std.specs.Option.{option_to_list}
 use Rattle.std.proofs.lemmas.List.{drop_all}
 use Rattle.wl_index.specs.declared.request.Standing.TheVariants.{Holds}
 use Rattle.wl_index.specs.declared.request.Place.{Place}
-use Rattle.wl_index.specs.Ends.{ends_entry}
-use Rattle.wl_index.specs.Order.{from_grant_seq, first_of}
+use Rattle.wl_index.specs.inner.Ends.{ends_entry}
+use Rattle.wl_index.specs.inner.Order.{from_grant_seq, first_of}
 use Rattle.wl_index.proofs.Picks.{picked}
 use Rattle.wl_index.proofs.Turns.{rest_next}
 use Rattle.wl_index.proofs.Untaken.{all_offered, offered}

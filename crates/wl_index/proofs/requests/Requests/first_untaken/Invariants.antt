@@ -1,8 +1,8 @@
 use Rattle.std.proofs.Common.{◌≡◌, ◌++◌, drop}
 use Rattle.std.specs.Option.{option_to_list}
 use Rattle.wl_index.specs.declared.request.Standing.TheVariants.{Holds}
-use Rattle.wl_index.specs.Ends.{ends_entry, untaken_places}
-use Rattle.wl_index.specs.Order.{from_grant_seq, first_of}
+use Rattle.wl_index.specs.inner.Ends.{ends_entry, untaken_places}
+use Rattle.wl_index.specs.inner.Order.{from_grant_seq, first_of}
 use Rattle.wl_index.proofs.Picks.{picked}
 use Rattle.wl_index.proofs.requests.Requests.first_untaken.Given as goal
 

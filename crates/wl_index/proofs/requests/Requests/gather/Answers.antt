@@ -2,11 +2,11 @@ use Rattle.std.proofs.Common.{◌≡◌, ℕ, List, ◌+◌, ◌++◌, ◌∷◌
 use Rattle.std.specs.List.Sorted.{IsStrictlySortedBy}
 use Rattle.std.specs.Map.{keys_of}
 use Rattle.std.specs.Ordering.{nat_cmp}
-use Rattle.wl_index.specs.Rows.{Rows}
+use Rattle.wl_index.specs.inner.Rows.{Rows}
 use Rattle.std.specs.Option.{option_to_list}
 use Rattle.std.proofs.lemmas.List.{drop_all, length-append}
-use Rattle.wl_index.specs.Ends.{ends_entry}
-use Rattle.wl_index.specs.Order.{place_of}
+use Rattle.wl_index.specs.inner.Ends.{ends_entry}
+use Rattle.wl_index.specs.inner.Order.{place_of}
 use Rattle.wl_index.proofs.Picks.{pick, picked, all_picked, ends_fewer}
 use Rattle.wl_index.proofs.Turns.{rest_next}
 use Rattle.wl_index.proofs.requests.Requests.gather.Goals.{After-ending_place}

@@ -1,6 +1,6 @@
 use Rattle.std.proofs.Common.{◌≡◌, ◌≤◌, ◌++◌, vec_capacity, map, filter, drop}
-use Rattle.wl_index.specs.Ends.{ends_entry}
-use Rattle.wl_index.specs.Order.{place_of}
+use Rattle.wl_index.specs.inner.Ends.{ends_entry}
+use Rattle.wl_index.specs.inner.Order.{place_of}
 use Rattle.wl_index.proofs.Picks.{picked}
 use Rattle.wl_index.proofs.requests.Requests.gather.Given as goal
 

@@ -3,7 +3,7 @@ use Rattle.std.specs.Option.{option_copied_mut}
 use Rattle.std.specs.List.{list_any}
 use Rattle.std.specs.Map.{lookup, set_value}
 use Rattle.std.specs.BTreeMap.{is_at}
-use Rattle.wl_index.specs.Rows.{pending_of, tags_of}
+use Rattle.wl_index.specs.inner.Rows.{pending_of, tags_of}
 use Rattle.wl_index.proofs.Rows.{is_request, pending_there, pending_apart, tags_set}
 use Rattle.wl_index.proofs.Grants.{Granted, granted_now, granted_meets, copied_some}
 use Rattle.wl_index.proofs.requests.Requests.grant.Goals.{After-unwrap-request}

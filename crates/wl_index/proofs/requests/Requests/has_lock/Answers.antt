@@ -1,7 +1,7 @@
 use Rattle.std.proofs.Common.{◌≡◌, ◌∙◌, sym, ap, true}
 use Rattle.std.specs.List.{list_any}
 use Rattle.wl_machine.specs.Step.{is_lock_of}
-use Rattle.wl_index.specs.Rows.{held_of}
+use Rattle.wl_index.specs.inner.Rows.{held_of}
 use Rattle.wl_index.proofs.Releases.{lock_there, lock_at, lock_is}
 use Rattle.wl_index.proofs.requests.Requests.has_lock.Goals as goal
 

@@ -2,13 +2,13 @@ use Rattle.std.proofs.Common.{rules, ◌≡◌, ◌-◌, ◌∙◌, arith, ap, s
 use Rattle.std.specs.List.Sorted.{IsStrictlySortedBy}
 use Rattle.std.specs.Map.{keys_of}
 use Rattle.std.specs.Ordering.{nat_cmp}
-use Rattle.wl_index.specs.Rows.{Rows}
+use Rattle.wl_index.specs.inner.Rows.{Rows}
 use Rattle.std.specs.List.{find}
 use Rattle.std.proofs.lemmas.List.{take_all, length-drop}
 use Rattle.std.proofs.lemmas.List.Sorted.{IsPartitionPoint-from_clause, IsPartitionedBy-leb}
 use Rattle.std.proofs.lemmas.Map.Keys.{non_decreasing_from_sorted}
 use Rattle.wl_machine.specs.Least.{IsLeast, above}
-use Rattle.wl_index.specs.Untaken.{finds_untaken}
+use Rattle.wl_index.specs.inner.Untaken.{finds_untaken}
 use Rattle.wl_index.proofs.Above.{least_behind, untaken}
 use Rattle.wl_index.proofs.requests.Requests.least_untaken.Goals as goal
 

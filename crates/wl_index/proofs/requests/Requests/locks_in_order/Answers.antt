@@ -1,8 +1,8 @@
 use Rattle.std.proofs.Common.{◌≡◌, ℕ, List, ap, ◌∙◌, subst, map, filter, IfOk}
 use Rattle.wl_machine.specs.declared.rows.HeldRow.{HeldRow}
 use Rattle.wl_index.specs.declared.request.Place.{Place}
-use Rattle.wl_index.specs.GrantOrder.{by_grant_seq}
-use Rattle.wl_index.specs.Rows.{held_of, holding}
+use Rattle.wl_index.specs.inner.GrantOrder.{by_grant_seq}
+use Rattle.wl_index.specs.inner.Rows.{held_of, holding}
 use Rattle.wl_index.proofs.Places.{places_distinct, numbers_in_order}
 use Rattle.wl_index.proofs.requests.Requests.locks_in_order.Goals as goal
 

@@ -1,8 +1,8 @@
 use Rattle.std.proofs.Common.{Some, ◌≡◌, ◌∙◌, subst, sym, ◌-◌, arith}
 use Rattle.std.specs.Prelude.{filter}
-use Rattle.wl_index.specs.Order.{first_of}
-use Rattle.wl_index.specs.GrantOrder.{Distinct}
-use Rattle.wl_index.specs.Rows.{Rows, holding, grant_seq_of}
+use Rattle.wl_index.specs.inner.Order.{first_of}
+use Rattle.wl_index.specs.inner.GrantOrder.{Distinct}
+use Rattle.wl_index.specs.inner.Rows.{Rows, holding, grant_seq_of}
 use Rattle.wl_index.proofs.Untaken.{none_passed, one_passed, all_passed, offers, reached, first_below}
 use Rattle.wl_index.proofs.requests.Requests.nth_untaken.Goals as goal
 

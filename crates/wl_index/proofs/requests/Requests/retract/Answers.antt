@@ -2,7 +2,7 @@ use Rattle.std.proofs.Common.{◌≡◌, ◌∙◌, ap, subst, nat_cmp, Some, re
 use Rattle.std.specs.List.Sorted.{IsStrictlySortedBy}
 use Rattle.std.specs.Map.{keys_of, lookup}
 use Rattle.std.specs.BTreeMap.{is_at}
-use Rattle.wl_index.specs.Rows.{Rows}
+use Rattle.wl_index.specs.inner.Rows.{Rows}
 use Rattle.wl_index.proofs.Rows.{removed}
 use Rattle.wl_index.proofs.Tables.{retracted}
 use Rattle.wl_index.proofs.requests.Requests.retract.Goals as goal

@@ -1,7 +1,7 @@
 use Rattle.std.proofs.Common.{◌≡◌, ◌∙◌, sym, ap, nat_cmp, map}
 use Rattle.std.specs.Map.{set_value}
 use Rattle.std.specs.BTreeMap.{is_at}
-use Rattle.wl_index.specs.Rows.{held_of}
+use Rattle.wl_index.specs.inner.Rows.{held_of}
 use Rattle.wl_index.proofs.Marks.{mark, marks, marks_none, held_marked, pending_marked, marked_table, untaken, fresh_at, tags_marked}
 use Rattle.wl_index.proofs.requests.Requests.take.Goals.{After-mark_taken}
 use Rattle.wl_index.proofs.requests.Requests.take.Goals as goal

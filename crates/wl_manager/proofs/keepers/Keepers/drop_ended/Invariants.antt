@@ -1,6 +1,7 @@
 use Rattle.std.proofs.Common.{◌≡◌, ◌≤◌, ◌-◌, length, take, ℕ, cond}
 use Rattle.std.specs.Prelude.{None}
-use Rattle.wl_manager.specs.Keepers.{seat_at, ends_request}
+use Rattle.wl_manager.specs.Keepers.{seat_at}
+use Rattle.wl_manager.specs.inner.Keepers.{ends_request}
 use Rattle.wl_manager.proofs.keepers.Keepers.drop_ended.Given as goal
 
 abbrev pub invariant-loop-i : goal.invariant-loop-i

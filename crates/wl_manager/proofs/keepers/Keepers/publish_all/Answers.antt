@@ -3,7 +3,8 @@ use Rattle.std.specs.Prelude.{slice_index_or}
 use Rattle.wl_types.specs.declared.phases.Phase.{Phase}
 use Rattle.wl_types.specs.declared.phases.Phase.TheVariants.{Pending}
 use Rattle.wl_types.specs.declared.phases.Change.{Change}
-use Rattle.wl_manager.specs.Keepers.{MayPublish, after, phases_at}
+use Rattle.wl_manager.specs.Keepers.{phases_at}
+use Rattle.wl_manager.specs.inner.Keepers.{MayPublish, after}
 use Rattle.wl_manager.proofs.Publishing.{only_change, one_more_change}
 use Rattle.wl_manager.proofs.keepers.Keepers.publish_all.Goals as goal
 

@@ -1,6 +1,7 @@
 use Rattle.std.proofs.Common.{◌≡◌, ◌≤◌, ◌-◌, length, take, ℕ}
 use Rattle.wl_machine.specs.Laws.{phases_of}
-use Rattle.wl_manager.specs.Keepers.{phases_at, cells_at, after}
+use Rattle.wl_manager.specs.Keepers.{phases_at, cells_at}
+use Rattle.wl_manager.specs.inner.Keepers.{after}
 use Rattle.wl_manager.proofs.keepers.Keepers.publish_all.Given as goal
 
 abbrev pub invariant-loop-i : goal.invariant-loop-i

@@ -4,7 +4,7 @@ use Rattle.std.specs.Map.{lookup}
 use Rattle.std.proofs.lemmas.Bool.Decides.{nat_tests}
 use Rattle.std.proofs.lemmas.List.{take_all}
 use Rattle.std.proofs.lemmas.Map.{NonePasses, lookup-none}
-use Rattle.wl_number_map.specs.Entries.{IsFirst}
+use Rattle.wl_number_map.specs.inner.Entries.{IsFirst}
 use Rattle.wl_number_map.proofs.First.{first_at}
 use Rattle.wl_number_map.proofs.few.Few.place.Goals as goal
 

@@ -1,6 +1,6 @@
 use Rattle.std.proofs.Common.{ℕ, Bool, ◌==◌, ◌≡◌, ◌≤◌, ◌∙◌, length, arith}
 use Rattle.std.specs.Map.{remove_entry}
-use Rattle.wl_number_map.specs.Entries.{IsFirst}
+use Rattle.wl_number_map.specs.inner.Entries.{IsFirst}
 use Rattle.wl_number_map.proofs.Put.{put_none, put_out}
 use Rattle.wl_number_map.proofs.First.{distinct_removed, first_removed, fewer}
 use Rattle.wl_number_map.proofs.few.Few.remove.Given.{Over}

@@ -1,7 +1,7 @@
 use Rattle.std.proofs.Common.{◌==◌, ◌∙◌, sym, ap}
 use Rattle.std.specs.Prelude.{IsSome, is_some}
 use Rattle.std.specs.Map.{lookup, set_value}
-use Rattle.wl_number_map.specs.Entries.{held_entries}
+use Rattle.wl_number_map.specs.inner.Entries.{held_entries}
 use Rattle.wl_number_map.proofs.Put.{put_over}
 use Rattle.wl_number_map.proofs.store.Store.insert.Goals as goal
 

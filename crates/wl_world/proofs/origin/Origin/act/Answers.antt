@@ -1,5 +1,5 @@
 use Rattle.wl_world.specs.Origins.{act}
-use Rattle.wl_world.specs.Views.{core, fresh, origin}
+use Rattle.wl_world.specs.inner.Views.{core, fresh, origin}
 use Rattle.wl_world.proofs.Counted.{acted_in_order}
 use Rattle.wl_world.proofs.Operations.{done_is, refusal_is}
 use Rattle.wl_world.proofs.origin.Origin.act.Goals as goal

@@ -1,8 +1,9 @@
 use Rattle.std.proofs.Common.{arith, sym, subst}
 use Rattle.std.proofs.lemmas.Grind.{common_steps}
 use Rattle.wl_session.specs.LastReported.{IsByNumber}
-use Rattle.wl_world.specs.Requests.{IsRising, changed_requests}
-use Rattle.wl_world.specs.Views.{core}
+use Rattle.wl_world.specs.Requests.{changed_requests}
+use Rattle.wl_world.specs.inner.Requests.{IsRising}
+use Rattle.wl_world.specs.inner.Views.{core}
 use Rattle.wl_world.proofs.Counted.{collect_in_order}
 use Rattle.wl_world.proofs.Rising.{changed_rising, taken_rising}
 use Rattle.wl_world.proofs.origin.Origin.collect.Goals as goal

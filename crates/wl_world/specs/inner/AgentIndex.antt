@@ -12,7 +12,8 @@ use Rattle.wl_codec.specs.declared.reply.Outcome.TheVariants as outcome
 use Rattle.wl_session.specs.LastReported.{RequestPhase}
 use Rattle.wl_world.specs.declared.requests.Request.{Request}
 use Rattle.wl_world.specs.declared.agent_index.AgentRequests.{AgentRequests}
-use Rattle.wl_world.specs.Requests.{IsRising, has_ended, observation_of, without_change}
+use Rattle.wl_world.specs.Requests.{has_ended, observation_of, without_change}
+use Rattle.wl_world.specs.inner.Requests.{IsRising}
 
 -- what stands at a number, or at an agent
 abbrev pub found : {X : Type 0} → ℕ → List (ℕ × X) → Option X

@@ -17,8 +17,8 @@ use Rattle.wl_index.specs.declared.request.Standing.{Standing}
 use Rattle.wl_index.specs.declared.request.Standing.TheVariants.{Waits, Holds}
 use Rattle.wl_index.specs.declared.request.Place.{Place}
 use Rattle.wl_index.specs.declared.request.Request.{Request}
-use Rattle.wl_index.specs.Rows.{Entry, waiting, holding, request_row, lock_row, other}
-use Rattle.wl_index.specs.Order.{place_of}
+use Rattle.wl_index.specs.inner.Rows.{Entry, waiting, holding, request_row, lock_row, other}
+use Rattle.wl_index.specs.inner.Order.{place_of}
 
 -- the requests that end with their owner
 abbrev pub ends_request : Owner → PendingRow → Bool

@@ -13,10 +13,10 @@ use Rattle.wl_machine.specs.declared.rows.PendingRow.{PendingRow}
 use Rattle.wl_machine.specs.Grants.{Lists, grants, in_use, locks, queue, process_queues}
 use Rattle.wl_index.specs.declared.request.Request.{Request}
 use Rattle.wl_index.specs.declared.request.Stage.TheVariants.{Pending}
-use Rattle.wl_index.specs.Event.{Happened}
-use Rattle.wl_index.specs.NameQueue.{Matches}
-use Rattle.wl_index.specs.Queues.{AreQueues, Placed, names_of, place_of}
-use Rattle.wl_index.specs.Rows.{Entry, Rows, holding, held_of, pending_of}
+use Rattle.wl_index.specs.inner.Event.{Happened}
+use Rattle.wl_index.specs.inner.NameQueue.{Matches}
+use Rattle.wl_index.specs.inner.Queues.{AreQueues, Placed, names_of, place_of}
+use Rattle.wl_index.specs.inner.Rows.{Entry, Rows, holding, held_of, pending_of}
 
 -- the live requests, the next number, the names in use and the changes
 pub record Board : Type 0 where

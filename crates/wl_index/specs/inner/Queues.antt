@@ -7,7 +7,7 @@ use Rattle.std.specs.Map.{keys_of, lookup}
 use Rattle.std.specs.BTreeMap.{is_at}
 use Rattle.std.specs.Ordering.{nat_cmp}
 use Rattle.wl_types.specs.declared.words.Mode.{Mode}
-use Rattle.wl_index.specs.NameQueue.{Waiting, is_busy, next_grant, with_one_more}
+use Rattle.wl_index.specs.inner.NameQueue.{Waiting, is_busy, next_grant, with_one_more}
 
 -- a queue and its place
 abbrev pub Placed : Type 0

@@ -5,8 +5,8 @@ use Rattle.std.specs.BTreeMap.{is_at}
 use Rattle.std.specs.Ordering.{nat_cmp}
 use Rattle.wl_index.specs.declared.request.Owner.{Owner}
 use Rattle.wl_index.specs.declared.request.Standing.TheVariants.{Holds}
-use Rattle.wl_index.specs.Rows.{Entry}
-use Rattle.wl_index.specs.Ends.{ends_entry, place_if}
+use Rattle.wl_index.specs.inner.Rows.{Entry}
+use Rattle.wl_index.specs.inner.Ends.{ends_entry, place_if}
 
 -- whether the number finds such a lock
 abbrev pub finds_untaken : Owner → List Entry → ℕ → Bool

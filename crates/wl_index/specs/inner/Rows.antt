@@ -11,7 +11,7 @@ use Rattle.wl_machine.specs.declared.rows.PendingRow.{PendingRow}
 use Rattle.wl_index.specs.declared.request.Request.{Request}
 use Rattle.wl_index.specs.declared.request.Stage.{Stage}
 use Rattle.wl_index.specs.declared.request.Stage.TheVariants.{Pending, Held}
-use Rattle.wl_index.specs.GrantOrder.{by_grant_seq, Distinct}
+use Rattle.wl_index.specs.inner.GrantOrder.{by_grant_seq, Distinct}
 
 -- a live request with its number
 abbrev pub Entry : Type 0

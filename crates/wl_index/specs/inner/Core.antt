@@ -1,10 +1,10 @@
 -- What an indexed core is, and what it keeps (own).
 use Rattle.std.specs.Prelude.{ℕ, ◌≤◌, length}
 use Rattle.wl_machine.specs.State.{State}
-use Rattle.wl_index.specs.Lists.{IsGrouped}
-use Rattle.wl_index.specs.Locks.{Board, IsQuiet}
-use Rattle.wl_index.specs.AgentRows.{Register, AgentRows}
-use Rattle.wl_index.specs.Rows.{held_of, pending_of, tags_of}
+use Rattle.wl_index.specs.inner.Lists.{IsGrouped}
+use Rattle.wl_index.specs.inner.Locks.{Board, IsQuiet}
+use Rattle.wl_index.specs.inner.AgentRows.{Register, AgentRows}
+use Rattle.wl_index.specs.inner.Rows.{held_of, pending_of, tags_of}
 
 -- the machine's state
 abbrev pub machine_state : AgentRows → Board → State

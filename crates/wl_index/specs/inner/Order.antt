@@ -1,8 +1,8 @@
 -- The order of grants (own).
 use Rattle.std.specs.Prelude.{ℕ, Option, List, map, filter, nat_le, slice_get}
 use Rattle.wl_index.specs.declared.request.Place.{Place}
-use Rattle.wl_index.specs.GrantOrder.{by_grant_seq}
-use Rattle.wl_index.specs.Rows.{Entry, holding, grant_seq_of}
+use Rattle.wl_index.specs.inner.GrantOrder.{by_grant_seq}
+use Rattle.wl_index.specs.inner.Rows.{Entry, holding, grant_seq_of}
 
 -- a lock's grant sequence and number
 abbrev pub place_of : Entry → Place

@@ -9,7 +9,7 @@ use Rattle.std.specs.declared.vec.Vec.{Vec}
 use Rattle.wl_index.specs.declared.agents.Agent.{Agent}
 use Rattle.wl_index.specs.declared.request.Owner.{Owner}
 use Rattle.wl_index.specs.declared.request.Owner.TheVariants as owner
-use Rattle.wl_index.specs.Rows.{Entry, Tag}
+use Rattle.wl_index.specs.inner.Rows.{Entry, Tag}
 
 -- what stands at a number
 abbrev pub at : {X : Type 0} → ℕ → List (ℕ × X) → Option X

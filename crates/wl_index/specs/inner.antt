@@ -1,0 +1,12 @@
+pub mod GrantOrder
+pub mod Rows
+pub mod Order
+pub mod NameQueue
+pub mod Queues
+pub mod Event
+pub mod Locks
+pub mod Lists
+pub mod AgentRows
+pub mod Ends
+pub mod Core
+pub mod Untaken

@@ -1,0 +1,3 @@
+pub mod LastReported
+pub mod Places
+pub mod Upkeep

@@ -1,0 +1,4 @@
+pub mod Requests
+pub mod AgentIndex
+pub mod Views
+pub mod Worlds
