@@ -51,8 +51,8 @@ where
         Ok(Job::Run) => run(rt),
         Ok(Job::Audit) => audit(rt),
         Ok(Job::Timeline) => timeline(rt),
-        Ok(Job::Serve { port, clients }) => done(rt, serve(rt, port, u64::from(clients))),
-        Ok(Job::Client { port }) => done(rt, client(rt, port)),
+        Ok(Job::Serve { port, clients }) => finish(rt, serve(rt, port, u64::from(clients))),
+        Ok(Job::Client { port }) => finish(rt, client(rt, port)),
         Ok(Job::Daemon(options)) => daemon(rt, &options),
         Err(UsageFault::Usage(error)) => answer_usage(rt, &error),
         Err(UsageFault::Memory) => fail(rt, "out of memory"),
@@ -60,7 +60,7 @@ where
 }
 
 /// The status of a job on the network, and its fault's line.
-fn done<R: Eprint>(rt: &R, ended: Result<(), NetFault>) -> ExitCode {
+fn finish<R: Eprint>(rt: &R, ended: Result<(), NetFault>) -> ExitCode {
     match ended {
         Ok(()) => ExitCode::SUCCESS,
         Err(fault) => fail(rt, fault),

@@ -13,7 +13,7 @@ use Rattle.wl_machine.specs.declared.command.Reply.{Reply}
 use Rattle.wl_machine.specs.State.{State, opening}
 use Rattle.wl_machine.specs.Step.{step}
 use Rattle.wl_core.specs.Answers.{is_memory, step_result}
-use Rattle.wl_core.specs.Realm.{at_key, with_at, all_ones, realm_of, stepped}
+use Rattle.wl_core.specs.Realm.{at_key, with_at, all_ones, realm_of, realm_step}
 
 lookup_same : {K X : Type 0} (p q : K → Bool) → ((k : K) → p k ≡ q k) → (es : List (K × X)) → lookup p es ≡ lookup q es
 lookup_same p q same [] = refl
@@ -41,18 +41,18 @@ stood : {K C : Type 0} (cmp : K → K → Ordering) → IsTotalOrder cmp → (st
 stood cmp total state cores key other old there same = ap (λ o. option_map_or state o (opening all_ones)) (sym (equal_keys cmp total key other same cores) ∙ there)
 
 stepped_at : {K : Type 0} (cmp : K → K → Ordering) (realm : K → State) (key other : K) (command : Command) (here : Bool) → is_at (cmp key) other ≡ here
-    → stepped cmp realm key command other ≡ (if here then (step (realm other) command).state else realm other)
+    → realm_step cmp realm key command other ≡ (if here then (step (realm other) command).state else realm other)
 stepped_at cmp realm key other command here is = ap (λ b. if b then (step (realm other) command).state else realm other) is
 
 -- what a command of the core at a key does to the realm
 pub applied : {K C : Type 0} (cmp : K → K → Ordering) → IsTotalOrder cmp → (state : C → State) (cores after : List (K × C)) (key : K) (old new : C) (command : Command) (reply : Reply)
     → at_key cmp cores key ≡ Some old → after ≡ with_at cmp cores key new → state new ≡ (step_result reply (state old) command).state
-    → realm_of cmp state after ≡ (if is_memory reply then realm_of cmp state cores else stepped cmp (realm_of cmp state cores) key command)
+    → realm_of cmp state after ≡ (if is_memory reply then realm_of cmp state cores else realm_step cmp (realm_of cmp state cores) key command)
 applied cmp total state cores after key old new command reply there written done =
     fun_ext (λ other. ap (λ r. realm_of cmp state r other) written ∙ replaced cmp total state cores key old new there other ∙ by_key other (is_at (cmp key) other) refl (is_memory reply) refl)
   where
     by_key : (other : _) (here : Bool) → is_at (cmp key) other ≡ here → (memory : Bool) → is_memory reply ≡ memory
-        → (if is_at (cmp key) other then state new else realm_of cmp state cores other) ≡ (if is_memory reply then realm_of cmp state cores else stepped cmp (realm_of cmp state cores) key command) other
+        → (if is_at (cmp key) other then state new else realm_of cmp state cores other) ≡ (if is_memory reply then realm_of cmp state cores else realm_step cmp (realm_of cmp state cores) key command) other
     by_key other true here true memory = rw (here, memory) ((rw memory at done) ∙ sym (stood cmp total state cores key other old there here))
     by_key other true here false memory = rw (here, memory) ((rw memory at done) ∙ ap (λ s. (step s command).state) (sym (stood cmp total state cores key other old there here)) ∙ sym (stepped_at cmp (realm_of cmp state cores) key other command true here))
     by_key other false here true memory = rw (here, memory) refl

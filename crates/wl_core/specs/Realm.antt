@@ -26,11 +26,11 @@ realm_of cmp state cores key = option_map_or state (at_key cmp cores key) (openi
 
 -- a command with a key steps that key's state
 abbrev pub stepped : {K : Type 0} → (K → K → Ordering) → (K → State) → K → Command → K → State
-stepped cmp realm key command other = if is_at (cmp key) other then (step (realm other) command).state else realm other
+realm_step cmp realm key command other = if is_at (cmp key) other then (step (realm other) command).state else realm other
 
 abbrev pub realm_after : {K : Type 0} → (K → K → Ordering) → List (K × Command) → (K → State) → K → State
 realm_after cmp [] realm = realm
-realm_after cmp (c ∷ commands) realm = realm_after cmp commands (stepped cmp realm c.0 c.1)
+realm_after cmp (c ∷ commands) realm = realm_after cmp commands (realm_step cmp realm c.0 c.1)
 
 -- the commands with a key
 abbrev pub part : {K : Type 0} → (K → K → Ordering) → K → List (K × Command) → List Command

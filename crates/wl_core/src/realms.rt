@@ -5,7 +5,7 @@ ghost use Rattle.std.specs.BTreeMap.{insert_entry};
 ghost use Rattle.wl_machine.specs.State.{opening};
 ghost use Rattle.wl_machine.specs.Step.{step};
 ghost use Rattle.wl_core.specs.Answers.{Answers, content_of, is_memory};
-ghost use Rattle.wl_core.specs.Realm.{all_ones, at_key, with_at, realm_of, stepped};
+ghost use Rattle.wl_core.specs.Realm.{all_ones, at_key, with_at, realm_of, realm_step};
 
 use crate::commands;
 use crate::lock_core::LockCore;
@@ -91,7 +91,7 @@ impl<K: Ord + Drop, C: LockCore> KeyedRealm<K, C> {
         requires { IsTrue (is_some (at_key K.cmp self.old key.now)) }
         ensures core { (old new : C) × (at_key K.cmp self.old key.now ≡ Some old) × (self.new ≡ with_at K.cmp self.old key.now new)
             × Answers (content_of C.state C.recent old) command.now (content_of C.state C.recent new) result }
-        ensures realm { realm_of K.cmp C.state self.new ≡ (if is_memory result then realm_of K.cmp C.state self.old else stepped K.cmp (realm_of K.cmp C.state self.old) key.now command.now) }
+        ensures realm { realm_of K.cmp C.state self.new ≡ (if is_memory result then realm_of K.cmp C.state self.old else realm_step K.cmp (realm_of K.cmp C.state self.old) key.now command.now) }
         ensures reply { is_memory result ≡ false → result ≡ (step (realm_of K.cmp C.state self.old key.now) command.now).reply }
     {
         let core = self.cores.get_mut(key).unwrap();

@@ -7,7 +7,7 @@ use std::alloc::Global;
 use std::test::Fail;
 use wl_core::{Command, LockCore, PlainCore, ReleaseAnswer, Reply, TakeAnswer};
 use wl_journal::{AuditFault, Book, Entry, audit};
-use wl_test_support::{done, opening, show};
+use wl_test_support::{do_list, opening, show};
 use wl_types::{Kind, Memory};
 
 #[test]
@@ -42,7 +42,7 @@ fn word(entry: &Entry) -> &'static str {
     }
 }
 
-/// Does the calls of a list on a new book, and gives the list as it came out. Beside those of every core (`done`) there
+/// Does the calls of a list on a new book, and gives the list as it came out. Beside those of every core (`do_list`) there
 /// are `count` (how many entries it has, and how many it has had), `entries`, `cut` (the entries that it hands out),
 /// `audit` (of the entries, from the base), `base` (whether that is the state) and `sight` (of the first agent).
 fn done_by_book(alloc: Global, list: &str) -> Result<String, Memory> {
@@ -72,7 +72,7 @@ fn add_call(
         "cut" => write!(came, "cut -> {}\n", show_entries(alloc, &book.cut()?)?)?,
         "base" => write!(came, "base -> {}\n", book.copy_plain()? == *book.base())?,
         "sight" => write!(came, "sight -> {}\n", sight(alloc, book)?)?,
-        _ => came.push_str(done(alloc, book, call)?.as_str())?,
+        _ => came.push_str(do_list(alloc, book, call)?.as_str())?,
     }
     Ok(())
 }
@@ -137,7 +137,7 @@ fn a_book_records_what_was_accepted(rt: HostRuntime) -> Result<(), Fail> {
 
 fn one_lock(alloc: Global) -> Result<Vec<Entry>, Memory> {
     let mut book: Book<PlainCore> = opening(alloc, ());
-    done(
+    do_list(
         alloc,
         &mut book,
         "open window\nrequest 1 db\ntake 1\nrelease 1 1",

@@ -9,7 +9,7 @@ use wl_types::Memory;
 /// Does the calls of a list on a new map, a call a line, and gives the list as it came out. A line is a call, an arrow
 /// and its answer. The calls are `insert NUMBER VALUE`, `set NUMBER VALUE` (where there is one), `get NUMBER`,
 /// `remove NUMBER`, `has NUMBER`, `len`, `rows` and `clear`.
-fn done(alloc: Global, list: &str) -> Result<String, Memory> {
+fn do_list(alloc: Global, list: &str) -> Result<String, Memory> {
     let mut map = NumberMap::new(alloc);
     let mut came = String::new(alloc);
     for line in list.lines() {
@@ -150,7 +150,7 @@ get 8 -> 8
 #[test]
 fn values_are_found_by_number(rt: HostRuntime) -> Result<(), Fail> {
     for list in [MANY, COME_AND_GO, OTHERS] {
-        assert_eq!(rt; done(rt.alloc(), list)?.as_str(), list);
+        assert_eq!(rt; do_list(rt.alloc(), list)?.as_str(), list);
     }
     Ok(())
 }

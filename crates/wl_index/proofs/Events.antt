@@ -10,7 +10,7 @@ use Rattle.wl_types.specs.declared.ask.Ask.{Ask}
 use Rattle.wl_machine.specs.Refusals.{refusal}
 use Rattle.wl_machine.specs.State.{State}
 use Rattle.wl_machine.specs.Grants.{Lists, lists_of, process_queues, in_use}
-use Rattle.wl_machine.specs.Step.{after_processing, Gives, available, new_request, enqueue, numbered, with_name}
+use Rattle.wl_machine.specs.Step.{after_processing, Gives, available, new_request, enqueue, with_number_used, with_name}
 
 -- the state after its queues were processed
 abbrev pub with_lists : State → Lists → State
@@ -28,5 +28,5 @@ plain_gives s agent ask lists accepted plain free is =
 
 -- one that is not available
 pub unavailable_gives : (s : State) (agent : ℕ) (ask : Ask) → refusal s (command.Request agent ask) ≡ None → ask.steal ≡ false → (ask.if_available && not (available s (new_request s agent ask))) ≡ true
-    → Gives s (command.Request agent ask) (numbered s) (reply.Request s.next.request) (record { id = s.next.request; phase = Unavailable } ∷ [])
+    → Gives s (command.Request agent ask) (with_number_used s) (reply.Request s.next.request) (record { id = s.next.request; phase = Unavailable } ∷ [])
 unavailable_gives s agent ask accepted plain busy = rw (accepted, plain, busy) refl

@@ -25,7 +25,7 @@ use Rattle.wl_machine.specs.declared.rows.PendingRow.{PendingRow}
 use Rattle.wl_machine.specs.State.{State}
 use Rattle.wl_machine.specs.Grants.{locks}
 use Rattle.wl_machine.specs.Refusals.{refusal, reason_in}
-use Rattle.wl_machine.specs.Step.{StepResult, step, accepted, unless_refused, no_changes, lock_ends, request_ends, with_name, new_request, numbered, available, plain_request, unavailable, stealing_request, request_step, is_lock_of, release_step, is_untaken, with_taken, is_waiting_on, is_abortable, with_reason, abort_step, terminate_step}
+use Rattle.wl_machine.specs.Step.{StepResult, step, accepted, unless_refused, no_changes, lock_ends, request_ends, with_name, new_request, with_number_used, available, plain_request, unavailable, stealing_request, request_step, is_lock_of, release_step, is_untaken, with_taken, is_waiting_on, is_abortable, with_reason, abort_step, terminate_step}
 use Rattle.wl_machine.specs.Laws.{phases_of}
 use Rattle.wl_machine.specs.OneMove.{lock_phase, held_phases, pending_phases, phases_in, MovesOnce, IsNumbered, is_plain_move, added_phases, table_of, is_take, taken_from, RequestsMoveOnce, NumbersStayApart, TakeTakesOne}
 use Rattle.wl_machine.proofs.ProcessingMoves.{processed_moves, pending_phases-append, phases_of-append}
@@ -117,7 +117,7 @@ added_by_request_most s id num = at_new (new_or_none s id num)
 plain_moves : (s : State) (r : PendingRow) (id : ℕ) → r.number ≡ s.next.request → IsNumbered s → Moved is_plain_move (phases_in s id ++ added_by_request s id) id (plain_request s r)
 plain_moves s r id e num = record {
   once =
-      processed_moves is_plain_move id (record (numbered s) { names = with_name r.name s.names; pending = s.pending ++ r ∷ [] }) [] (reply.Request r.number) (phases_in s id ++ added_by_request s id) refl (added_by_request_most s id num)
+      processed_moves is_plain_move id (record (with_number_used s) { names = with_name r.name s.names; pending = s.pending ++ r ∷ [] }) [] (reply.Request r.number) (phases_in s id ++ added_by_request s id) refl (added_by_request_most s id num)
       (inl (refl, rw (pending_phases-append id s.pending (r ∷ []), one_request s r id e) (sym (append_assoc (held_phases id s.held) (pending_phases id s.pending) (added_by_request s id)))));
 }
 
@@ -135,7 +135,7 @@ in_front s r id e num = at_new (new_or_none s id num)
 steal_moves : (s : State) (r : PendingRow) (id : ℕ) → r.number ≡ s.next.request → IsNumbered s → Moved is_plain_move (phases_in s id ++ added_by_request s id) id (stealing_request s r)
 steal_moves s r id e num = record {
   once =
-      processed_moves is_plain_move id (record (numbered s) { names = with_name r.name s.names; held = filter (λ lock. not (bytes_eq lock.name r.name)) s.held; pending = r ∷ s.pending })
+      processed_moves is_plain_move id (record (with_number_used s) { names = with_name r.name s.names; held = filter (λ lock. not (bytes_eq lock.name r.name)) s.held; pending = r ∷ s.pending })
       (lock_ends Stolen (locks r.name s.held)) (reply.Request r.number) (phases_in s id ++ added_by_request s id) refl (added_by_request_most s id num)
       (rw (append_assoc (held_phases id s.held) (pending_phases id s.pending) (added_by_request s id), in_front s r id e num)
       (both_end is_plain_move (held_phases id s.held) (pending_phases id s.pending ++ added_by_request s id) _ _ _ [] (rw (append_assoc (held_phases id s.held) (pending_phases id s.pending) (added_by_request s id)) at (added_by_request_most s id num))

@@ -70,7 +70,7 @@ new_request s agent ask = record {
 
 -- Web Locks, "request a lock". An accepted request uses up the next number (own)
 abbrev pub numbered : State → State
-numbered s = record s { next = record s.next { request = s.next.request + 1 } }
+with_number_used s = record s { next = record s.next { request = s.next.request + 1 } }
 
 -- whether the request could be granted at once; one that asks with ifAvailable stands in no queue, so any queued request of
 -- its name is in its way
@@ -79,7 +79,7 @@ available s request = is_empty (queue request.name s.pending) && not (is_empty (
 
 -- the request comes to the end of its queue
 abbrev pub enqueue : State → PendingRow → State
-enqueue s request = record (numbered s) { names = with_name request.name s.names; pending = s.pending ++ request ∷ [] }
+enqueue s request = record (with_number_used s) { names = with_name request.name s.names; pending = s.pending ++ request ∷ [] }
 
 abbrev pub plain_request : State → PendingRow → StepResult
 plain_request s request = after_processing (enqueue s request) [] (reply.Request request.number)
@@ -87,14 +87,14 @@ plain_request s request = after_processing (enqueue s request) [] (reply.Request
 -- with ifAvailable, and not to be granted at once: nothing else happens
 abbrev pub unavailable : State → PendingRow → StepResult
 unavailable s request = record {
-  state = numbered s;
+  state = with_number_used s;
   reply = reply.Request request.number;
   changes = record { id = request.number; phase = Unavailable } ∷ [];
 }
 
 -- with steal, the locks of the name are gone, and the request comes to the front of its queue
 abbrev pub steal_locks : State → PendingRow → State
-steal_locks s request = record (numbered s) {
+steal_locks s request = record (with_number_used s) {
   names = with_name request.name s.names;
   held = filter (λ lock. not (bytes_eq lock.name request.name)) s.held;
   pending = request ∷ s.pending;

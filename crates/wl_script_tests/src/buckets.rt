@@ -135,11 +135,11 @@ fn key_told(alloc: Global, key: &ManagerKey) -> Result<String, Memory> {
     Ok(format!(in alloc; "{origin} {}", key.bucket.as_str())?)
 }
 
-fn lent(alloc: Global, url: &str, bucket: &str) -> Result<String, Memory> {
+fn show_lent(alloc: Global, url: &str, bucket: &str) -> Result<String, Memory> {
     show_manager(alloc, &manager_of(alloc, url, bucket))
 }
 
-fn handed_over(alloc: Global, url: &str, bucket: &str) -> Result<String, Memory> {
+fn show_handed_over(alloc: Global, url: &str, bucket: &str) -> Result<String, Memory> {
     let bucket = Text::of(alloc, bucket)?;
     show_manager(alloc, &manager_of_text(alloc, url, bucket))
 }
@@ -147,7 +147,7 @@ fn handed_over(alloc: Global, url: &str, bucket: &str) -> Result<String, Memory>
 #[test]
 fn a_url_and_a_bucket_name_a_manager(rt: HostRuntime) -> Result<(), Fail> {
     for (url, bucket, wanted) in MANAGERS {
-        assert_eq!(rt; lent(rt.alloc(), url, bucket)?.as_str(), wanted);
+        assert_eq!(rt; show_lent(rt.alloc(), url, bucket)?.as_str(), wanted);
     }
     Ok(())
 }
@@ -155,7 +155,7 @@ fn a_url_and_a_bucket_name_a_manager(rt: HostRuntime) -> Result<(), Fail> {
 #[test]
 fn a_bucket_may_be_handed_over(rt: HostRuntime) -> Result<(), Fail> {
     for (url, bucket, wanted) in MANAGERS {
-        assert_eq!(rt; handed_over(rt.alloc(), url, bucket)?.as_str(), wanted);
+        assert_eq!(rt; show_handed_over(rt.alloc(), url, bucket)?.as_str(), wanted);
     }
     Ok(())
 }

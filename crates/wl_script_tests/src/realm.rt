@@ -40,7 +40,7 @@ first -> https://a.test archive NoSuch/agent
 ";
 
 /// Does the calls of a list on a new realm, a call a line, and gives the list as it came out.
-fn done(alloc: Global, list: &str) -> Result<String, Fail> {
+fn do_list(alloc: Global, list: &str) -> Result<String, Fail> {
     let mut realm: Realm<PlainCore> = Realm::new(alloc);
     let mut came = String::new(alloc);
     for line in list.lines() {
@@ -112,12 +112,12 @@ fn first(alloc: Global, realm: &Realm<PlainCore>) -> Result<String, Memory> {
 
 #[test]
 fn two_origins_number_their_agents_apart(rt: HostRuntime) -> Result<(), Fail> {
-    assert_eq!(rt; done(rt.alloc(), TWO_ORIGINS)?.as_str(), TWO_ORIGINS);
+    assert_eq!(rt; do_list(rt.alloc(), TWO_ORIGINS)?.as_str(), TWO_ORIGINS);
     Ok(())
 }
 
 #[test]
 fn two_buckets_number_their_agents_apart(rt: HostRuntime) -> Result<(), Fail> {
-    assert_eq!(rt; done(rt.alloc(), TWO_BUCKETS)?.as_str(), TWO_BUCKETS);
+    assert_eq!(rt; do_list(rt.alloc(), TWO_BUCKETS)?.as_str(), TWO_BUCKETS);
     Ok(())
 }

@@ -35,13 +35,13 @@ where
         + Abort,
 {
     for list in lists {
-        assert_eq!(rt; done(rt, alloc, list)?.as_str(), *list);
+        assert_eq!(rt; do_list(rt, alloc, list)?.as_str(), *list);
     }
     Ok(())
 }
 
 /// A list as it came out.
-fn done<R>(rt: &R, alloc: Global, list: &str) -> Result<String, Fail>
+fn do_list<R>(rt: &R, alloc: Global, list: &str) -> Result<String, Fail>
 where
     R: Net<Listener = TcpListener, Stream = TcpStream> + Threads + Wait + RandomSource + Sync,
 {

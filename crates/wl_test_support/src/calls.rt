@@ -13,7 +13,7 @@ use wl_types::{Ask, Kind, Memory, Mode, Reason, Refusal};
 /// `release AGENT REQUEST`, `abort AGENT SIGNAL REASON`, `terminate AGENT` and `query AGENT`; with `may` before one of
 /// the first four, what it would be refused; `untaken AGENT SIGNAL PLACE` and `above AGENT SIGNAL REQUEST`. The options
 /// are `shared`, `available`, `steal` and `signal=SIGNAL`. A reason is `AbortError`, `TimeoutError` or a code.
-pub fn done<C: LockCore>(alloc: Global, core: &mut C, list: &str) -> Result<String, Memory> {
+pub fn do_list<C: LockCore>(alloc: Global, core: &mut C, list: &str) -> Result<String, Memory> {
     let mut came = String::new(alloc);
     for line in list.lines() {
         let (call, _) = line.split_once(" -> ").unwrap_or((line, ""));
@@ -26,7 +26,7 @@ pub fn done<C: LockCore>(alloc: Global, core: &mut C, list: &str) -> Result<Stri
 }
 
 /// Does a call so many times, whatever it answers.
-pub fn done_often<C: LockCore>(
+pub fn do_list_often<C: LockCore>(
     alloc: Global,
     core: &mut C,
     times: u64,

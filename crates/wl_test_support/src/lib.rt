@@ -8,7 +8,7 @@ mod calls;
 mod no_random;
 
 pub use answers::show;
-pub use calls::{done, done_often};
+pub use calls::{do_list, do_list_often};
 pub use no_random::NoRandom;
 use std::alloc::Global;
 use std::test::Fail;

@@ -84,7 +84,7 @@ impl<S: Read + Write + Drop> Greeting<S> {
         } = self;
         match handshake.handshake() {
             Ok(socket) => match verdict_of(verdict) {
-                Some(Ok(admitted)) => Greeted::Open(opened(alloc, socket), admitted),
+                Some(Ok(admitted)) => Greeted::Open(make_wire(alloc, socket), admitted),
                 Some(Err(rejection)) => Greeted::Refused(rejection),
                 None => Greeted::Failed,
             },
@@ -102,7 +102,7 @@ impl<S: Read + Write + Drop> Greeting<S> {
 }
 
 /// The wire of a handshake that is done, of which no more than the head was read.
-fn opened<S: Read + Write + Drop>(
+fn make_wire<S: Read + Write + Drop>(
     alloc: Global,
     socket: WebSocket<Counted<Targeted<S>>, NoMask>,
 ) -> Wire<S> {

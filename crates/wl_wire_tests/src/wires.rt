@@ -28,7 +28,7 @@ use wl_wire::{Greeted, Greeting, Pace, Speaker, Turn, Wire, take_turn};
 const TURNS: u32 = 4;
 
 /// How far a handshake is, at a server that is sharded and trusts each page, once it went on so often.
-fn greeted(alloc: Global, script: Script) -> Result<Greeted<Script>, AllocError> {
+fn greet(alloc: Global, script: Script) -> Result<Greeted<Script>, AllocError> {
     let rules = Rules {
         trusted: Scope::All,
         tokens: None,
@@ -65,7 +65,7 @@ impl Scene for Turns {
         }
         // The same handshake once more, whose wire takes turns.
         let script = script_of(self.alloc, reads, writes)?;
-        match greeted(self.alloc, script) {
+        match greet(self.alloc, script) {
             Ok(Greeted::Open(wire, _)) => take_turns(rt, self.alloc, wire, told == PUSHED, came),
             Ok(_) => Ok(came.push_str("not open")?),
             Err(error) => Err(Fail::from(error)),
@@ -79,7 +79,7 @@ const PUSHED: &str = "pushed";
 
 /// How far a handshake is, as text.
 fn greeted_text(alloc: Global, script: Script) -> Result<&'static str, AllocError> {
-    let greeted = greeted(alloc, script)?;
+    let greeted = greet(alloc, script)?;
     Ok(told_of(&greeted))
 }
 

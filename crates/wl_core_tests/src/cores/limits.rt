@@ -4,7 +4,7 @@ use std::alloc::Global;
 use std::test::Fail;
 use wl_core::{LockCore, PlainCore};
 use wl_index::{IndexCore, random_seed};
-use wl_test_support::{done, done_often, letters, opening};
+use wl_test_support::{do_list, do_list_often, letters, opening};
 use wl_types::{Memory, Numbers};
 
 /// The list as it comes out of a core that has done this call so often.
@@ -15,10 +15,10 @@ fn done_after<C: LockCore>(
     often: (u64, &str),
     list: &str,
 ) -> Result<String, Memory> {
-    done(alloc, core, first)?;
+    do_list(alloc, core, first)?;
     let (times, call) = often;
-    done_often(alloc, core, times, call)?;
-    done(alloc, core, list)
+    do_list_often(alloc, core, times, call)?;
+    do_list(alloc, core, list)
 }
 
 const ONE_AGENT_TOO_MANY: &str = "\
@@ -121,10 +121,10 @@ fn the_last_number_is_below_two_to_the_53(rt: HostRuntime) -> Result<(), Fail> {
         signal: 1,
     };
     let mut plain = PlainCore::make(rt.alloc(), (), next);
-    let came = done(rt.alloc(), &mut plain, THE_LAST_REQUEST)?;
+    let came = do_list(rt.alloc(), &mut plain, THE_LAST_REQUEST)?;
     assert_eq!(rt; came.as_str(), THE_LAST_REQUEST);
     let mut index = IndexCore::make(rt.alloc(), random_seed(&rt)?, next);
-    let came = done(rt.alloc(), &mut index, THE_LAST_REQUEST)?;
+    let came = do_list(rt.alloc(), &mut index, THE_LAST_REQUEST)?;
     assert_eq!(rt; came.as_str(), THE_LAST_REQUEST);
     Ok(())
 }

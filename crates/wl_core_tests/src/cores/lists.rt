@@ -4,7 +4,7 @@ use std::alloc::Global;
 use std::test::Fail;
 use wl_core::{LockCore, PlainCore};
 use wl_index::{IndexCore, random_seed};
-use wl_test_support::{done, opening};
+use wl_test_support::{do_list, opening};
 use wl_types::Memory;
 
 const AGENTS_COME_AND_GO: &str = "\
@@ -170,7 +170,7 @@ pub const LISTS: [&str; 10] = [
 /// A list as it comes out of a new core of the kind.
 pub fn came<C: LockCore>(alloc: Global, seed: C::Seed, list: &str) -> Result<String, Memory> {
     let mut core: C = opening(alloc, seed);
-    done(alloc, &mut core, list)
+    do_list(alloc, &mut core, list)
 }
 
 #[test]
@@ -212,7 +212,7 @@ fn equals_its_copy(core: &mut PlainCore) -> Result<bool, Memory> {
 #[test]
 fn a_copy_equals_its_origin_whatever_changed_last(rt: HostRuntime) -> Result<(), Fail> {
     let mut core: PlainCore = opening(rt.alloc(), ());
-    done(rt.alloc(), &mut core, TWO_READERS)?;
+    do_list(rt.alloc(), &mut core, TWO_READERS)?;
     assert!(rt; equals_its_copy(&mut core)?);
     Ok(())
 }

@@ -5,7 +5,7 @@ use std::hash::RandomState;
 use std::test::Fail;
 use wl_core::{LockCore, PlainCore};
 use wl_index::{IndexCore, random_seed};
-use wl_test_support::{done, opening};
+use wl_test_support::{do_list, opening};
 use wl_types::Memory;
 
 /// How many calls are made from one seed, and from how many seeds.
@@ -177,8 +177,8 @@ impl Both {
     /// Whether both answer the next call alike, and then have the same state and tell the same changes.
     fn answer_alike(&mut self, alloc: Global) -> Result<bool, Memory> {
         self.calls.write_next()?;
-        let line = done(alloc, &mut self.plain, self.calls.text.as_str())?;
-        let other = done(alloc, &mut self.index, self.calls.text.as_str())?;
+        let line = do_list(alloc, &mut self.plain, self.calls.text.as_str())?;
+        let other = do_list(alloc, &mut self.index, self.calls.text.as_str())?;
         self.calls.note(line.as_str());
         Ok(line.as_str() == other.as_str() && self.are_alike()?)
     }

@@ -35,7 +35,7 @@ impl Scene for Calls {
         let (reads, rest) = call.split_once("; ").unwrap_or((call, ""));
         let (writes, calls) = rest.split_once("; ").unwrap_or((rest, ""));
         let script = script_of(self.alloc, reads, writes)?;
-        match greeted(self.alloc, script) {
+        match greet(self.alloc, script) {
             Ok(Greeted::Open(wire, _)) => make_calls(rt, self.alloc, wire, calls, came),
             Ok(_) => Ok(came.push_str("not open")?),
             Err(error) => Err(Fail::from(error)),
@@ -63,7 +63,7 @@ fn make_calls<R: Wait>(
             "flush" => write!(came, "{:?}", wire.flush())?,
             "ping" => write!(came, "{:?}", wire.ping())?,
             "close" => write!(came, "{:?}", wire.close(Ending::Away))?,
-            _ => came.push_str(turned(rt, alloc, &mut wire)?)?,
+            _ => came.push_str(take_one_turn(rt, alloc, &mut wire)?)?,
         }
     }
     came.push(':')?;
@@ -72,7 +72,11 @@ fn make_calls<R: Wait>(
 }
 
 /// Takes a turn, with a speaker of its own.
-fn turned<R: Wait>(rt: &R, alloc: Global, wire: &mut Wire<Script>) -> Result<&'static str, Fail> {
+fn take_one_turn<R: Wait>(
+    rt: &R,
+    alloc: Global,
+    wire: &mut Wire<Script>,
+) -> Result<&'static str, Fail> {
     let ended = Arc::new(alloc, AtomicU64::new(0))?;
     match take_turn(rt, wire, Echo::new(alloc, &ended)?, &mut false) {
         Turn::Went(echo, _) => {
