@@ -111,6 +111,25 @@ def locks(program):
         expect("an origin without locks", none["managers"], [])
 
 
+def left_out_locks(program):
+    """Ten origins with so many locks that their rows take all the room, and two behind them."""
+    rows = {f"https://s{number:02}.test": 1_000 for number in range(11)} | {"https://s11.test": 7}
+    rows["https://s00.test"] = 1_003
+    with Shown(program) as daemon:
+        peers = [daemon.opened(origin) for origin in rows]
+        for peer, count in zip(peers, rows.values()):
+            for number in range(1, count + 1):
+                peer.ask(ask(f"lock {number}", number=number))
+        found = json.loads(daemon.get("/locks").body)
+        listed = {it["origin"]: len(it["held"]) + len(it["pending"]) for it in found["managers"]}
+        expect("the rows of those that are listed", listed, dict.fromkeys(list(rows)[:10], 1_000))
+        expect("what the first leaves out", found["managers"][0]["left_out"], 3)
+        expect("what is left out", found["left_out"], {"managers": 2, "rows": 1_007})
+        one = json.loads(daemon.get("/locks?origin=https://s11.test").body)
+        expect("the rows of an origin that is asked for", len(one["managers"][0]["held"]), 7)
+        expect("what is left out there", one["left_out"], {"managers": 0, "rows": 0})
+
+
 def in_order(pairs):
     """An object, whose members have to stand in the order of their names."""
     names = [name for name, _ in pairs]
@@ -254,6 +273,7 @@ def status_checks(program):
         ("metrics", metrics),
         ("the text of metrics", metrics_are_well_formed),
         ("locks", locks),
+        ("locks that are left out", left_out_locks),
         ("bad queries for locks", bad_queries),
         ("targets that aren't there", no_such_page),
         ("other methods", other_methods),

@@ -21,7 +21,7 @@ pub struct ServiceLocks {
     pub managers: Vec<ManagerLocks>,
     /// How many managers that were asked for aren't listed, since there is no room for them.
     pub left_out_managers: u64,
-    /// How many rows those have, where that is known.
+    /// How many rows those have.
     pub left_out_rows: u64,
 }
 

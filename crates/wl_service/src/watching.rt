@@ -65,11 +65,35 @@ impl Service {
             managers.push(ManagerLocks { key, locks })?;
         }
         let left_out_managers = self.directory.lock(rt).count_left(after.as_ref(), only);
+        let left_out_rows = self.count_rows_behind(rt, after, only, now)?;
         Ok(ServiceLocks {
             managers,
             left_out_managers,
-            left_out_rows: 0,
+            left_out_rows,
         })
+    }
+
+    /// How many rows the managers behind this key have. Each is looked at as a listed one is.
+    fn count_rows_behind<R: Wait>(
+        &self,
+        rt: &R,
+        after: Option<ManagerKey>,
+        only: Option<&OriginKey>,
+        now: u64,
+    ) -> Result<u64, Memory> {
+        let mut rows: u64 = 0;
+        let mut last = after;
+        for _ in 0..u64::MAX {
+            let Some((key, manager)) = self.next_manager(rt, last.as_ref(), only)? else {
+                break;
+            };
+            let listed = manager.list_locks(rt, 0, now);
+            drop(manager);
+            self.drop_unused(rt, &key);
+            rows = rows.saturating_add(listed?.left_out);
+            last = Some(key);
+        }
+        Ok(rows)
     }
 
     /// The next manager to be listed behind this key, with its own.
