@@ -25,7 +25,7 @@ abbrev pub realm_of : {K C : Type 0} → (K → K → Ordering) → (C → State
 realm_of cmp state cores key = option_map_or state (at_key cmp cores key) (opening all_ones)
 
 -- a command with a key steps that key's state
-abbrev pub stepped : {K : Type 0} → (K → K → Ordering) → (K → State) → K → Command → K → State
+abbrev pub realm_step : {K : Type 0} → (K → K → Ordering) → (K → State) → K → Command → K → State
 realm_step cmp realm key command other = if is_at (cmp key) other then (step (realm other) command).state else realm other
 
 abbrev pub realm_after : {K : Type 0} → (K → K → Ordering) → List (K × Command) → (K → State) → K → State

@@ -69,7 +69,7 @@ new_request s agent ask = record {
 }
 
 -- Web Locks, "request a lock". An accepted request uses up the next number (own)
-abbrev pub numbered : State → State
+abbrev pub with_number_used : State → State
 with_number_used s = record s { next = record s.next { request = s.next.request + 1 } }
 
 -- whether the request could be granted at once; one that asks with ifAvailable stands in no queue, so any queued request of
