@@ -1,5 +1,6 @@
 -- Which handshakes are admitted (own).
-use Rattle.std.specs.Prelude.{◌≡◌, ◌≢◌, ℕ, nat_eq, List, [], ◌∷◌, ◌++◌, map, take, drop, ◌==◌, ◌&&◌, Bool, true, false, not, Option, Some, None, Ok, Err, Result, codes, is_some, if◌then◌else◌}
+use Rattle.std.specs.Prelude.{◌≡◌, ◌≢◌, ℕ, nat_eq, List, [], ◌∷◌, ◌++◌, map, take, drop, ◌==◌, ◌&&◌, Bool, true, false}
+use Rattle.std.specs.Prelude.{not, Option, Some, None, Ok, Err, Result, codes, is_some, if◌then◌else◌}
 use Rattle.std.specs.Char.{to_ascii_lowercase}
 use Rattle.std.specs.List.{filter_map, flat_map, slice_split, starts_with}
 use Rattle.std.specs.Str.{bytes_eq, trim}
@@ -93,10 +94,16 @@ is_empty (x ∷ xs) = false
 
 abbrev pub terms_with : Reach → Reach → Option Subprotocol → Result Reach Rejection → Result Terms Rejection
 terms_with shard page selected (Err reason) = Err reason
-terms_with shard page selected (Ok token) = Ok (record { shard = shard; page = page; token = token; selected = selected })
+terms_with shard page selected (Ok token) = Ok (record {
+  shard = shard;
+  page = page;
+  token = token;
+  selected = selected;
+})
 
 -- a token among the subprotocols wants one beside it that is selected: RFC 6455, section 4.2.2
-abbrev pub terms_by : Reach → Option (List Rule) → Bool → List (List ℕ) → List (List ℕ) → Result Reach Rejection → Result Terms Rejection
+abbrev pub terms_by : Reach → Option (List Rule) → Bool → List (List ℕ) → List (List ℕ) → Result Reach Rejection
+    → Result Terms Rejection
 terms_by shard rules has_fences header_tokens subprotocols (Err reason) = Err reason
 terms_by shard rules has_fences header_tokens subprotocols (Ok page) =
     let tokens = filter_map (bearer_of carrier.Subprotocol) subprotocols in
@@ -104,14 +111,18 @@ terms_by shard rules has_fences header_tokens subprotocols (Ok page) =
     if not (is_empty tokens) && not (is_some selected) then Err rejection.TokenAlone
     else terms_with shard page selected (token_reach rules (header_tokens ++ tokens))
 
--- what comes of a handshake whose target lets this open, by its headers `Origin`, `Authorization` and `Sec-WebSocket-Protocol`
-abbrev pub terms_at : Result Reach Rejection → Reach → Option (List Rule) → Bool → List (List ℕ) → List (List ℕ) → List (List ℕ) → Result Terms Rejection
+-- what comes of a handshake whose target lets this open, by its headers `Origin`, `Authorization` and
+-- `Sec-WebSocket-Protocol`
+abbrev pub terms_at : Result Reach Rejection → Reach → Option (List Rule) → Bool → List (List ℕ) → List (List ℕ)
+    → List (List ℕ) → Result Terms Rejection
 terms_at (Err reason) trusted rules has_fences origins authorizations headers = Err reason
 terms_at (Ok shard) trusted rules has_fences origins authorizations headers =
-    terms_by shard rules has_fences (filter_map (bearer_of carrier.Header) authorizations) (offers headers) (sender_reach trusted origins)
+    terms_by shard rules has_fences (filter_map (bearer_of carrier.Header) authorizations) (offers headers)
+    (sender_reach trusted origins)
 
 -- what comes of a handshake, by its target and these headers
-abbrev pub terms_of : Bool → Reach → Option (List Rule) → Bool → List ℕ → List (List ℕ) → List (List ℕ) → List (List ℕ) → Result Terms Rejection
+abbrev pub terms_of : Bool → Reach → Option (List Rule) → Bool → List ℕ → List (List ℕ) → List (List ℕ) → List (List ℕ)
+    → Result Terms Rejection
 terms_of is_sharded trusted rules has_fences target origins authorizations headers =
     terms_at (shard_reach is_sharded target) trusted rules has_fences origins authorizations headers
 
@@ -121,7 +132,12 @@ may_open terms origin = admits terms.shard origin && admits terms.page origin &&
 
 -- what was admitted
 abbrev pub terms_for : Admitted → Terms
-terms_for admitted = record { shard = reach_of admitted.shard; page = reach_of admitted.page; token = reach_of admitted.token; selected = admitted.selected }
+terms_for admitted = record {
+  shard = reach_of admitted.shard;
+  page = reach_of admitted.page;
+  token = reach_of admitted.token;
+  selected = admitted.selected;
+}
 
 -- the answer is the expected one, unless memory ran out
 abbrev pub Answers : {X Y : Type 0} → (Y → X) → Result X Rejection → Result Y Rejection → Type 0

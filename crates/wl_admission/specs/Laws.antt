@@ -10,4 +10,5 @@ NamedByItsOwn = (target : List ℕ) (origin : Tuple) → origin_named target ≡
 
 -- the own target of an origin names it, where the origin's text, which is ASCII, spells a URL of it
 abbrev pub OwnNamesIt : Type 0
-OwnNamesIt = (origin : Tuple) → IsAscii (tuple_text origin) → tuple_in (tuple_text origin) ≡ Some origin → origin_named (target_of origin) ≡ Some origin
+OwnNamesIt = (origin : Tuple) → IsAscii (tuple_text origin) → tuple_in (tuple_text origin) ≡ Some origin
+    → origin_named (target_of origin) ≡ Some origin

@@ -19,7 +19,8 @@ limit_for limits source = if source.is_loopback then limits.by_loopback else lim
 
 -- Whether there is a place for one more from this address: in all, and for the address.
 abbrev pub has_place : Places → Source → Bool
-has_place places source = nat_lt places.taken places.limits.in_all && nat_lt (count_at places source.number) (limit_for places.limits source)
+has_place places source = nat_lt places.taken places.limits.in_all
+    && nat_lt (count_at places source.number) (limit_for places.limits source)
 
 -- this address has so many places, every other as many as before, and so many are taken in all
 pub record Counts (old new : Places) (number many total : ℕ) : Type 0 where
@@ -30,4 +31,5 @@ pub record Counts (old new : Places) (number many total : ℕ) : Type 0 where
 
 -- One place fewer is taken, of an address that has some; else nothing is.
 abbrev pub Frees : Places → Places → ℕ → Type 0
-Frees old new number = Counts old new number (count_at old number - 1) (if nat_lt 0 (count_at old number) then old.taken - 1 else old.taken)
+Frees old new number = Counts old new number (count_at old number - 1)
+    (if nat_lt 0 (count_at old number) then old.taken - 1 else old.taken)

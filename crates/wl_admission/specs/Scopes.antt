@@ -1,4 +1,5 @@
--- Which URLs may be opened, by their origins (own). Origins are parsed, never compared as texts: URL, "origin"; HTML, "same origin".
+-- Which URLs may be opened, by their origins (own). Origins are parsed, never compared as texts: URL, "origin"; HTML,
+-- "same origin".
 use Rattle.std.specs.Prelude.{ℕ, List, [], ◌∷◌, Bool, true, false, Option, Some, None, Ok, Err, Result}
 use Rattle.std.specs.List.{list_any}
 use Rattle.std.specs.Ordering.{is_eq}

@@ -1,5 +1,6 @@
 -- The origin that a handshake's target names, at a server of some origins alone (own).
-use Rattle.std.specs.Prelude.{ℕ, List, [], ◌∷◌, ◌++◌, drop, length, ◌==◌, ◌||◌, Bool, true, false, Option, Some, None, Ok, Err, Result, codes, if◌then◌else◌}
+use Rattle.std.specs.Prelude.{ℕ, List, [], ◌∷◌, ◌++◌, drop, length, ◌==◌, ◌||◌, Bool, true, false, Option, Some, None}
+use Rattle.std.specs.Prelude.{Ok, Err, Result, codes, if◌then◌else◌}
 use Rattle.std.specs.Char.{is_ascii_alphanumeric}
 use Rattle.std.specs.List.{flat_map, list_any}
 use Rattle.std.specs.Str.{bytes_eq}
@@ -33,7 +34,8 @@ abbrev pub if_own : List ℕ → Option Tuple → Option Tuple
 if_own target None = None
 if_own target (Some origin) = if bytes_eq target (target_of origin) then Some origin else None
 
--- The origin whose very target this is. Which origin that can be is what stands behind the prefix, decoded (URL, "percent-decode").
+-- The origin whose very target this is. Which origin that can be is what stands behind the prefix, decoded (URL,
+-- "percent-decode").
 abbrev pub origin_named : List ℕ → Option Tuple
 origin_named target = if_own target (tuple_in (utf8_lossy (percent_decode (drop (length prefix) target))))
 
@@ -41,7 +43,8 @@ abbrev pub reach_named : Option Tuple → Result Reach Rejection
 reach_named None = Err BadTarget
 reach_named (Some origin) = Ok (Some (origin ∷ []))
 
--- What a handshake with this target may open: at a server that is sharded by origins, only what has the origin that it names.
+-- What a handshake with this target may open: at a server that is sharded by origins, only what has the origin that it
+-- names.
 abbrev pub shard_reach : Bool → List ℕ → Result Reach Rejection
 shard_reach false target = Ok None
 shard_reach true target = reach_named (origin_named target)

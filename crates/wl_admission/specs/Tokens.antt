@@ -1,5 +1,6 @@
 -- Tokens and the file that lists them (own).
-use Rattle.std.specs.Prelude.{◌≡◌, ◌≢◌, ℕ, ◌+◌, List, [], ◌∷◌, map, filter, length, nat_lt, ◌==◌, ◌&&◌, ◌||◌, Bool, Option, Some, None, Ok, Err, Result, codes, string_bytes, if◌then◌else◌}
+use Rattle.std.specs.Prelude.{◌≡◌, ◌≢◌, ℕ, ◌+◌, List, [], ◌∷◌, map, filter, length, nat_lt, ◌==◌, ◌&&◌, ◌||◌, Bool}
+use Rattle.std.specs.Prelude.{Option, Some, None, Ok, Err, Result, codes, string_bytes, if◌then◌else◌}
 use Rattle.std.specs.Char.{is_ascii_alphanumeric}
 use Rattle.std.specs.List.{list_all, list_any, slice_split}
 use Rattle.std.specs.Option.{option_or}
@@ -65,9 +66,11 @@ rule_with number token (Some origins) = Ok (token, reach_listed origins)
 -- the rule of the line of this number: a token, then the origins that it lets open
 abbrev pub rule_in : ℕ → List (List ℕ) → Result Rule TokenFileFault
 rule_in number [] = Err (BadToken number)
-rule_in number (token ∷ origins) = if is_token token then rule_with number token (origins_of origins) else Err (BadToken number)
+rule_in number (token ∷ origins) = if is_token token then rule_with number token (origins_of origins)
+    else Err (BadToken number)
 
-abbrev pub rule_then : Result Rule TokenFileFault → Result (List Rule) TokenFileFault → Result (List Rule) TokenFileFault
+abbrev pub rule_then : Result Rule TokenFileFault → Result (List Rule) TokenFileFault
+    → Result (List Rule) TokenFileFault
 rule_then (Err fault) rules = Err fault
 rule_then (Ok rule) (Err fault) = Err fault
 rule_then (Ok rule) (Ok rules) = Ok (rule ∷ rules)

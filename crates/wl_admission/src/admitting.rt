@@ -7,7 +7,8 @@ ghost use Rattle.wl_origin.specs.Standing.{tuple_of};
 ghost use Rattle.wl_admission.specs.Scopes.{admits, reach_of};
 ghost use Rattle.wl_admission.specs.Tokens.{reach_by, rules_of};
 ghost use Rattle.wl_admission.specs.declared.credentials.Carrier.TheVariants.{Header};
-ghost use Rattle.wl_admission.specs.Handshakes.{Answers, bearer_of, may_open, reach_or_unknown, terms_at, terms_for, terms_of, token_reach};
+ghost use Rattle.wl_admission.specs.Handshakes.{Answers, bearer_of, may_open, reach_or_unknown, terms_at, terms_for};
+ghost use Rattle.wl_admission.specs.Handshakes.{terms_of, token_reach};
 
 use crate::credentials::{Carrier, tokens_in};
 use crate::page::sender_scope;
@@ -75,10 +76,13 @@ impl Admitted {
 }
 
 /// Whether a handshake is admitted, and what it may open. A refusal is to be answered by its status of HTTP. Of several
-/// reasons the first counts, in this order: the target, the `Origin` headers, a token without a subprotocol that the server
-/// selects, the number of tokens, the token.
+/// reasons the first counts, in this order: the target, the `Origin` headers, a token without a subprotocol that the
+/// server selects, the number of tokens, the token.
 pub fn admit(alloc: Global, hello: &Hello<'_>, rules: &Rules) -> Result<Admitted, Rejection>
-    ensures { Answers terms_for (terms_of rules.now.is_sharded (reach_of rules.now.trusted) (option_map rules_of rules.now.tokens) rules.now.has_fences hello.now.target.now (map (λ h. h.now) hello.now.origins.now) (map (λ h. h.now) hello.now.authorizations.now) (map (λ h. h.now) hello.now.subprotocols.now)) result }
+    ensures { Answers terms_for (terms_of rules.now.is_sharded (reach_of rules.now.trusted)
+        (option_map rules_of rules.now.tokens) rules.now.has_fences hello.now.target.now
+        (map (λ h. h.now) hello.now.origins.now) (map (λ h. h.now) hello.now.authorizations.now)
+        (map (λ h. h.now) hello.now.subprotocols.now)) result }
 {
     let shard = shard_scope(alloc, hello.target, rules.is_sharded)?;
     admit_at(alloc, hello, rules, shard)
@@ -91,7 +95,9 @@ fn admit_at(
     rules: &Rules,
     shard: Scope,
 ) -> Result<Admitted, Rejection>
-    ensures { Answers terms_for (terms_at (Ok (reach_of shard)) (reach_of rules.now.trusted) (option_map rules_of rules.now.tokens) rules.now.has_fences (map (λ h. h.now) hello.now.origins.now) (map (λ h. h.now) hello.now.authorizations.now) (map (λ h. h.now) hello.now.subprotocols.now)) result }
+    ensures { Answers terms_for (terms_at (Ok (reach_of shard)) (reach_of rules.now.trusted)
+        (option_map rules_of rules.now.tokens) rules.now.has_fences (map (λ h. h.now) hello.now.origins.now)
+        (map (λ h. h.now) hello.now.authorizations.now) (map (λ h. h.now) hello.now.subprotocols.now)) result }
 {
     let page = sender_scope(alloc, hello.origins, &rules.trusted)?;
     let Ok(offers) = subprotocols(alloc, hello.subprotocols) else {
@@ -125,7 +131,9 @@ fn token_scope<'a>(
     in_subprotocols: &[&'a [u8]],
     known: Option<&Tokens>,
 ) -> Result<Scope, Rejection>
-    ensures { Answers reach_of (token_reach (option_map rules_of (option_copied known.entry)) (filter_map (bearer_of Header) (map (λ h. h.now) authorizations.now) ++ map (λ t. t.now) in_subprotocols.now)) result }
+    ensures { Answers reach_of (token_reach (option_map rules_of (option_copied known.entry))
+        (filter_map (bearer_of Header) (map (λ h. h.now) authorizations.now) ++ map (λ t. t.now) in_subprotocols.now))
+        result }
 {
     let Some(known) = known else {
         return Ok(Scope::All);

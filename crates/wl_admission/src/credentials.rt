@@ -27,7 +27,8 @@ pub fn tokens_in<'a>(
     carrier: Carrier,
     texts: &[&'a str],
 ) -> Result<Vec<&'a [u8]>, AllocError>
-    ensures { IfOk result (λ found. map (λ t. t.now) found.items ≡ filter_map (bearer_of carrier) (map (λ text. text.now) texts.now)) }
+    ensures { IfOk result (λ found. map (λ t. t.now) found.items
+        ≡ filter_map (bearer_of carrier) (map (λ text. text.now) texts.now)) }
 {
     let mut found = Vec::new(alloc);
     for text in texts {
@@ -38,7 +39,8 @@ pub fn tokens_in<'a>(
 
 /// Adds a token, if there is one.
 fn push_given<'a>(found: &mut Vec<&'a [u8]>, token: Option<&'a [u8]>) -> Result<(), AllocError>
-    ensures { OnOk result (map (λ t. t.now) found.new.items ≡ map (λ t. t.now) found.old.items ++ cons_option (option_map (λ t. t.now) token.entry) []) }
+    ensures { OnOk result (map (λ t. t.now) found.new.items
+        ≡ map (λ t. t.now) found.old.items ++ cons_option (option_map (λ t. t.now) token.entry) []) }
 {
     if let Some(token) = token {
         found.push(token)?;

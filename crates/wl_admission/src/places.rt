@@ -54,7 +54,8 @@ impl Source {
         }
     }
 
-    /// Whoever comes over a Unix socket: all of them are one address of this machine, `::`, from which nobody else comes.
+    /// Whoever comes over a Unix socket: all of them are one address of this machine, `::`, from which nobody else
+    /// comes.
     pub fn of_unix_peers() -> Source
         ensures { result ≡ unix_peers }
     {
@@ -97,9 +98,11 @@ impl Places {
     /// Takes a place for a connection from this address.
     pub fn take(&mut self, source: Source) -> Result<(), Rejection>
         ensures there { OnOk result (has_place self.old source ≡ true) }
-        ensures taken { OnOk result (Counts self.old self.new source.number (count_at self.old source.number + 1) (self.old.taken + 1)) }
+        ensures taken { OnOk result (Counts self.old self.new source.number (count_at self.old source.number + 1)
+            (self.old.taken + 1)) }
         ensures full { result ≡ Err NoPlace → has_place self.old source ≡ false }
-        ensures refused { OnErr result (Counts self.old self.new source.number (count_at self.old source.number) self.old.taken) }
+        ensures refused { OnErr result (Counts self.old self.new source.number (count_at self.old source.number)
+            self.old.taken) }
     {
         let count = self.count(source.number);
         if self.taken >= self.limits.in_all || count >= self.limits.limit_for(source) {

@@ -45,7 +45,8 @@ pub fn subprotocols<'a>(alloc: Global, headers: &[&'a str]) -> Result<Vec<&'a st
 }
 
 fn push_trimmed<'a>(found: &mut Vec<&'a str>, pieces: &[&'a str]) -> Result<(), AllocError>
-    ensures { OnOk result (map (λ p. p.now) found.new.items ≡ map (λ p. p.now) found.old.items ++ map (λ p. trim p.now) pieces.now) }
+    ensures { OnOk result (map (λ p. p.now) found.new.items
+        ≡ map (λ p. p.now) found.old.items ++ map (λ p. trim p.now) pieces.now) }
 {
     for piece in pieces {
         found.push(piece.trim())?;

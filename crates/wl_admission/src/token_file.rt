@@ -4,7 +4,8 @@ ghost use Rattle.std.specs.Prelude.{◌≡◌, ◌++◌, ◌∷◌, [], filter, 
 ghost use Rattle.std.specs.Str.Lines.{lines};
 ghost use Rattle.wl_admission.specs.Scopes.{reach_of};
 ghost use Rattle.wl_admission.specs.declared.token_file.TokenFileFault.TheVariants.{Memory as OutOfMemory};
-ghost use Rattle.wl_admission.specs.Tokens.{Answers, origins_of, reach_listed, rule_in, rule_of, rules_from, rules_in, rules_of, words};
+ghost use Rattle.wl_admission.specs.Tokens.{Answers, origins_of, reach_listed, rule_in, rule_of, rules_from, rules_in};
+ghost use Rattle.wl_admission.specs.Tokens.{rules_of, words};
 
 use crate::pieces::pieces;
 use crate::scope::{Scope, origin_in};
@@ -143,7 +144,8 @@ fn words_in(alloc: Global, line: &str) -> Result<Vec<&str>, AllocError>
 
 /// Adds the pieces that are words.
 fn push_words<'a>(found: &mut Vec<&'a str>, pieces: &[&'a str]) -> Result<(), AllocError>
-    ensures { OnOk result (map (λ w. w.now) found.new.items ≡ map (λ w. w.now) found.old.items ++ filter (λ w. nat_lt 0 (length w)) (map (λ p. p.now) pieces.now)) }
+    ensures { OnOk result (map (λ w. w.now) found.new.items
+        ≡ map (λ w. w.now) found.old.items ++ filter (λ w. nat_lt 0 (length w)) (map (λ p. p.now) pieces.now)) }
 {
     for piece in pieces {
         push_word(found, piece)?;
@@ -153,7 +155,8 @@ fn push_words<'a>(found: &mut Vec<&'a str>, pieces: &[&'a str]) -> Result<(), Al
 
 /// Adds a word, if it is one.
 fn push_word<'a>(found: &mut Vec<&'a str>, word: &'a str) -> Result<(), AllocError>
-    ensures { OnOk result (map (λ w. w.now) found.new.items ≡ map (λ w. w.now) found.old.items ++ filter (λ w. nat_lt 0 (length w)) (word.now ∷ [])) }
+    ensures { OnOk result (map (λ w. w.now) found.new.items
+        ≡ map (λ w. w.now) found.old.items ++ filter (λ w. nat_lt 0 (length w)) (word.now ∷ [])) }
 {
     if !word.is_empty() {
         found.push(word)?;

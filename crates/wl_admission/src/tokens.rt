@@ -23,8 +23,8 @@ pub struct Tokens {
 impl Tokens {
     /// What the first grant of this token lets open; nothing where there is none.
     ///
-    /// All grants are looked at, and of each all bytes, whatever they are, so that the time tells how many there are and
-    /// how long, but not how far a guess is right. That is how the code is written: no contract speaks of time.
+    /// All grants are looked at, and of each all bytes, whatever they are, so that the time tells how many there are
+    /// and how long, but not how far a guess is right. That is how the code is written: no contract speaks of time.
     pub fn scope_of(&self, token: &[u8]) -> Option<&Scope>
         ensures { option_map (λ scope. reach_of scope.now) result ≡ reach_by (rules_of self.now) token.now }
     {

@@ -18,8 +18,10 @@ module _ {M : Type 1} {𝓤 : Ura M} (𝓛 : Logic 𝓤) where
   opens_non_null null_ptr F t = absurd t
 
   -- a cell with a pointer is a pointer in memory
-  pub ptr_in : (q : Share) (p : Ptr) (b o : ℕ) → ent 𝓤 (sem 𝓛 (fat q ty_ptr b o (ptr_val p))) (sem 𝓛 (part_at RawPtr q p b o))
+  pub ptr_in : (q : Share) (p : Ptr) (b o : ℕ) → ent 𝓤 (sem 𝓛 (fat q ty_ptr b o (ptr_val p)))
+      (sem 𝓛 (part_at RawPtr q p b o))
   unfolding part_of
   ptr_in q p b o =
-      qed 𝓛 (‵ (fat q ty_ptr b o (ptr_val p)) ∷ []) ∵ feq_i ! (List Val) (ptr_val p ∷ []) (ptr_val p ∷ []) refl $ move ! (1 ∷ 0 ∷ []) $ fjoin ! $
+      qed 𝓛 (‵ (fat q ty_ptr b o (ptr_val p)) ∷ []) ∵ feq_i ! (List Val) (ptr_val p ∷ []) (ptr_val p ∷ []) refl $ move !
+      (1 ∷ 0 ∷ []) $ fjoin ! $
       fpack ! (List Val) (λ vs. fsep (cell_at q RawPtr.mir vs b o) (RawPtr.own_val p vs)) (ptr_val p ∷ []) $ done !

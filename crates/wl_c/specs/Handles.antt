@@ -1,5 +1,6 @@
 -- The memory behind the pointers of a call: what C hands over with it, and has back.
-use Rattle.std.specs.Prelude.{ℕ, ℤ, List, ◌≡◌, ◌<◌, ◌⊎◌, length, Bool, true, false, not, Option, Some, None, Result, is_ok, pos}
+use Rattle.std.specs.Prelude.{ℕ, ℤ, List, ◌≡◌, ◌<◌, ◌⊎◌, length, Bool, true, false, not, Option, Some, None, Result}
+use Rattle.std.specs.Prelude.{is_ok, pos}
 use Rattle.std.specs.Ordering.{int_eq}
 use Rattle.std.specs.Ptr.{if_non_null}
 use Rattle.std.specs.Vec.{vec_ptr}
@@ -36,7 +37,8 @@ Opens keep_books (Some world) = IsOpening (not (int_eq keep_books (pos 0))) worl
 
 -- at 0 C has the handle of such a world, and else what it had
 abbrev pub IsNew : ℤ → Option World → Option World → ℤ → Type 0
-IsNew keep_books before now code = ((code ≡ pos 0) × Opens keep_books now) ⊎ ((code ≡ fault_code Memory) × (now ≡ before))
+IsNew keep_books before now code = ((code ≡ pos 0) × Opens keep_books now)
+    ⊎ ((code ≡ fault_code Memory) × (now ≡ before))
 
 -- ---- calls with a world
 -- the rooms for the reply and its length, with these in them where the call did what it is for
@@ -46,7 +48,8 @@ rooms false reply reply_length at n = fsep (room_at RawPtr reply) (room_at usize
 
 -- the rooms after a call of this outcome: the reply is where the world keeps it
 abbrev pub told : Result (Unit {0}) Fault → Ptr → Ptr → World → Fml
-told outcome reply reply_length world = rooms (is_ok outcome) reply reply_length (vec_ptr world.reply) (length world.reply.items)
+told outcome reply reply_length world = rooms (is_ok outcome) reply reply_length (vec_ptr world.reply)
+    (length world.reply.items)
 
 -- how a call became C's answer to it
 pub record IsReply (outcome : Result (Unit {0}) Fault) (reply : Reply) (world : World) : Type 0 where
@@ -68,18 +71,22 @@ abbrev pub Answered : World → List ℕ → Result (Unit {0}) Fault → World �
 Answered before line outcome now = Answers before.live line outcome now.live now.reply.items
 
 abbrev pub Says : World → List ℕ → Reply → World → Type 0
-Says before line reply now = (outcome : Result (Unit {0}) Fault) × Answered before line outcome now × IsReply outcome reply now
+Says before line reply now = (outcome : Result (Unit {0}) Fault) × Answered before line outcome now
+    × IsReply outcome reply now
 
 -- what the pointers that aren't null lead to
 abbrev pub may_ask : Ptr → Ptr → ℕ → Ptr → Ptr → Asking → Fml
 may_ask world line n reply reply_length g =
-    fsep (if_non_null world (handle g.alloc world g.world)) (fsep (if_non_null line (lies_at (Array u8 n) g.share line g.line))
+    fsep (if_non_null world (handle g.alloc world g.world))
+    (fsep (if_non_null line (lies_at (Array u8 n) g.share line g.line))
     (fsep (if_non_null reply (room_at RawPtr reply)) (if_non_null reply_length (room_at usize reply_length))))
 
 abbrev pub was_answered : Ptr → Ptr → ℕ → Ptr → Ptr → Asking → ℤ → Fml
 was_answered world line n reply reply_length g code =
-    fex World (λ now. fex (Result (Unit {0}) Fault) (λ outcome. fex ((code ≡ code_of outcome) × Answered g.world g.line outcome now) (λ _.
-    fsep (handle g.alloc world now) (fsep (lies_at (Array u8 n) g.share line g.line) (told outcome reply reply_length now)))))
+    fex World (λ now. fex (Result (Unit {0}) Fault) (λ outcome. fex
+    ((code ≡ code_of outcome) × Answered g.world g.line outcome now) (λ _.
+    fsep (handle g.alloc world now) (fsep (lies_at (Array u8 n) g.share line g.line)
+    (told outcome reply reply_length now)))))
 
 -- why a call isn't made: one of its pointers is null, or its line is too long
 pub record IsBarred (n : ℕ) (code : ℤ) : Type 0 where
@@ -91,10 +98,12 @@ pub record IsBarred (n : ℕ) (code : ℤ) : Type 0 where
 -- a call that isn't made leaves all as it was
 abbrev pub had_answer : Bool → Ptr → Ptr → ℕ → Ptr → Ptr → Asking → ℤ → Fml
 had_answer true world line n reply reply_length g code = was_answered world line n reply reply_length g code
-had_answer false world line n reply reply_length g code = fex (IsBarred n code) (λ _. may_ask world line n reply reply_length g)
+had_answer false world line n reply reply_length g code = fex (IsBarred n code)
+    (λ _. may_ask world line n reply reply_length g)
 
 abbrev pub after_answer : Ptr → Ptr → ℕ → Ptr → Ptr → Asking → ℤ → Fml
-after_answer world line n reply reply_length g code = fex Bool (λ asked. had_answer asked world line n reply reply_length g code)
+after_answer world line n reply reply_length g code = fex Bool
+    (λ asked. had_answer asked world line n reply reply_length g code)
 
 -- ---- a call for an audit
 pub record Auditing : Type 0 where
@@ -105,7 +114,8 @@ abbrev pub Audited : World → Result (Unit {0}) Fault → World → Type 0
 Audited before outcome now = Audits before.live outcome now.live now.reply.items
 
 abbrev pub SaysAudit : World → Reply → World → Type 0
-SaysAudit before reply now = (outcome : Result (Unit {0}) Fault) × Audited before outcome now × IsReply outcome reply now
+SaysAudit before reply now = (outcome : Result (Unit {0}) Fault) × Audited before outcome now
+    × IsReply outcome reply now
 
 abbrev pub may_audit : Ptr → Ptr → Ptr → Auditing → Fml
 may_audit world reply reply_length g = fsep (if_non_null world (handle g.alloc world g.world))
@@ -113,12 +123,14 @@ may_audit world reply reply_length g = fsep (if_non_null world (handle g.alloc w
 
 abbrev pub was_audited : Ptr → Ptr → Ptr → Auditing → ℤ → Fml
 was_audited world reply reply_length g code =
-    fex World (λ now. fex (Result (Unit {0}) Fault) (λ outcome. fex ((code ≡ code_of outcome) × Audited g.world outcome now) (λ _.
+    fex World (λ now. fex (Result (Unit {0}) Fault) (λ outcome. fex
+    ((code ≡ code_of outcome) × Audited g.world outcome now) (λ _.
     fsep (handle g.alloc world now) (told outcome reply reply_length now))))
 
 abbrev pub had_audit : Bool → Ptr → Ptr → Ptr → Auditing → ℤ → Fml
 had_audit true world reply reply_length g code = was_audited world reply reply_length g code
-had_audit false world reply reply_length g code = fex (code ≡ fault_code Null) (λ _. may_audit world reply reply_length g)
+had_audit false world reply reply_length g code = fex (code ≡ fault_code Null)
+    (λ _. may_audit world reply reply_length g)
 
 abbrev pub after_audit : Ptr → Ptr → Ptr → Auditing → ℤ → Fml
 after_audit world reply reply_length g code = fex Bool (λ asked. had_audit asked world reply reply_length g code)

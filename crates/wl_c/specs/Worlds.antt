@@ -1,5 +1,6 @@
 -- What the calls of a world do. A world is live until a growth is refused.
-use Rattle.std.specs.Prelude.{ℕ, List, [], ◌∷◌, ◌++◌, ◌≡◌, ◌<◌, length, Bool, if◌then◌else◌, Option, Some, None, option_map, Result, Ok, Err}
+use Rattle.std.specs.Prelude.{ℕ, List, [], ◌∷◌, ◌++◌, ◌≡◌, ◌<◌, length, Bool, if◌then◌else◌, Option, Some, None}
+use Rattle.std.specs.Prelude.{option_map, Result, Ok, Err}
 use Rattle.wl_world.specs.World.{World, next, reply, opening}
 use Rattle.wl_world.specs.Worlds.{world_of}
 use Rattle.wl_script.specs.Lines.{HasNoLf, lines}
@@ -23,12 +24,14 @@ longer line script = option_map (λ lines. lines ++ line ++ 10 ∷ []) script
 -- nobody opened, and books are kept as was asked
 abbrev pub IsOpening : Bool → Option Live → Type 0
 IsOpening keeps_books None = ⊥
-IsOpening keeps_books (Some live) = (world_of_live live ≡ opening) × (script_of live ≡ (if keeps_books then Some [] else None))
+IsOpening keeps_books (Some live) = (world_of_live live ≡ opening)
+    × (script_of live ≡ (if keeps_books then Some [] else None))
 
 -- the line was answered: so is its reply, and such is the world after it
 abbrev pub Steps : Live → List ℕ → Option Live → List ℕ → Type 0
 Steps before line None said = ⊥
-Steps before line (Some now) said = (world_of_live now ≡ next (world_of_live before) line) × (said ≡ reply (world_of_live before) line)
+Steps before line (Some now) said = (world_of_live now ≡ next (world_of_live before) line)
+    × (said ≡ reply (world_of_live before) line)
     × (script_of now ≡ longer line (script_of before))
 
 -- why the line wasn't answered, and what is left

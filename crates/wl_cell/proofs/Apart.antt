@@ -1,7 +1,8 @@
 -- No two phases share a word.
 use Rattle.std.proofs.Common.{◌≡◌, ℕ, refl, ap, arith}
 use Rattle.wl_types.specs.declared.phases.Phase.{Phase}
-use Rattle.wl_types.specs.declared.phases.Phase.TheVariants.{Pending, Granted, Taken, Unavailable, Aborted, Released, Stolen}
+use Rattle.wl_types.specs.declared.phases.Phase.TheVariants.{Pending, Granted, Taken, Unavailable, Aborted, Released}
+use Rattle.wl_types.specs.declared.phases.Phase.TheVariants.{Stolen}
 use Rattle.wl_types.specs.declared.words.Reason.{Reason}
 use Rattle.wl_types.specs.declared.words.Reason.TheVariants.{AbortError, TimeoutError, Code}
 use Rattle.wl_cell.specs.Words.{word_of, reason_number}
@@ -20,5 +21,6 @@ words_apart Taken Taken e = refl
 words_apart Unavailable Unavailable e = refl
 words_apart Released Released e = refl
 words_apart Stolen Stolen e = refl
-words_apart (Aborted a) (Aborted b) e = let same : reason_number a ≡ reason_number b = omega arith in ap (λ (reason : Reason). Aborted reason) (reasons_apart a b same)
+words_apart (Aborted a) (Aborted b) e = let same : reason_number a ≡ reason_number b = omega arith
+    in ap (λ (reason : Reason). Aborted reason) (reasons_apart a b same)
 words_apart a b e = absurd (omega arith)

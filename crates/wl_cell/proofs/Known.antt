@@ -18,7 +18,8 @@ known_reaches : (n : ℕ) (w : Phase) (j : ℕ) (v : View) → Fits n w j v → 
 known_reaches n w j First f p k = inl (k ∙ sym f.2)
 known_reaches n w j (Keeper m) f p k = subst (λ q. Reaches q w) (sym k) (settled_reaches m w f.2)
 known_reaches n w j (Owner t s) f p k = subst (λ q. Reaches q w) (sym k) f.1
-known_reaches n w j (Watch s told) f p k = ⊎_elim (λ (e : p ≡ s). subst (λ q. Reaches q w) (sym e) f.0) (λ (e : p ≡ told). subst (λ q. Reaches q w) (sym e) f.1) k
+known_reaches n w j (Watch s told) f p k = ⊎_elim (λ (e : p ≡ s). subst (λ q. Reaches q w) (sym e) f.0)
+    (λ (e : p ≡ told). subst (λ q. Reaches q w) (sym e) f.1) k
 known_reaches n w j (Note s) f p k = subst (λ q. Reaches q w) (sym k) f
 known_reaches n w j Spent f p k = absurd k
 
@@ -35,11 +36,13 @@ same_end : (p q w : Phase) → IsTrue (is_end p) → IsTrue (is_end q) → Reach
 same_end p q w a b r s = grind arith
 
 pub ends_are_equal : EndsAreEqual
-ends_are_equal cell kept p q a b k l = same_end p q kept.phase a b (reaches_word cell kept p k) (reaches_word cell kept q l)
+ends_are_equal cell kept p q a b k l = same_end p q kept.phase a b (reaches_word cell kept p k)
+    (reaches_word cell kept q l)
 
 aborted_or_taken : (r : Reason) (w : Phase) → Reaches Taken w → Reaches (Aborted r) w → ⊥
 aborted_or_taken r w a b = absurd (grind arith)
 
 pub no_abort_once_taken : NoAbortOnceTaken
 no_abort_once_taken cell kept j seen at r k =
-    let f = kept.seats j (Owner true seen) at in aborted_or_taken r kept.phase (f.2 refl) (reaches_word cell kept (Aborted r) k)
+    let f = kept.seats j (Owner true seen) at in aborted_or_taken r kept.phase (f.2 refl)
+    (reaches_word cell kept (Aborted r) k)

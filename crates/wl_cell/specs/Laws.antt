@@ -26,17 +26,20 @@ IsKnown cell phase = (number : ℕ) × (view : View) × (get_elem? cell.views nu
 
 -- of two phases that are known, one reaches the other
 abbrev pub SeatsAgree : Type 0
-SeatsAgree = (cell : Cell) → Kept cell → (one other : Phase) → IsKnown cell one → IsKnown cell other → Reaches one other ⊎ Reaches other one
+SeatsAgree = (cell : Cell) → Kept cell → (one other : Phase) → IsKnown cell one → IsKnown cell other
+    → Reaches one other ⊎ Reaches other one
 
 -- two ends that are known are equal
 abbrev pub EndsAreEqual : Type 0
 EndsAreEqual =
-    (cell : Cell) → Kept cell → (one other : Phase) → IsTrue (is_end one) → IsTrue (is_end other) → IsKnown cell one → IsKnown cell other → one ≡ other
+    (cell : Cell) → Kept cell → (one other : Phase) → IsTrue (is_end one) → IsTrue (is_end other) → IsKnown cell one
+    → IsKnown cell other → one ≡ other
 
 -- where the owner took the lock, no abort is known
 abbrev pub NoAbortOnceTaken : Type 0
 NoAbortOnceTaken =
-    (cell : Cell) → Kept cell → (number : ℕ) (seen : Phase) → get_elem? cell.views number ≡ some (Owner true seen) → (reason : Reason) → ¬ IsKnown cell (Aborted reason)
+    (cell : Cell) → Kept cell → (number : ℕ) (seen : Phase) → get_elem? cell.views number ≡ some (Owner true seen)
+    → (reason : Reason) → ¬ IsKnown cell (Aborted reason)
 
 -- no two phases share a word, and so no two reasons
 abbrev pub WordsTellPhasesApart : Type 0

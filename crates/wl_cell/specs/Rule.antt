@@ -24,7 +24,8 @@ UpToTaken settled word = (settled ≡ word) ⊎ ((settled ≡ Granted) × (word 
 abbrev pub Fits : ℕ → Phase → ℕ → View → Type 0
 Fits seats word number First = (number ≡ 0) × (seats ≡ 1) × (word ≡ Pending)
 Fits seats word number (Keeper settled) = (number ≡ 1) × (1 < seats) × UpToTaken settled word
-Fits seats word number (Owner took seen) = (number ≡ 0) × Reaches seen word × (took ≡ true → Reaches Taken word) × (took ≡ false → word ≢ Taken)
+Fits seats word number (Owner took seen) = (number ≡ 0) × Reaches seen word × (took ≡ true → Reaches Taken word)
+    × (took ≡ false → word ≢ Taken)
 Fits seats word number (Watch seen told) = Reaches seen word × Reaches told word
 Fits seats word number (Note seen) = Reaches seen word
 Fits seats word number Spent = Unit {0}
@@ -34,7 +35,8 @@ pub record Kept (cell : Cell) : Type 0 where
   pub phase : Phase
   pub range : word_of phase < word_count
   pub word : cell.words ≡ word_of phase ∷ []
-  pub seats : (number : ℕ) (view : View) → get_elem? cell.views number ≡ some view → Fits (length cell.views) phase number view
+  pub seats : (number : ℕ) (view : View) → get_elem? cell.views number ≡ some view
+      → Fits (length cell.views) phase number view
 
 -- the phase that a seat saw last
 abbrev pub seen : View → Phase

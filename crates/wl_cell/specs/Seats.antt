@@ -35,6 +35,8 @@ may_settle from to = is_move from to
 
 -- what an owner's try to take its lock tells
 abbrev pub Takes : OwnerSeat → Taking → OwnerSeat → Type 0
-Takes old Taken new = (old.took ≡ false) × Reaches old.seen phase.Granted × (new ≡ record old { seen = phase.Taken; took = true })
+Takes old Taken new = (old.took ≡ false) × Reaches old.seen phase.Granted
+    × (new ≡ record old { seen = phase.Taken; took = true })
 Takes old Pending new = Reaches old.seen phase.Pending × (new ≡ record old { seen = phase.Pending })
-Takes old (Before found) new = (found ≢ phase.Pending) × (found ≢ phase.Granted) × Reaches old.seen found × (new ≡ record old { seen = found })
+Takes old (Before found) new = (found ≢ phase.Pending) × (found ≢ phase.Granted) × Reaches old.seen found
+    × (new ≡ record old { seen = found })

@@ -1,7 +1,8 @@
 -- The word that stands for each phase (own).
 use Rattle.std.specs.Prelude.{ℕ, ◌+◌}
 use Rattle.wl_types.specs.declared.phases.Phase.{Phase}
-use Rattle.wl_types.specs.declared.phases.Phase.TheVariants.{Pending, Granted, Taken, Unavailable, Aborted, Released, Stolen}
+use Rattle.wl_types.specs.declared.phases.Phase.TheVariants.{Pending, Granted, Taken, Unavailable, Aborted, Released}
+use Rattle.wl_types.specs.declared.phases.Phase.TheVariants.{Stolen}
 use Rattle.wl_types.specs.declared.words.Reason.{Reason}
 use Rattle.wl_types.specs.declared.words.Reason.TheVariants.{AbortError, TimeoutError, Code}
 use Rattle.wl_types.specs.Words.{max_code}

@@ -8,7 +8,8 @@ ghost use Rattle.wl_types.specs.declared.phases.Phase.TheVariants.{Granted, Take
 ghost use Rattle.wl_cell.specs.declared.view.View.TheVariants.{Keeper};
 ghost use Rattle.wl_cell.specs.Rule.{seen, took};
 ghost use Rattle.wl_cell.specs.inner.Rule.{owner_at};
-ghost use Rattle.wl_cell.specs.inner.Steps.{Precedes, seeing, taking, told, note_of, watch_of, owner_at_first, keeper_at_first};
+ghost use Rattle.wl_cell.specs.inner.Steps.{Precedes, seeing, taking, told, note_of, watch_of, owner_at_first};
+ghost use Rattle.wl_cell.specs.inner.Steps.{keeper_at_first};
 ghost use Rattle.wl_cell.specs.Seats.{may_settle};
 
 use crate::plays::{ForKeeper, ForNote, ForWatch, Look, Settle, Take, Told, TryAbort};
@@ -35,7 +36,8 @@ impl Model for Handle {
 
     ghost view = { λ h. record { cell = h.seat.table_id; knows = h.seat.me.0 } };
 
-    ghost invariant = { λ h. (h.seat.table_id ≡ (arc_value h.board).shared.table_id) × ((arc_value h.board).shared.table_id.words ≡ 1) × (h.seat.me.1 ≡ []) };
+    ghost invariant = { λ h. (h.seat.table_id ≡ (arc_value h.board).shared.table_id)
+        × ((arc_value h.board).shared.table_id.words ≡ 1) × (h.seat.me.1 ≡ []) };
 }
 
 impl Handle {

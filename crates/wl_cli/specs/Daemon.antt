@@ -1,5 +1,6 @@
 -- The subcommand `daemon`, and what its options ask for (own).
-use Rattle.std.specs.Prelude.{◌≡◌, ℕ, List, [], ◌∷◌, Bool, true, false, Option, Some, None, is_some, map, option_map, unwrap_or, codes, pos}
+use Rattle.std.specs.Prelude.{◌≡◌, ℕ, List, [], ◌∷◌, Bool, true, false, Option, Some, None, is_some, map, option_map}
+use Rattle.std.specs.Prelude.{unwrap_or, codes, pos}
 use Rattle.std.specs.Net.Grammar.{IsSocketText}
 use Rattle.std.specs.declared.net.socket_addr.SocketAddr.{SocketAddr}
 use Rattle.clap.specs.Words.{App, Row, Rule, Text, all_of, first_of, new_app, new_rule, one_of, with_rule}
@@ -15,7 +16,12 @@ use Rattle.wl_cli.specs.declared.epoch.EpochSource.TheVariants.{Number, File}
 
 -- an option with a value, for which help has a name
 abbrev pub value_rule : Text → ValueParser → Rule
-value_rule name parser = record (new_rule name) { long = Some name; value_names = 1; action = Some Set; parser = Some parser }
+value_rule name parser = record (new_rule name) {
+  long = Some name;
+  value_names = 1;
+  action = Some Set;
+  parser = Some parser;
+}
 
 -- the same that may be given again
 abbrev pub again_rule : Text → ValueParser → Rule
@@ -34,7 +40,8 @@ abbrev pub flag_rule : Text → Rule
 flag_rule name = record (new_rule name) { long = Some name; action = Some SetTrue }
 
 abbrev pub listen_app : App
-listen_app = with_rule (new_app (codes "daemon")) (by_default (codes "127.0.0.1:8080") (again_rule (codes "listen") values.String))
+listen_app = with_rule (new_app (codes "daemon")) (by_default (codes "127.0.0.1:8080")
+    (again_rule (codes "listen") values.String))
 
 abbrev pub limits_app : App
 limits_app =
@@ -71,7 +78,8 @@ epoch_app =
     (value_rule (codes "epoch-file") values.NonEmptyString)
 
 abbrev pub daemon_app : App
-daemon_app = with_rule (with_rule epoch_app (flag_rule (codes "while-input"))) (by_default (codes "info") (value_rule (codes "log") values.String))
+daemon_app = with_rule (with_rule epoch_app (flag_rule (codes "while-input")))
+    (by_default (codes "info") (value_rule (codes "log") values.String))
 
 -- an option without a value is used just where it is given
 pub record IsUsed (name : Text) (rows : List Row) (used : Bool) : Type 0 where
@@ -87,12 +95,15 @@ MayHaveAddress name rows (Some address) = (text : Text) × (one_of name rows ≡
 -- a number gives the epoch, or a file, or nothing
 abbrev pub MayHaveEpoch : List Row → Option EpochSource → Type 0
 MayHaveEpoch rows None = (one_of (codes "epoch") rows ≡ None) × (first_of (codes "epoch-file") rows ≡ None)
-MayHaveEpoch rows (Some (Number n)) = HasNumberTo 9223372036854775807 (codes "epoch") rows n × (first_of (codes "epoch-file") rows ≡ None)
-MayHaveEpoch rows (Some (File path)) = (one_of (codes "epoch") rows ≡ None) × (first_of (codes "epoch-file") rows ≡ Some path.now)
+MayHaveEpoch rows (Some (Number n)) = HasNumberTo 9223372036854775807 (codes "epoch") rows n
+    × (first_of (codes "epoch-file") rows ≡ None)
+MayHaveEpoch rows (Some (File path)) = (one_of (codes "epoch") rows ≡ None)
+    × (first_of (codes "epoch-file") rows ≡ Some path.now)
 
 -- a number and a file are to give it
 abbrev pub HasTwoEpochs : List Row → Type 0
-HasTwoEpochs rows = (is_some (one_of (codes "epoch") rows) ≡ true) × (is_some (first_of (codes "epoch-file") rows) ≡ true)
+HasTwoEpochs rows = (is_some (one_of (codes "epoch") rows) ≡ true)
+    × (is_some (first_of (codes "epoch-file") rows) ≡ true)
 
 -- the options' texts ask for this
 pub record AsksFor (rows : List Row) (options : DaemonOptions) : Type 0 where
@@ -107,7 +118,8 @@ pub record AsksFor (rows : List Row) (options : DaemonOptions) : Type 0 where
   pub is_sharded : IsUsed (codes "sharded") rows options.is_sharded
   pub origins : map (λ text. text.now) options.allow_origins.items ≡ unwrap_or (all_of (codes "allow-origin") rows) []
   pub status : MayHaveAddress (codes "status") rows options.status
-  pub status_hosts : map (λ text. text.now) options.status_hosts.items ≡ unwrap_or (all_of (codes "status-host") rows) []
+  pub status_hosts : map (λ text. text.now) options.status_hosts.items
+      ≡ unwrap_or (all_of (codes "status-host") rows) []
   pub epoch : MayHaveEpoch rows options.epoch
   pub while_input : IsUsed (codes "while-input") rows options.while_input
   pub log : (text : Text) × (one_of (codes "log") rows ≡ Some text) × (parse_filter text ≡ Some options.log)

@@ -5,7 +5,8 @@ use Rattle.clap.specs.Words.{Row, Text, one_of}
 
 -- the option's text is this number
 abbrev pub HasNumber : Text → List Row → ℕ → Type 0
-HasNumber name rows n = (text : Text) × (one_of name rows ≡ Some text) × (digits_value 10 (without_leading_plus text) ≡ n)
+HasNumber name rows n = (text : Text) × (one_of name rows ≡ Some text)
+    × (digits_value 10 (without_leading_plus text) ≡ n)
 
 -- the same, of a number from 1 to `most`
 abbrev pub HasNumberTo : ℕ → Text → List Row → ℕ → Type 0

@@ -22,8 +22,8 @@ pub enum OptionFault {
     Memory,
 }
 
-/// The number of an option that has a default. `clap` has tested the range; it is tested again, since no contract of its
-/// says so.
+/// The number of an option that has a default. `clap` has tested the range; it is tested again, since no contract of
+/// its says so.
 pub fn number_in(options: &ArgMatches<'_>, name: &str, most: u32) -> Result<u32, OptionFault>
     ensures ok { IfOk result (HasNumberTo most name.now (rows_of (found_of options.now))) }
     ensures err { IfErr result (λ fault. fault ≡ OptionFault.Memory) }
@@ -58,7 +58,8 @@ pub fn texts_in<'a>(
     options: &ArgMatches<'a>,
     name: &str,
 ) -> Result<Vec<&'a str>, OptionFault>
-    ensures ok { IfOk result (λ found. map (λ text. text.now) found.items ≡ unwrap_or (all_of name.now (rows_of (found_of options.now))) []) }
+    ensures ok { IfOk result (λ found. map (λ text. text.now) found.items
+        ≡ unwrap_or (all_of name.now (rows_of (found_of options.now))) []) }
     ensures err { IfErr result (λ fault. fault ≡ OptionFault.Memory) }
 {
     let mut texts = Vec::new(alloc);

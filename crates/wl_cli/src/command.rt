@@ -4,7 +4,8 @@ ghost use Rattle.std.specs.Prelude.{◌≡◌, pos, IfOk, codes, false};
 ghost use Rattle.clap.specs.Words.{app_of, rule_of};
 ghost use Rattle.clap.specs.declared.builder.command.Command.TheViews.{out-Command as fields_of};
 ghost use Rattle.clap.specs.declared.builder.value_parser.ValueParser.TheVariants as values;
-ghost use Rattle.wl_cli.specs.Words.{weblocks_app, audit_app, client_app, run_app, scripts_app, serve_app, timeline_app, number_rule};
+ghost use Rattle.wl_cli.specs.Words.{weblocks_app, audit_app, client_app, run_app, scripts_app, serve_app};
+ghost use Rattle.wl_cli.specs.Words.{timeline_app, number_rule};
 
 use crate::daemon_command::daemon_command;
 use crate::texts::{
@@ -77,7 +78,8 @@ fn number<'a>(
     help: &'a str,
     parser: ValueParser<'a>,
 ) -> Arg<'a>
-    ensures rule { (most : _) → parser.entry ≡ values.Signed (pos 1) (pos most) → rule_of result ≡ number_rule name.entry.now most }
+    ensures rule { (most : _) → parser.entry ≡ values.Signed (pos 1) (pos most)
+        → rule_of result ≡ number_rule name.entry.now most }
     ensures local { result.global ≡ false }
 {
     Arg::new(alloc, name)

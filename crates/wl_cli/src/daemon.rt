@@ -81,10 +81,14 @@ pub fn daemon_in<'a>(
     options: &ArgMatches<'a>,
 ) -> Result<DaemonOptions<'a>, OptionFault>
     ensures asked { IfOk result (AsksFor (rows_of (found_of options.now))) }
-    ensures listen { IfErr result (λ fault. fault ≡ OptionFault.Listen → HasWrongEndpoint (rows_of (found_of options.now))) }
-    ensures log { IfErr result (λ fault. fault ≡ OptionFault.Log → HasNoLevel (one_of (codes "log") (rows_of (found_of options.now)))) }
-    ensures status { IfErr result (λ fault. fault ≡ OptionFault.Status → HasNoAddress (one_of (codes "status") (rows_of (found_of options.now)))) }
-    ensures epochs { IfErr result (λ fault. fault ≡ OptionFault.TwoEpochs → HasTwoEpochs (rows_of (found_of options.now))) }
+    ensures listen { IfErr result (λ fault. fault ≡ OptionFault.Listen
+        → HasWrongEndpoint (rows_of (found_of options.now))) }
+    ensures log { IfErr result (λ fault. fault ≡ OptionFault.Log
+        → HasNoLevel (one_of (codes "log") (rows_of (found_of options.now)))) }
+    ensures status { IfErr result (λ fault. fault ≡ OptionFault.Status
+        → HasNoAddress (one_of (codes "status") (rows_of (found_of options.now)))) }
+    ensures epochs { IfErr result (λ fault. fault ≡ OptionFault.TwoEpochs
+        → HasTwoEpochs (rows_of (found_of options.now))) }
 {
     if options.get_str("log").is_none() {
         return Err(OptionFault::Memory);

@@ -3,7 +3,8 @@
 ghost use Rattle.std.specs.Prelude.{◌≡◌, IfOk, codes, false};
 ghost use Rattle.clap.specs.Words.{app_of, rule_of};
 ghost use Rattle.clap.specs.declared.builder.command.Command.TheViews.{out-Command as fields_of};
-ghost use Rattle.wl_cli.specs.Daemon.{admission_app, again_rule, daemon_app, epoch_app, flag_rule, limits_app, listen_app, option_rule, status_app, value_rule};
+ghost use Rattle.wl_cli.specs.Daemon.{admission_app, again_rule, daemon_app, epoch_app, flag_rule, limits_app};
+ghost use Rattle.wl_cli.specs.Daemon.{listen_app, option_rule, status_app, value_rule};
 
 use crate::daemon::{MOST_CONNECTIONS, MOST_IDLE, MOST_LOOPS, MOST_MANAGERS};
 use crate::epoch::MOST_EPOCH;
@@ -76,7 +77,8 @@ fn flag<'a>(alloc: Global, name: &'a str, help: &'a str) -> Arg<'a>
 /// Who may come in, from where.
 fn with_admission<'a>(alloc: Global, command: Command<'a>) -> Result<Command<'a>, AllocError>
     ensures app { app_of command.entry ≡ limits_app → IfOk result (λ c. app_of c ≡ admission_app) }
-    ensures local { (fields_of command.entry).has_globals ≡ false → IfOk result (λ c. (fields_of c).has_globals ≡ false) }
+    ensures local { (fields_of command.entry).has_globals ≡ false
+        → IfOk result (λ c. (fields_of c).has_globals ≡ false) }
 {
     let file = ValueParser::NonEmptyString;
     let origin = repeatable(
@@ -96,7 +98,8 @@ fn with_admission<'a>(alloc: Global, command: Command<'a>) -> Result<Command<'a>
 /// Where the status is shown, and by which names.
 fn with_status<'a>(alloc: Global, command: Command<'a>) -> Result<Command<'a>, AllocError>
     ensures app { app_of command.entry ≡ admission_app → IfOk result (λ c. app_of c ≡ status_app) }
-    ensures local { (fields_of command.entry).has_globals ≡ false → IfOk result (λ c. (fields_of c).has_globals ≡ false) }
+    ensures local { (fields_of command.entry).has_globals ≡ false
+        → IfOk result (λ c. (fields_of c).has_globals ≡ false) }
 {
     let address = ValueParser::string();
     let host = repeatable(
@@ -114,7 +117,8 @@ fn with_status<'a>(alloc: Global, command: Command<'a>) -> Result<Command<'a>, A
 /// What gives the epoch of fencing tokens.
 fn with_epoch<'a>(alloc: Global, command: Command<'a>) -> Result<Command<'a>, AllocError>
     ensures app { app_of command.entry ≡ status_app → IfOk result (λ c. app_of c ≡ epoch_app) }
-    ensures local { (fields_of command.entry).has_globals ≡ false → IfOk result (λ c. (fields_of c).has_globals ≡ false) }
+    ensures local { (fields_of command.entry).has_globals ≡ false
+        → IfOk result (λ c. (fields_of c).has_globals ≡ false) }
 {
     let epoch = ValueParser::signed(1, MOST_EPOCH);
     let file = ValueParser::NonEmptyString;
@@ -126,7 +130,8 @@ fn with_epoch<'a>(alloc: Global, command: Command<'a>) -> Result<Command<'a>, Al
 /// How many of what.
 fn with_limits<'a>(alloc: Global, command: Command<'a>) -> Result<Command<'a>, AllocError>
     ensures app { app_of command.entry ≡ listen_app → IfOk result (λ c. app_of c ≡ limits_app) }
-    ensures local { (fields_of command.entry).has_globals ≡ false → IfOk result (λ c. (fields_of c).has_globals ≡ false) }
+    ensures local { (fields_of command.entry).has_globals ≡ false
+        → IfOk result (λ c. (fields_of c).has_globals ≡ false) }
 {
     command
         .arg(number(alloc, "connections", CONNECTIONS, MOST_CONNECTIONS).default_value("10000"))?

@@ -3,7 +3,8 @@
 ghost use Rattle.std.specs.Prelude.{◌≡◌, ◌≢◌, [], map, IfErr, IfNone, IfOk, IfSome};
 ghost use Rattle.std.specs.List.{AllZip, filter_map};
 ghost use Rattle.clap.specs.Words.{found_of, rows_of};
-ghost use Rattle.wl_cli.specs.Endpoints.{address_of, HasNoEndpoint, HasWrongEndpoint, IsEndpointText, ListensAt, SomeIsWrong};
+ghost use Rattle.wl_cli.specs.Endpoints.{address_of, HasNoEndpoint, HasWrongEndpoint, IsEndpointText, ListensAt};
+ghost use Rattle.wl_cli.specs.Endpoints.{SomeIsWrong};
 ghost use Rattle.wl_cli.specs.inner.Endpoints.{IsListenFault};
 
 use crate::arguments::{OptionFault, texts_in};
@@ -99,7 +100,8 @@ pub fn endpoints_in<'a>(
 ) -> Result<Vec<Endpoint<'a>>, OptionFault>
     ensures ok { IfOk result (λ found. ListensAt (rows_of (found_of options.now)) found.items) }
     ensures err { IfErr result IsListenFault }
-    ensures wrong { IfErr result (λ fault. fault ≡ OptionFault.Listen → HasWrongEndpoint (rows_of (found_of options.now))) }
+    ensures wrong { IfErr result (λ fault. fault ≡ OptionFault.Listen
+        → HasWrongEndpoint (rows_of (found_of options.now))) }
 {
     let texts = texts_in(alloc, options, "listen")?;
     let endpoints = endpoints_of(alloc, texts.as_slice())?;

@@ -37,7 +37,8 @@ fn epoch_number(options: &ArgMatches<'_>) -> Result<u64, OptionFault>
 pub fn epoch_in<'a>(options: &ArgMatches<'a>) -> Result<Option<EpochSource<'a>>, OptionFault>
     ensures ok { IfOk result (MayHaveEpoch (rows_of (found_of options.now))) }
     ensures err { IfErr result IsEpochFault }
-    ensures both { IfErr result (λ fault. fault ≡ OptionFault.TwoEpochs → HasTwoEpochs (rows_of (found_of options.now))) }
+    ensures both { IfErr result (λ fault. fault ≡ OptionFault.TwoEpochs
+        → HasTwoEpochs (rows_of (found_of options.now))) }
 {
     let number = options.get_str("epoch");
     let file = options.get_str("epoch-file");

@@ -1,7 +1,8 @@
 //! The job that the words of the command line ask for.
 
 ghost use Rattle.std.specs.Prelude.{◌≡◌, [], map, IfOk, IfErr, IfSome, IsOk, IsSome, OnOk, Some, codes};
-ghost use Rattle.clap.specs.Words.{fault_of, found_of, kind_of, rows_of, subcommand_name_of, subcommand_of, subcommand_rows_of};
+ghost use Rattle.clap.specs.Words.{fault_of, found_of, kind_of, rows_of, subcommand_name_of, subcommand_of};
+ghost use Rattle.clap.specs.Words.{subcommand_rows_of};
 ghost use Rattle.wl_cli.specs.Words.{weblocks_app, HasNumber, IsJob, IsUsageFault};
 ghost use Rattle.wl_cli.specs.inner.Words.{IsUsageError};
 
@@ -44,7 +45,8 @@ pub fn job_of<'a>(alloc: Global, words: &'a [&'a str]) -> Result<Job<'a>, UsageF
     ensures job { IfOk result (IsJob (subcommand_of weblocks_app (map (λ s. s.now) words.entry.now))) }
     // A job is given just where the words have no fault, and a fault is one that they have.
     ensures right { OnOk result (fault_of weblocks_app (map (λ s. s.now) words.entry.now) ≡ []) }
-    ensures wrong { IfErr result (IsUsageFault (fault_of weblocks_app (map (λ s. s.now) words.entry.now)) (subcommand_of weblocks_app (map (λ s. s.now) words.entry.now))) }
+    ensures wrong { IfErr result (IsUsageFault (fault_of weblocks_app (map (λ s. s.now) words.entry.now))
+        (subcommand_of weblocks_app (map (λ s. s.now) words.entry.now))) }
 {
     let Ok(command) = weblocks_command(alloc) else {
         return Err(UsageFault::Memory);
@@ -154,7 +156,8 @@ fn clients_in(options: &ArgMatches<'_>) -> Option<u32>
     options.get_one::<u32>("clients")
 }
 
-/// `clap` has tested the ranges; that the options are there, and in range, is tested again, since no contract of its says so.
+/// `clap` has tested the ranges; that the options are there, and in range, is tested again, since no contract of its
+/// says so.
 fn serve_in<'a>(options: &ArgMatches<'_>) -> Option<Job<'a>>
     ensures { IfSome result (IsJob (Some (codes "serve", rows_of (found_of options.now)))) }
 {

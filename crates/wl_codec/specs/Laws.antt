@@ -17,7 +17,8 @@ abbrev pub MessagesAreReadAsSaid : Type 0
 MessagesAreReadAsSaid = (d : Data) (m : Message) → (reading_of (Some d) ≡ Good m) ↔ Says d m
 
 abbrev pub LinesAreReadAsSaid : Type 0
-LinesAreReadAsSaid = (d : Data) (agent : List ℕ) (m : Message) → (line_of (Some d) ≡ lines.Good agent m) ↔ LineSays d agent m
+LinesAreReadAsSaid = (d : Data) (agent : List ℕ) (m : Message)
+    → (line_of (Some d) ≡ lines.Good agent m) ↔ LineSays d agent m
 
 abbrev pub fault_of : Reading → Option CodecFault
 fault_of (Good m) = None

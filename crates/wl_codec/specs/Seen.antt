@@ -4,7 +4,8 @@ use Rattle.std.specs.declared.alloc.Global.{Global}
 use Rattle.json.specs.Json as json
 use Rattle.json.specs.Value.{value_view}
 use Rattle.json.specs.declared.value.Value.{Value}
-use Rattle.serde_json.specs.Data.{Num, negative, Data, null, boolean, number, string, array, object, Items, no_items, item, Members, no_members, put}
+use Rattle.serde_json.specs.Data.{Num, negative, Data, null, boolean, number, string, array, object, Items, no_items}
+use Rattle.serde_json.specs.Data.{item, Members, no_members, put}
 use Rattle.serde_json.specs.Read.{number_of}
 
 -- the number of a text; of one too large for a double, a number that is not whole

@@ -5,8 +5,8 @@ use wl_types::Memory;
 
 /// Room in which messages are read. Whoever reads many keeps one, and lends it to each read.
 ///
-/// It is empty until the first read, which allocates it, and grows to the longest message. What was read before bears on
-/// no later read.
+/// It is empty until the first read, which allocates it, and grows to the longest message. What was read before bears
+/// on no later read.
 #[derive(Drop)]
 pub struct Scratch {
     alloc: Global,

@@ -1,7 +1,7 @@
 //! The JSON value of some bytes, as a tree that borrows their texts.
 //!
-//! `json` reads the tree and looks for the last of a key that stands twice. It takes numbers of any size and leaves them
-//! texts, so their sizes are checked here.
+//! `json` reads the tree and looks for the last of a key that stands twice. It takes numbers of any size and leaves
+//! them texts, so their sizes are checked here.
 
 ghost use Rattle.std.specs.Prelude.{◌≡◌, IfOk, option_map, option_and_then};
 ghost use Rattle.json.specs.Json.{if_last, value};

@@ -3,15 +3,20 @@ use Rattle.std.proofs.Common.{◌≡◌, ℕ, Bool, true, false, List, [], ◌�
 use Rattle.std.specs.Prelude.{Option, Some, None, not, ◌&&◌, ◌||◌, nat_le, is_some}
 use Rattle.wl_types.specs.declared.words.Reason.{Reason}
 use Rattle.wl_types.specs.declared.refusal.Refusal.{Refusal}
-use Rattle.wl_types.specs.declared.refusal.Refusal.TheVariants.{InvalidState, ReservedName, StealIfAvailable, StealShared, SignalCombined, NameTooLong, NoSuchSignal, TooManyRequests, TooManySignals, TooManyAgents, NumbersSpent, NoSuchAgent, NotAWindow}
+use Rattle.wl_types.specs.declared.refusal.Refusal.TheVariants.{InvalidState, ReservedName, StealIfAvailable}
+use Rattle.wl_types.specs.declared.refusal.Refusal.TheVariants.{StealShared, SignalCombined, NameTooLong, NoSuchSignal}
+use Rattle.wl_types.specs.declared.refusal.Refusal.TheVariants.{TooManyRequests, TooManySignals, TooManyAgents}
+use Rattle.wl_types.specs.declared.refusal.Refusal.TheVariants.{NumbersSpent, NoSuchAgent, NotAWindow}
 use Rattle.wl_types.specs.declared.ask.Ask.{Ask}
 use Rattle.wl_types.specs.Names.{is_long, is_reserved}
 use Rattle.wl_types.specs.Asks.{ask_refusal, is_shared}
 use Rattle.wl_types.specs.Refusals.{refuse_if, first_refusal}
 use Rattle.wl_machine.specs.declared.command.Command.{Command}
-use Rattle.wl_machine.specs.declared.command.Command.TheVariants.{Enter, SetActive, NewSignal, Request, Take, Release, Abort, Terminate, Query}
+use Rattle.wl_machine.specs.declared.command.Command.TheVariants.{Enter, SetActive, NewSignal, Request, Take, Release}
+use Rattle.wl_machine.specs.declared.command.Command.TheVariants.{Abort, Terminate, Query}
 use Rattle.wl_machine.specs.State.{State}
-use Rattle.wl_machine.specs.Refusals.{refusal, refusals, has_agent, is_inactive, is_worker, has_signal, signals_of, is_spent, live_count, unknown_signal, aborted_signal, aborted_refusal, reason_in}
+use Rattle.wl_machine.specs.Refusals.{refusal, refusals, has_agent, is_inactive, is_worker, has_signal, signals_of}
+use Rattle.wl_machine.specs.Refusals.{is_spent, live_count, unknown_signal, aborted_signal, aborted_refusal, reason_in}
 use Rattle.wl_core.specs.Answers.{is_memory_refusal}
 
 -- whether it is a refusal for want of memory
@@ -36,8 +41,20 @@ if_ordinary false r ordinary = refl
 asks_ordinary : (ask : Ask) → for_memory (ask_refusal ask) ≡ false
 unfolding AreOrdinary
 asks_ordinary ask =
-    first_ordinary (refuse_if (is_reserved ask.name) ReservedName ∷ refuse_if (ask.steal && ask.if_available) StealIfAvailable ∷ refuse_if (ask.steal && is_shared ask.mode) StealShared ∷ refuse_if (is_some ask.signal && (ask.steal || ask.if_available)) SignalCombined ∷ [])
-    (if_ordinary (is_reserved ask.name) ReservedName refl, (if_ordinary (ask.steal && ask.if_available) StealIfAvailable refl, (if_ordinary (ask.steal && is_shared ask.mode) StealShared refl, (if_ordinary (is_some ask.signal && (ask.steal || ask.if_available)) SignalCombined refl, tt))))
+    first_ordinary (refuse_if (is_reserved ask.name) ReservedName
+    ∷ refuse_if (ask.steal && ask.if_available) StealIfAvailable
+    ∷ refuse_if (ask.steal && is_shared ask.mode) StealShared
+    ∷ refuse_if (is_some ask.signal && (ask.steal || ask.if_available)) SignalCombined ∷ []) (
+      if_ordinary (is_reserved ask.name) ReservedName refl,
+      (
+        if_ordinary (ask.steal && ask.if_available) StealIfAvailable
+            refl,
+        (
+          if_ordinary (ask.steal && is_shared ask.mode) StealShared refl,
+          (if_ordinary (is_some ask.signal && (ask.steal || ask.if_available)) SignalCombined refl, tt),
+        ),
+      ),
+    )
 
 unknown_ordinary : (s : State) (agent : ℕ) (signal : Option ℕ) → for_memory (unknown_signal s agent signal) ≡ false
 unknown_ordinary s agent None = refl
@@ -53,10 +70,20 @@ aborted_ordinary s agent (Some signal) = reasons_ordinary (reason_in s.signals a
 
 pub ordinary : (s : State) (command : Command) → for_memory (refusal s command) ≡ false
 unfolding AreOrdinary
-ordinary s (Enter kind) = first_ordinary (refusals s (Enter kind)) (if_ordinary (nat_le 4096 (length s.agents)) TooManyAgents refl, (if_ordinary (is_spent s.next.agent) NumbersSpent refl, tt))
-ordinary s (SetActive agent active) = first_ordinary (refusals s (SetActive agent active)) (if_ordinary (not (has_agent s agent)) NoSuchAgent refl, (if_ordinary (is_worker s agent) NotAWindow refl, tt))
+ordinary s (Enter kind) = first_ordinary (refusals s (Enter kind)) (
+  if_ordinary (nat_le 4096 (length s.agents)) TooManyAgents refl,
+  (if_ordinary (is_spent s.next.agent) NumbersSpent refl, tt),
+)
+ordinary s (SetActive agent active) = first_ordinary (refusals s (SetActive agent active))
+    (if_ordinary (not (has_agent s agent)) NoSuchAgent refl, (if_ordinary (is_worker s agent) NotAWindow refl, tt))
 ordinary s (NewSignal agent) =
-    first_ordinary (refusals s (NewSignal agent)) (if_ordinary (not (has_agent s agent)) NoSuchAgent refl, (if_ordinary (nat_le 1024 (length (signals_of agent s.signals))) TooManySignals refl, (if_ordinary (is_spent s.next.signal) NumbersSpent refl, tt)))
+    first_ordinary (refusals s (NewSignal agent)) (
+      if_ordinary (not (has_agent s agent)) NoSuchAgent refl,
+      (
+        if_ordinary (nat_le 1024 (length (signals_of agent s.signals))) TooManySignals refl,
+        (if_ordinary (is_spent s.next.signal) NumbersSpent refl, tt),
+      ),
+    )
 ordinary s (Request agent ask) =
     first_ordinary (refusals s (Request agent ask)) (
       if_ordinary (not (has_agent s agent)) NoSuchAgent refl,
@@ -68,7 +95,13 @@ ordinary s (Request agent ask) =
             unknown_ordinary s agent ask.signal,
             (
               aborted_ordinary s agent ask.signal,
-              (if_ordinary (is_long ask.name) NameTooLong refl, (if_ordinary (nat_le 65536 (live_count s)) TooManyRequests refl, (if_ordinary (is_spent s.next.request) NumbersSpent refl, tt))),
+              (
+                if_ordinary (is_long ask.name) NameTooLong refl,
+                (
+                  if_ordinary (nat_le 65536 (live_count s)) TooManyRequests refl,
+                  (if_ordinary (is_spent s.next.request) NumbersSpent refl, tt),
+                ),
+              ),
             ),
           ),
         ),
@@ -76,6 +109,15 @@ ordinary s (Request agent ask) =
     )
 ordinary s (Take id) = refl
 ordinary s (Release agent id) = refl
-ordinary s (Abort agent signal reason) = first_ordinary (refusals s (Abort agent signal reason)) (if_ordinary (not (has_agent s agent)) NoSuchAgent refl, (if_ordinary (not (has_signal s agent signal)) NoSuchSignal refl, tt))
-ordinary s (Terminate agent) = first_ordinary (refusals s (Terminate agent)) (if_ordinary (not (has_agent s agent)) NoSuchAgent refl, tt)
-ordinary s (Query agent) = first_ordinary (refusals s (Query agent)) (if_ordinary (not (has_agent s agent)) NoSuchAgent refl, (if_ordinary (is_inactive s agent) InvalidState refl, tt))
+ordinary s (Abort agent signal reason) = first_ordinary (refusals s (Abort agent signal reason)) (
+  if_ordinary (not (has_agent s agent)) NoSuchAgent refl,
+  (
+    if_ordinary (not (has_signal s agent signal)) NoSuchSignal
+        refl,
+    tt,
+  ),
+)
+ordinary s (Terminate agent) = first_ordinary (refusals s (Terminate agent))
+    (if_ordinary (not (has_agent s agent)) NoSuchAgent refl, tt)
+ordinary s (Query agent) = first_ordinary (refusals s (Query agent))
+    (if_ordinary (not (has_agent s agent)) NoSuchAgent refl, (if_ordinary (is_inactive s agent) InvalidState refl, tt))

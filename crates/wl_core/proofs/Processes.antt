@@ -18,15 +18,24 @@ use Rattle.wl_machine.specs.declared.command.Reply.TheVariants as reply
 use Rattle.wl_machine.specs.State.{State}
 use Rattle.wl_machine.specs.Grants.{lists_of, process_queues, in_use, locks}
 use Rattle.wl_machine.specs.Refusals.{reason_in, refusal}
-use Rattle.wl_machine.specs.Step.{after_processing, Gives, is_waiting_on, is_abortable, request_ends, lock_ends, with_reason, new_request, with_name, available, with_aborted, abort_ends, without_agent, terminate_ends, enqueue, steal_locks}
+use Rattle.wl_machine.specs.Step.{after_processing, Gives, is_waiting_on, is_abortable, request_ends, lock_ends}
+use Rattle.wl_machine.specs.Step.{with_reason, new_request, with_name, available, with_aborted, abort_ends}
+use Rattle.wl_machine.specs.Step.{without_agent, terminate_ends, enqueue, steal_locks}
 
 -- processing after these ends, from its lists and the names kept
-pub processing_is : (mid : State) (ends : List Change) (reply : Reply) (h : List HeldRow) (p : List PendingRow) (c : List Change) (names : List (List ℕ))
-    → lists_of h p c ≡ process_queues (lists_of mid.held mid.pending ends) mid.names → names ≡ filter (in_use h p) mid.names
-    → after_processing mid ends reply ≡ record { state = record mid { names = names; held = h; pending = p }; reply = reply; changes = c }
+pub processing_is : (mid : State) (ends : List Change) (reply : Reply) (h : List HeldRow) (p : List PendingRow)
+    (c : List Change) (names : List (List ℕ))
+    → lists_of h p c ≡ process_queues (lists_of mid.held mid.pending ends) mid.names
+    → names ≡ filter (in_use h p) mid.names
+    → after_processing mid ends reply ≡ record {
+      state = record mid { names = names; held = h; pending = p };
+      reply = reply;
+      changes = c;
+    }
 processing_is mid ends reply h p c names lists used = rw (used, ← lists) refl
 
-pub abort_meets : (s : State) (agent signal : ℕ) (reason : Reason) (signals : List SignalRow) (h0 h : List HeldRow) (p0 p : List PendingRow) (c0 c1 c2 c : List Change) (names : List (List ℕ))
+pub abort_meets : (s : State) (agent signal : ℕ) (reason : Reason) (signals : List SignalRow) (h0 h : List HeldRow)
+    (p0 p : List PendingRow) (c0 c1 c2 c : List Change) (names : List (List ℕ))
     → refusal s (command.Abort agent signal reason) ≡ None
     → is_some (reason_in s.signals agent signal) ≡ false
     → signals ≡ map (with_reason agent signal reason) s.signals
@@ -37,13 +46,17 @@ pub abort_meets : (s : State) (agent signal : ℕ) (reason : Reason) (signals : 
     → c2 ≡ c1 ++ lock_ends (Aborted reason) (filter (is_abortable agent signal) s.held)
     → lists_of h p c ≡ process_queues (lists_of h0 p0 c2) s.names
     → names ≡ filter (in_use h p) s.names
-    → Gives s (command.Abort agent signal reason) (record s { signals = signals; names = names; held = h; pending = p }) (reply.Aborted abort_answer.Done) c
-abort_meets s agent signal reason signals h0 h p0 p c0 c1 c2 c names free unaborted marked cleared requests first locked second lists used =
+    → Gives s (command.Abort agent signal reason) (record s { signals = signals; names = names; held = h; pending = p })
+    (reply.Aborted abort_answer.Done) c
+abort_meets s agent signal reason signals h0 h p0 p c0 c1 c2 c names free unaborted marked cleared requests first locked
+    second lists used =
     rw (free, unaborted, marked)
-    (processing_is (with_aborted s agent signal reason) (abort_ends s agent signal reason) (reply.Aborted abort_answer.Done) h p c names
+    (processing_is (with_aborted s agent signal reason) (abort_ends s agent signal reason)
+    (reply.Aborted abort_answer.Done) h p c names
     (simp (second, first, cleared, requests, locked) at lists) used)
 
-pub terminate_meets : (s : State) (agent : ℕ) (agents : List AgentRow) (signals : List SignalRow) (h0 h : List HeldRow) (p0 p : List PendingRow) (c0 c1 c2 c : List Change) (names : List (List ℕ))
+pub terminate_meets : (s : State) (agent : ℕ) (agents : List AgentRow) (signals : List SignalRow) (h0 h : List HeldRow)
+    (p0 p : List PendingRow) (c0 c1 c2 c : List Change) (names : List (List ℕ))
     → refusal s (command.Terminate agent) ≡ None
     → agents ≡ filter (λ row. not (row.number == agent)) s.agents
     → signals ≡ filter (λ row. not (row.agent == agent)) s.signals
@@ -54,14 +67,22 @@ pub terminate_meets : (s : State) (agent : ℕ) (agents : List AgentRow) (signal
     → c2 ≡ c1 ++ lock_ends Released (filter (λ lock. lock.agent == agent) s.held)
     → lists_of h p c ≡ process_queues (lists_of h0 p0 c2) s.names
     → names ≡ filter (in_use h p) s.names
-    → Gives s (command.Terminate agent) (record s { agents = agents; signals = signals; names = names; held = h; pending = p }) reply.Done c
-terminate_meets s agent agents signals h0 h p0 p c0 c1 c2 c names free gone forgotten cleared requests first locked second lists used =
+    → Gives s (command.Terminate agent) (record s {
+      agents = agents;
+      signals = signals;
+      names = names;
+      held = h;
+      pending = p;
+    }) reply.Done c
+terminate_meets s agent agents signals h0 h p0 p c0 c1 c2 c names free gone forgotten cleared requests first locked
+    second lists used =
     rw (free, gone, forgotten)
     (processing_is (without_agent s agent) (terminate_ends s agent) reply.Done h p c names
     (simp (second, first, cleared, requests, locked) at lists) used)
 
 -- a request that comes into its queue
-pub request_meets : (s : State) (agent : ℕ) (ask : Ask) (name : List ℕ) (h0 h : List HeldRow) (p0 p : List PendingRow) (c0 c1 c : List Change) (names0 names : List (List ℕ)) (steal : Bool)
+pub request_meets : (s : State) (agent : ℕ) (ask : Ask) (name : List ℕ) (h0 h : List HeldRow) (p0 p : List PendingRow)
+    (c0 c1 c : List Change) (names0 names : List (List ℕ)) (steal : Bool)
     → ask.steal ≡ steal
     → refusal s (command.Request agent ask) ≡ None
     → (not steal && ask.if_available && not (available s (new_request s agent ask))) ≡ false
@@ -73,12 +94,20 @@ pub request_meets : (s : State) (agent : ℕ) (ask : Ask) (name : List ℕ) (h0 
     → c1 ≡ (if steal then c0 ++ lock_ends Stolen (locks name s.held) else c0)
     → lists_of h p c ≡ process_queues (lists_of h0 p0 c1) names0
     → names ≡ filter (in_use h p) names0
-    → Gives s (command.Request agent ask) (record s { names = names; held = h; pending = p; next = record s.next { request = s.next.request + 1 } }) (reply.Request s.next.request) c
-request_meets s agent ask name h0 h p0 p c0 c1 c names0 names true stolen free waits named added cleared held pending ends lists used =
+    → Gives s (command.Request agent ask) (record s {
+      names = names;
+      held = h;
+      pending = p;
+      next = record s.next { request = s.next.request + 1 };
+    }) (reply.Request s.next.request) c
+request_meets s agent ask name h0 h p0 p c0 c1 c names0 names true stolen free waits named added cleared held pending
+    ends lists used =
     rw (free, stolen)
-    (processing_is (steal_locks s (new_request s agent ask)) (lock_ends Stolen (locks ask.name s.held)) (reply.Request s.next.request) h p c names
+    (processing_is (steal_locks s (new_request s agent ask)) (lock_ends Stolen (locks ask.name s.held))
+    (reply.Request s.next.request) h p c names
     (simp (added, pending, ends, held, cleared, named) at lists) (rw (added, named) at used))
-request_meets s agent ask name h0 h p0 p c0 c1 c names0 names false stolen free waits named added cleared held pending ends lists used =
+request_meets s agent ask name h0 h p0 p c0 c1 c names0 names false stolen free waits named added cleared held pending
+    ends lists used =
     rw (free, stolen, waits)
     (processing_is (enqueue s (new_request s agent ask)) [] (reply.Request s.next.request) h p c names
     (simp (added, pending, ends, held, cleared, named) at lists) (rw (added, named) at used))

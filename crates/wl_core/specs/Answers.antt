@@ -33,7 +33,8 @@ abbrev pub recent_after : Command → List Change → List Change → List Chang
 recent_after (Query agent) before changes = before
 recent_after command before changes = changes
 
--- from the old content the command gives this reply and the new content; memory is refused only where the machine refuses nothing
+-- from the old content the command gives this reply and the new content; memory is refused only where the machine
+-- refuses nothing
 pub record Answers (old : Content) (command : Command) (new : Content) (reply : Reply) : Type 0 where
   pub reply_is : reply ≡ (step_result reply old.state command).reply
   pub state_is : new.state ≡ (step_result reply old.state command).state

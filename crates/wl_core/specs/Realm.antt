@@ -26,7 +26,8 @@ realm_of cmp state cores key = option_map_or state (at_key cmp cores key) (openi
 
 -- a command with a key steps that key's state
 abbrev pub realm_step : {K : Type 0} → (K → K → Ordering) → (K → State) → K → Command → K → State
-realm_step cmp realm key command other = if is_at (cmp key) other then (step (realm other) command).state else realm other
+realm_step cmp realm key command other = if is_at (cmp key) other then (step (realm other) command).state
+    else realm other
 
 abbrev pub realm_after : {K : Type 0} → (K → K → Ordering) → List (K × Command) → (K → State) → K → State
 realm_after cmp [] realm = realm

@@ -1,10 +1,12 @@
 //! What an event takes or ends.
-ghost use Rattle.std.specs.Prelude.{◌≡◌, ◌+◌, ◌≤◌, ◌<◌, [], ◌∷◌, ◌++◌, map, filter, not, vec_len, vec_capacity, ◌==◌, ◌&&◌, Some};
+ghost use Rattle.std.specs.Prelude.{◌≡◌, ◌+◌, ◌≤◌, ◌<◌, [], ◌∷◌, ◌++◌, map, filter, not, vec_len, vec_capacity, ◌==◌};
+ghost use Rattle.std.specs.Prelude.{◌&&◌, Some};
 ghost use Rattle.std.specs.List.{list_any, slice_get};
 ghost use Rattle.std.specs.Option.{option_to_list};
 ghost use Rattle.wl_machine.specs.Grants.{locks};
 ghost use Rattle.wl_machine.specs.Least.{IsLeast, above};
-ghost use Rattle.wl_machine.specs.Step.{is_lock_of, lock_ends, with_taken, is_untaken, is_signal, request_ends, is_abortable};
+ghost use Rattle.wl_machine.specs.Step.{is_lock_of, lock_ends, with_taken, is_untaken, is_signal, request_ends};
+ghost use Rattle.wl_machine.specs.Step.{is_abortable};
 ghost use Rattle.wl_core.specs.inner.Ends.{selects_lock, selects_request};
 
 use crate::room::push_in_room;
@@ -79,7 +81,8 @@ pub(crate) fn end_locks(
 )
     requires room { vec_len changes.old + vec_len held.old ≤ vec_capacity changes.old }
     ensures held { held.new.items ≡ filter (λ lock. not (selects_lock test.now lock)) held.old.items }
-    ensures changes { changes.new.items ≡ changes.old.items ++ lock_ends phase (filter (selects_lock test.now) held.old.items) }
+    ensures changes { changes.new.items ≡ changes.old.items
+        ++ lock_ends phase (filter (selects_lock test.now) held.old.items) }
     ensures len { vec_len changes.new + vec_len held.new ≡ vec_len changes.old + vec_len held.old }
     ensures fewer { vec_len held.new ≤ vec_len held.old }
     ensures held_room { vec_capacity held.new ≡ vec_capacity held.old }
@@ -108,7 +111,8 @@ pub(crate) fn end_requests(
 )
     requires room { vec_len changes.old + vec_len pending.old ≤ vec_capacity changes.old }
     ensures pending { pending.new.items ≡ filter (λ request. not (selects_request test.now request)) pending.old.items }
-    ensures changes { changes.new.items ≡ changes.old.items ++ request_ends phase (filter (selects_request test.now) pending.old.items) }
+    ensures changes { changes.new.items ≡ changes.old.items
+        ++ request_ends phase (filter (selects_request test.now) pending.old.items) }
     ensures len { vec_len changes.new + vec_len pending.new ≡ vec_len changes.old + vec_len pending.old }
     ensures fewer { vec_len pending.new ≤ vec_len pending.old }
     ensures changes_room { vec_capacity changes.old ≤ vec_capacity changes.new }

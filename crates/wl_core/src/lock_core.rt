@@ -49,7 +49,8 @@ pub trait LockCore: Drop {
 
     /// A new agent, active. Its number is the answer. Refused: `TooManyAgents` where 4,096 are live, `NumbersSpent`.
     fn open(&mut self, kind: Kind) -> Result<u64, Refusal>
-        ensures opened { IfOk result (λ agent. Gives (state self.old) (Command.Enter kind) (state self.new) (Reply.Agent agent) (recent self.new)) }
+        ensures opened { IfOk result (λ agent. Gives (state self.old) (Command.Enter kind) (state self.new)
+            (Reply.Agent agent) (recent self.new)) }
         ensures refused { IfErr result (λ r. r ≡ refused_or_memory (refusal (state self.old) (Command.Enter kind))) }
         ensures unchanged { OnErr result (state self.new ≡ state self.old) }
         ensures no_changes { OnErr result (recent self.new ≡ []) }
@@ -61,8 +62,10 @@ pub trait LockCore: Drop {
     /// `NoSuchSignal`, `SignalAborted`, `NameTooLong`, `TooManyRequests` where 65,536 are live (a steal and one with
     /// `if_available` too), `NumbersSpent`.
     fn request(&mut self, agent: u64, ask: &Ask) -> Result<u64, Refusal>
-        ensures requested { IfOk result (λ id. Gives (state self.old) (Command.Request agent ask.now) (state self.new) (Reply.Request id) (recent self.new)) }
-        ensures refused { IfErr result (λ r. r ≡ refused_or_memory (refusal (state self.old) (Command.Request agent ask.now))) }
+        ensures requested { IfOk result (λ id. Gives (state self.old) (Command.Request agent ask.now) (state self.new)
+            (Reply.Request id) (recent self.new)) }
+        ensures refused { IfErr result (λ r. r ≡ refused_or_memory
+            (refusal (state self.old) (Command.Request agent ask.now))) }
         ensures unchanged { OnErr result (state self.new ≡ state self.old) }
         ensures no_changes { OnErr result (recent self.new ≡ []) }
         ensures recorded { IfOk result (λ id. entries self.new ≡ with_entry (Reply.Request id) (entries self.old)) }
@@ -71,19 +74,23 @@ pub trait LockCore: Drop {
     /// Marks a lock that is held and untaken as taken, whoever's it is: its agent is told of the grant. From then on
     /// an abort of its signal doesn't end it.
     fn take(&mut self, id: u64) -> TakeAnswer
-        ensures taken { Gives (state self.old) (Command.Take id) (state self.new) (Reply.Took result) (recent self.new) }
+        ensures taken { Gives (state self.old) (Command.Take id) (state self.new) (Reply.Took result)
+            (recent self.new) }
         ensures recorded { entries self.new ≡ with_entry (Reply.Took result) (entries self.old) };
 
     /// The agent gives up its lock, taken or not; then the queues are processed.
     fn release(&mut self, agent: u64, id: u64) -> ReleaseAnswer
-        ensures released { Gives (state self.old) (Command.Release agent id) (state self.new) (Reply.Released result) (recent self.new) }
+        ensures released { Gives (state self.old) (Command.Release agent id) (state self.new) (Reply.Released result)
+            (recent self.new) }
         ensures recorded { entries self.new ≡ with_entry (Reply.Released result) (entries self.old) };
 
     /// Makes a window active or inactive: an inactive one may neither request nor query. Refused: `NoSuchAgent`,
     /// `NotAWindow`.
     fn set_active(&mut self, agent: u64, active: bool) -> Result<(), Refusal>
-        ensures done { OnOk result (Gives (state self.old) (Command.SetActive agent active) (state self.new) Reply.Done (recent self.new)) }
-        ensures refused { IfErr result (λ r. r ≡ refused_or_memory (refusal (state self.old) (Command.SetActive agent active))) }
+        ensures done { OnOk result (Gives (state self.old) (Command.SetActive agent active) (state self.new) Reply.Done
+            (recent self.new)) }
+        ensures refused { IfErr result (λ r. r ≡ refused_or_memory
+            (refusal (state self.old) (Command.SetActive agent active))) }
         ensures unchanged { OnErr result (state self.new ≡ state self.old) }
         ensures no_changes { OnErr result (recent self.new ≡ []) }
         ensures recorded { OnOk result (entries self.new ≡ with_entry Reply.Done (entries self.old)) }
@@ -92,26 +99,32 @@ pub trait LockCore: Drop {
     /// A new signal of the agent, not aborted. Its number is the answer. Refused: `NoSuchAgent`, `TooManySignals`
     /// where the agent has made 1,024, `NumbersSpent`.
     fn new_signal(&mut self, agent: u64) -> Result<u64, Refusal>
-        ensures made { IfOk result (λ signal. Gives (state self.old) (Command.NewSignal agent) (state self.new) (Reply.Signal signal) (recent self.new)) }
-        ensures refused { IfErr result (λ r. r ≡ refused_or_memory (refusal (state self.old) (Command.NewSignal agent))) }
+        ensures made { IfOk result (λ signal. Gives (state self.old) (Command.NewSignal agent) (state self.new)
+            (Reply.Signal signal) (recent self.new)) }
+        ensures refused { IfErr result (λ r. r ≡ refused_or_memory
+            (refusal (state self.old) (Command.NewSignal agent))) }
         ensures unchanged { OnErr result (state self.new ≡ state self.old) }
         ensures no_changes { OnErr result (recent self.new ≡ []) }
-        ensures recorded { IfOk result (λ signal. entries self.new ≡ with_entry (Reply.Signal signal) (entries self.old)) }
+        ensures recorded { IfOk result (λ signal. entries self.new
+            ≡ with_entry (Reply.Signal signal) (entries self.old)) }
         ensures not_recorded { OnErr result (entries self.new ≡ entries self.old) };
 
     /// Aborts the agent's signal for this reason, once. Its requests that wait and its locks that weren't taken end;
     /// then the queues are processed. Refused: `NoSuchAgent`, `NoSuchSignal`.
     fn abort(&mut self, agent: u64, signal: u64, reason: Reason) -> Result<AbortAnswer, Refusal>
-        ensures aborted { IfOk result (λ answer. Gives (state self.old) (Command.Abort agent signal reason) (state self.new) (Reply.Aborted answer) (recent self.new)) }
+        ensures aborted { IfOk result (λ answer. Gives (state self.old) (Command.Abort agent signal reason)
+            (state self.new) (Reply.Aborted answer) (recent self.new)) }
         ensures refused { IfErr result (λ r. refusal (state self.old) (Command.Abort agent signal reason) ≡ Some r) }
         ensures unchanged { OnErr result (state self.new ≡ state self.old) }
         ensures no_changes { OnErr result (recent self.new ≡ []) }
-        ensures recorded { IfOk result (λ answer. entries self.new ≡ with_entry (Reply.Aborted answer) (entries self.old)) }
+        ensures recorded { IfOk result (λ answer. entries self.new
+            ≡ with_entry (Reply.Aborted answer) (entries self.old)) }
         ensures not_recorded { OnErr result (entries self.new ≡ entries self.old) };
 
     /// Ends the agent with its requests, locks and signals; then the queues are processed. Refused: `NoSuchAgent`.
     fn terminate(&mut self, agent: u64) -> Result<(), Refusal>
-        ensures ended { OnOk result (Gives (state self.old) (Command.Terminate agent) (state self.new) Reply.Done (recent self.new)) }
+        ensures ended { OnOk result (Gives (state self.old) (Command.Terminate agent) (state self.new) Reply.Done
+            (recent self.new)) }
         ensures refused { IfErr result (λ r. refusal (state self.old) (Command.Terminate agent) ≡ Some r) }
         ensures unchanged { OnErr result (state self.new ≡ state self.old) }
         ensures no_changes { OnErr result (recent self.new ≡ []) }
@@ -125,7 +138,8 @@ pub trait LockCore: Drop {
 
     /// What is held and what waits. Refused: `NoSuchAgent`, `InvalidState`.
     fn snapshot(&self, agent: u64) -> Result<Snapshot, Refusal>
-        ensures seen { IfOk result (λ seen. step (state self.now) (Command.Query agent) ≡ record { state = state self.now; reply = Reply.Seen seen; changes = [] }) }
+        ensures seen { IfOk result (λ seen. step (state self.now) (Command.Query agent)
+            ≡ record { state = state self.now; reply = Reply.Seen seen; changes = [] }) }
         ensures refused { IfErr result (λ r. r ≡ refused_or_memory (refusal (state self.now) (Command.Query agent))) };
 
     /// Whether an agent, of whatever kind, may open, memory aside. This and the three calls after it let a caller

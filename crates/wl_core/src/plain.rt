@@ -53,11 +53,19 @@ impl Model for PlainCore {
     ghost Value = { Content };
 
     ghost view = { λ c. record {
-      state = record { agents = c.agents.items; signals = c.signals.items; names = c.names.items; held = c.held.items; pending = c.pending.items; next = c.next };
+      state = record {
+        agents = c.agents.items;
+        signals = c.signals.items;
+        names = c.names.items;
+        held = c.held.items;
+        pending = c.pending.items;
+        next = c.next;
+      };
       recent = c.changes.items;
     } };
 
-    ghost invariant = { λ c. (vec_len c.held + vec_len c.pending ≤ vec_capacity c.held) × (vec_len c.held + vec_len c.pending ≤ vec_capacity c.changes) };
+    ghost invariant = { λ c. (vec_len c.held + vec_len c.pending ≤ vec_capacity c.held)
+        × (vec_len c.held + vec_len c.pending ≤ vec_capacity c.changes) };
 }
 
 impl PlainCore {
@@ -65,7 +73,8 @@ impl PlainCore {
     fn admit(&mut self, agent: u64, ask: &Ask) -> Result<u64, Memory>
         requires accepted { refusal self.old.state (Command.Request agent ask.now) ≡ None }
         requires no_changes { self.old.recent ≡ [] }
-        ensures admitted { IfOk result (λ id. Gives self.old.state (Command.Request agent ask.now) self.new.state (Reply.Request id) self.new.recent) }
+        ensures admitted { IfOk result (λ id. Gives self.old.state (Command.Request agent ask.now) self.new.state
+            (Reply.Request id) self.new.recent) }
         ensures unchanged { OnErr result (self.new ≡ self.old) }
     {
         let number = self.next.request;

@@ -1,7 +1,8 @@
 //! Processing the queues.
 
 ghost use Rattle.std.specs.Prelude.{◌≡◌, ◌+◌, ◌≤◌, ◌<◌, ◌++◌, map, filter, take, length, vec_len, vec_capacity};
-ghost use Rattle.wl_machine.specs.Grants.{locks, queue, grants, without_first, granted_lock, grant_change, process_queue, process_queues, lists_of, in_use};
+ghost use Rattle.wl_machine.specs.Grants.{locks, queue, grants, without_first, granted_lock, grant_change};
+ghost use Rattle.wl_machine.specs.Grants.{process_queue, process_queues, lists_of, in_use};
 
 use crate::names::keep_used;
 use crate::queues::{has_exclusive, has_none};
@@ -45,7 +46,8 @@ fn move_first(
 
     ensures held { held.new.items ≡ held.old.items ++ map granted_lock (take count (queue name.now pending.old.items)) }
     ensures pending { pending.new.items ≡ without_first name.now count pending.old.items }
-    ensures changes { changes.new.items ≡ changes.old.items ++ map grant_change (take count (queue name.now pending.old.items)) }
+    ensures changes { changes.new.items ≡ changes.old.items
+        ++ map grant_change (take count (queue name.now pending.old.items)) }
 
     ensures held_len { vec_len held.new + vec_len pending.new ≡ vec_len held.old + vec_len pending.old }
     ensures changes_len { vec_len changes.new + vec_len pending.new ≡ vec_len changes.old + vec_len pending.old }
@@ -98,7 +100,8 @@ fn process_queue(
     requires held_room { vec_len held.old + vec_len pending.old ≤ vec_capacity held.old }
     requires changes_room { vec_len changes.old + vec_len pending.old ≤ vec_capacity changes.old }
 
-    ensures processed { lists_of held.new.items pending.new.items changes.new.items ≡ process_queue (lists_of held.old.items pending.old.items changes.old.items) name.now }
+    ensures processed { lists_of held.new.items pending.new.items changes.new.items
+        ≡ process_queue (lists_of held.old.items pending.old.items changes.old.items) name.now }
 
     ensures held_len { vec_len held.new + vec_len pending.new ≡ vec_len held.old + vec_len pending.old }
     ensures changes_len { vec_len changes.new + vec_len pending.new ≡ vec_len changes.old + vec_len pending.old }
@@ -119,7 +122,8 @@ fn process_each(
     requires held_room { vec_len held.old + vec_len pending.old ≤ vec_capacity held.old }
     requires changes_room { vec_len changes.old + vec_len pending.old ≤ vec_capacity changes.old }
 
-    ensures processed { lists_of held.new.items pending.new.items changes.new.items ≡ process_queues (lists_of held.old.items pending.old.items changes.old.items) names.now }
+    ensures processed { lists_of held.new.items pending.new.items changes.new.items
+        ≡ process_queues (lists_of held.old.items pending.old.items changes.old.items) names.now }
 
     ensures held_len { vec_len held.new + vec_len pending.new ≡ vec_len held.old + vec_len pending.old }
     ensures changes_len { vec_len changes.new + vec_len pending.new ≡ vec_len changes.old + vec_len pending.old }
@@ -141,7 +145,8 @@ pub(crate) fn process_queues(
     requires held_room { vec_len held.old + vec_len pending.old ≤ vec_capacity held.old }
     requires changes_room { vec_len changes.old + vec_len pending.old ≤ vec_capacity changes.old }
 
-    ensures lists { lists_of held.new.items pending.new.items changes.new.items ≡ process_queues (lists_of held.old.items pending.old.items changes.old.items) names.old.items }
+    ensures lists { lists_of held.new.items pending.new.items changes.new.items
+        ≡ process_queues (lists_of held.old.items pending.old.items changes.old.items) names.old.items }
     ensures names { names.new.items ≡ filter (in_use held.new.items pending.new.items) names.old.items }
 
     ensures live { vec_len held.new + vec_len pending.new ≡ vec_len held.old + vec_len pending.old }

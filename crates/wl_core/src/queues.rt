@@ -1,6 +1,7 @@
 //! A name's locks and queue, and how a request comes into the queue.
 
-ghost use Rattle.std.specs.Prelude.{◌≡◌, ◌+◌, ◌≤◌, ◌<◌, [], ◌∷◌, ◌++◌, filter, not, ◌&&◌, vec_len, vec_capacity, if◌then◌else◌};
+ghost use Rattle.std.specs.Prelude.{◌≡◌, ◌+◌, ◌≤◌, ◌<◌, [], ◌∷◌, ◌++◌, filter, not, ◌&&◌, vec_len, vec_capacity};
+ghost use Rattle.std.specs.Prelude.{if◌then◌else◌};
 ghost use Rattle.std.specs.Str.{bytes_eq};
 ghost use Rattle.wl_types.specs.declared.phases.Phase.TheVariants.{Stolen};
 ghost use Rattle.wl_machine.specs.Grants.{is_empty, any_exclusive, locks, queue, grants};
@@ -49,7 +50,8 @@ fn has_no_request(pending: &[PendingRow], name: &Name) -> bool
 
 /// Whether a request would be granted at once.
 fn is_free(held: &[HeldRow], pending: &[PendingRow], row: &PendingRow) -> bool
-    ensures { result ≡ (is_empty (queue row.now.name pending.now) && not (is_empty (grants (locks row.now.name held.now) (row.now ∷ [])))) }
+    ensures { result ≡ (is_empty (queue row.now.name pending.now)
+        && not (is_empty (grants (locks row.now.name held.now) (row.now ∷ [])))) }
 {
     if !has_no_request(pending, &row.name) || has_exclusive(held, &row.name) {
         return false;
@@ -64,7 +66,9 @@ pub(crate) fn is_unavailable(
     row: &PendingRow,
     ask: &Ask,
 ) -> bool
-    ensures { result ≡ (not ask.now.steal && ask.now.if_available && not (is_empty (queue row.now.name pending.now) && not (is_empty (grants (locks row.now.name held.now) (row.now ∷ []))))) }
+    ensures { result ≡ (not ask.now.steal && ask.now.if_available
+        && not (is_empty (queue row.now.name pending.now) && not
+        (is_empty (grants (locks row.now.name held.now) (row.now ∷ []))))) }
 {
     !ask.steal && ask.if_available && !is_free(held, pending, row)
 }
@@ -80,9 +84,11 @@ pub(crate) fn enqueue(
     requires pending_room { vec_len pending.old < vec_capacity pending.old }
     requires changes_room { vec_len changes.old + vec_len held.old ≤ vec_capacity changes.old }
 
-    ensures held { held.new.items ≡ (if steal then filter (λ lock. not (bytes_eq lock.name row.name)) held.old.items else held.old.items) }
+    ensures held { held.new.items ≡ (if steal then filter (λ lock. not (bytes_eq lock.name row.name)) held.old.items
+        else held.old.items) }
     ensures pending { pending.new.items ≡ (if steal then row ∷ pending.old.items else pending.old.items ++ row ∷ []) }
-    ensures changes { changes.new.items ≡ (if steal then changes.old.items ++ lock_ends Stolen (locks row.name held.old.items) else changes.old.items) }
+    ensures changes { changes.new.items ≡ (if steal then changes.old.items
+        ++ lock_ends Stolen (locks row.name held.old.items) else changes.old.items) }
 
     ensures pending_len { vec_len pending.new ≡ vec_len pending.old + 1 }
     ensures changes_len { vec_len changes.new + vec_len held.new ≡ vec_len changes.old + vec_len held.old }

@@ -1,6 +1,7 @@
 //! A core for each key.
 
-ghost use Rattle.std.specs.Prelude.{◌≡◌, ◌<◌, false, List, [], length, slice_get, Some, None, is_some, IsTrue, ◌↔◌, OnOk, OnErr, if◌then◌else◌};
+ghost use Rattle.std.specs.Prelude.{◌≡◌, ◌<◌, false, List, [], length, slice_get, Some, None, is_some, IsTrue, ◌↔◌};
+ghost use Rattle.std.specs.Prelude.{OnOk, OnErr, if◌then◌else◌};
 ghost use Rattle.std.specs.BTreeMap.{insert_entry};
 ghost use Rattle.wl_machine.specs.State.{opening};
 ghost use Rattle.wl_machine.specs.Step.{step};
@@ -69,7 +70,9 @@ impl<K: Ord + Drop, C: LockCore> KeyedRealm<K, C> {
     /// Gives the key an empty core, all its numbers 1. A key that has a core keeps it, and the seed is dropped.
     pub fn add(&mut self, key: K, seed: C::Seed) -> Result<(), Memory>
         ensures there { IsTrue (is_some (at_key K.cmp self.old key)) → (result ≡ Ok tt) × (self.new ≡ self.old) }
-        ensures new { at_key K.cmp self.old key ≡ None → OnOk result ((core : C) × (C.state core ≡ opening all_ones) × (C.recent core ≡ []) × (self.new ≡ insert_entry K.cmp self.old key core)) }
+        ensures new { at_key K.cmp self.old key ≡ None → OnOk result
+            ((core : C) × (C.state core ≡ opening all_ones) × (C.recent core ≡ [])
+            × (self.new ≡ insert_entry K.cmp self.old key core)) }
         ensures err { OnErr result (self.new ≡ self.old) }
         ensures realm { realm_of K.cmp C.state self.new ≡ realm_of K.cmp C.state self.old }
     {
@@ -89,10 +92,13 @@ impl<K: Ord + Drop, C: LockCore> KeyedRealm<K, C> {
     /// Does one command on the core of the key. Each other key keeps its core.
     pub fn apply(&mut self, key: &K, command: &Command) -> Reply
         requires { IsTrue (is_some (at_key K.cmp self.old key.now)) }
-        ensures core { (old new : C) × (at_key K.cmp self.old key.now ≡ Some old) × (self.new ≡ with_at K.cmp self.old key.now new)
+        ensures core { (old new : C) × (at_key K.cmp self.old key.now ≡ Some old)
+            × (self.new ≡ with_at K.cmp self.old key.now new)
             × Answers (content_of C.state C.recent old) command.now (content_of C.state C.recent new) result }
-        ensures realm { realm_of K.cmp C.state self.new ≡ (if is_memory result then realm_of K.cmp C.state self.old else realm_step K.cmp (realm_of K.cmp C.state self.old) key.now command.now) }
-        ensures reply { is_memory result ≡ false → result ≡ (step (realm_of K.cmp C.state self.old key.now) command.now).reply }
+        ensures realm { realm_of K.cmp C.state self.new ≡ (if is_memory result then realm_of K.cmp C.state self.old
+            else realm_step K.cmp (realm_of K.cmp C.state self.old) key.now command.now) }
+        ensures reply { is_memory result ≡ false → result ≡ (step (realm_of K.cmp C.state self.old key.now)
+            command.now).reply }
     {
         let core = self.cores.get_mut(key).unwrap();
         commands::apply(core, command)

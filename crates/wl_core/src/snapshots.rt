@@ -69,7 +69,8 @@ pub(crate) fn make_snapshot(
     names: &[Name],
 ) -> Result<Snapshot, Memory>
     ensures held { IfOk result (λ seen. seen.held ≡ map lock_info held.now) }
-    ensures pending { IfOk result (λ seen. seen.pending ≡ flat_map (λ name. map request_info (queue name pending.now)) names.now) }
+    ensures pending { IfOk result (λ seen. seen.pending ≡ flat_map (λ name. map request_info (queue name pending.now))
+        names.now) }
 {
     Ok(Snapshot {
         held: held_infos(alloc, held)?,

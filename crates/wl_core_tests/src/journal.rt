@@ -42,8 +42,9 @@ fn word(entry: &Entry) -> &'static str {
     }
 }
 
-/// Does the calls of a list on a new book, and gives the list as it came out. Beside those of every core (`do_list`) there
-/// are `count` (how many entries it has, and how many it has had), `entries`, `cut` (the entries that it hands out),
+/// Does the calls of a list on a new book, and gives the list as it came out. Beside those of every core (`do_list`)
+/// there are `count` (how many entries it has, and how many it has had), `entries`, `cut` (the entries that it hands
+/// out),
 /// `audit` (of the entries, from the base), `base` (whether that is the state) and `sight` (of the first agent).
 fn done_by_book(alloc: Global, list: &str) -> Result<String, Memory> {
     let mut book: Book<PlainCore> = opening(alloc, ());

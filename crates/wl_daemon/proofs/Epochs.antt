@@ -1,5 +1,6 @@
 -- Texts with an LF at their end, and without it.
-use Rattle.std.proofs.Common.{◌≡◌, ◌∙◌, ◌-◌, ℕ, Bool, true, false, true≢false, List, [], ◌∷◌, ◌++◌, length, take, drop, nat_eq, ap, arith, refl, sym}
+use Rattle.std.proofs.Common.{◌≡◌, ◌∙◌, ◌-◌, ℕ, Bool, true, false, true≢false, List, [], ◌∷◌, ◌++◌, length, take, drop}
+use Rattle.std.proofs.Common.{nat_eq, ap, arith, refl, sym}
 use Rattle.std.proofs.lemmas.List.{length-append, take-append-drop}
 use Rattle.std.specs.Prelude.{if◌then◌else◌}
 use Rattle.std.specs.List.{ends_with}
@@ -15,11 +16,13 @@ is_lf (byte ∷ other ∷ more) is = grind (arith, is)
 pub has_no_lf : (text : List ℕ) → ((before : List ℕ) → text ≡ before ++ 10 ∷ [] → ⊥) → text ≡ without_lf text
 has_no_lf text none = go (ends_with nat_eq text (10 ∷ [])) refl
   where
-    go : (ends : Bool) → ends_with nat_eq text (10 ∷ []) ≡ ends → text ≡ (if ends then take (length text - 1) text else text)
+    go : (ends : Bool) → ends_with nat_eq text (10 ∷ []) ≡ ends
+        → text ≡ (if ends then take (length text - 1) text else text)
     go false is = refl
     go true is =
         let end = is_lf (drop (length text - 1) text) is in
-        absurd (none (take (length text - 1) text) (sym (take-append-drop (length text - 1) text) ∙ ap (λ end. take (length text - 1) text ++ end) end))
+        absurd (none (take (length text - 1) text) (sym (take-append-drop (length text - 1) text)
+        ∙ ap (λ end. take (length text - 1) text ++ end) end))
 
 drop_before : (before : List ℕ) → drop (length before) (before ++ 10 ∷ []) ≡ 10 ∷ []
 drop_before [] = refl

@@ -13,7 +13,8 @@ is_star text = bytes_eq text (codes "*")
 abbrev pub trusted_reach : List (List ℕ) → Option Reach
 trusted_reach texts = if list_any is_star texts then Some None else option_map Some (origins_of texts)
 
--- a quarter of all connections from one address, rounded up, and all from this machine; or as many as is asked for from each
+-- a quarter of all connections from one address, rounded up, and all from this machine; or as many as is asked for from
+-- each
 abbrev pub places_for : ℕ → Option ℕ → PlaceLimits
 places_for connections per_address = record {
   in_all = connections;

@@ -59,8 +59,8 @@ impl<'a> Desk<'a> {
         }
     }
 
-    /// A number that all agents of its manager have in common: they alone tell each other something. None where the agent
-    /// isn't told.
+    /// A number that all agents of its manager have in common: they alone tell each other something. None where the
+    /// agent isn't told.
     pub fn meeting(&self) -> Option<usize> {
         let meeting = self.meeting.load(Ordering::SeqCst);
         if meeting == NOWHERE {
@@ -137,7 +137,8 @@ impl Opener for Desk<'_> {
         kind: Kind,
     ) -> Result<Client, NotOpened>
         ensures opened { OnOk result (may_ask_for (terms_for self.now.admitted) url.now ≡ true) }
-        ensures forbidden { IfErr result (λ why. why ≡ NotOpened.Forbidden → may_ask_for (terms_for self.now.admitted) url.now ≡ false) }
+        ensures forbidden { IfErr result (λ why. why ≡ NotOpened.Forbidden
+            → may_ask_for (terms_for self.now.admitted) url.now ≡ false) }
     {
         match self.may_open(url) {
             Ok(true) => {}

@@ -31,8 +31,8 @@ pub enum EntryFault<'a> {
     Memory,
 }
 
-/// Whether a server may listen: where its address is of this machine alone, where it wants tokens, or where it is asked to
-/// let all come in.
+/// Whether a server may listen: where its address is of this machine alone, where it wants tokens, or where it is asked
+/// to let all come in.
 pub fn may_listen(is_loopback: bool, has_tokens: bool, is_open: bool) -> bool
     ensures { result ≡ (is_loopback || (has_tokens || is_open)) }
 {
@@ -101,7 +101,8 @@ pub fn rules_with<'a>(
     has_fences: bool,
     is_sharded: bool,
 ) -> Result<Rules, EntryFault<'a>>
-    ensures trusted { IfOk result (λ rules. trusted_reach (map (λ o. o.now) origins.now) ≡ Some (reach_of rules.trusted)) }
+    ensures trusted { IfOk result (λ rules. trusted_reach (map (λ o. o.now) origins.now)
+        ≡ Some (reach_of rules.trusted)) }
     ensures tokens { IfOk result (λ rules. rules.tokens ≡ tokens) }
     ensures fences { IfOk result (λ rules. rules.has_fences ≡ has_fences) }
     ensures sharded { IfOk result (λ rules. rules.is_sharded ≡ is_sharded) }
@@ -114,7 +115,8 @@ pub fn rules_with<'a>(
     })
 }
 
-/// Refuses an address that is reached from other machines, where whoever comes there would be let in, or told the status.
+/// Refuses an address that is reached from other machines, where whoever comes there would be let in, or told the
+/// status.
 pub fn check_address<'a>(
     address: SocketAddr,
     has_tokens: bool,
@@ -153,10 +155,12 @@ pub fn read_rules<'a, R: Files + AllocGlobal>(
     has_fences: bool,
     is_sharded: bool,
 ) -> Result<Rules, EntryFault<'a>>
-    ensures trusted { IfOk result (λ rules. trusted_reach (map (λ o. o.now) origins.now) ≡ Some (reach_of rules.trusted)) }
+    ensures trusted { IfOk result (λ rules. trusted_reach (map (λ o. o.now) origins.now)
+        ≡ Some (reach_of rules.trusted)) }
     ensures fences { IfOk result (λ rules. rules.has_fences ≡ has_fences) }
     ensures sharded { IfOk result (λ rules. rules.is_sharded ≡ is_sharded) }
-    ensures guarded { IfOk result (λ rules. is_open ≡ false → is_some rules.tokens ≡ false → All IsOfThisMachine addresses.now) }
+    ensures guarded { IfOk result (λ rules. is_open ≡ false → is_some rules.tokens ≡ false
+        → All IsOfThisMachine addresses.now) }
 {
     check_addresses(addresses, file.is_some(), is_open)?;
     let tokens = match file {

@@ -1,9 +1,9 @@
-//! The server that people run: each connection is an agent of its own, whose messages are answered one by one, and which
-//! is told what changed without being asked if it wants that.
+//! The server that people run: each connection is an agent of its own, whose messages are answered one by one, and
+//! which is told what changed without being asked if it wants that.
 //!
-//! `Member` is what answers over a connection, `Hall` what makes one for each, and `serve` runs the event loops. Who may
-//! come in is read by `read_rules`, and again by `serve` where the file of tokens has changed. `bind_socket` listens at a path
-//! of this machine's file system.
+//! `Member` is what answers over a connection, `Hall` what makes one for each, and `serve` runs the event loops. Who
+//! may come in is read by `read_rules`, and again by `serve` where the file of tokens has changed. `bind_socket`
+//! listens at a path of this machine's file system.
 #![tactic(auto)]
 
 mod counts;

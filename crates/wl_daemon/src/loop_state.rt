@@ -13,9 +13,9 @@ use wl_types::Memory;
 pub struct LoopState {
     /// Which of them have changes.
     pub ring: LoopRing,
-    /// The room in which their messages are read, one after another. Only the loop's own thread locks it, for one message
-    /// at a time, and what answers that message doesn't: so nobody ever waits for it. It has a lock because the threads
-    /// of all loops share their states.
+    /// The room in which their messages are read, one after another. Only the loop's own thread locks it, for one
+    /// message at a time, and what answers that message doesn't: so nobody ever waits for it. It has a lock because the
+    /// threads of all loops share their states.
     pub scratch: Mutex<Scratch>,
     /// What is counted of them, apart from what other threads write to.
     pub counts: CachePadded<Counts>,

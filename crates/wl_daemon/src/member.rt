@@ -92,7 +92,8 @@ impl<'a> Speaker for Member<'a> {
 impl<'a> Member<'a> {
     /// A member that didn't open yet. It is told tokens where the server has them, and its handshake selected them.
     pub fn new(desk: Desk<'a>, fencing: Option<&Fencing>) -> Result<Member<'a>, Memory>
-        ensures { IfOk result (λ member. IfSome member.epoch (λ epoch. wants_fences member.desk.admitted.selected ≡ true)) }
+        ensures { IfOk result (λ member. IfSome member.epoch
+            (λ epoch. wants_fences member.desk.admitted.selected ≡ true)) }
     {
         match fencing {
             Some(fencing) if wants_fences(&desk.admitted) => {

@@ -1,5 +1,6 @@
 -- The least lock above a number that an abort of a signal would end, found by the signal's list.
-use Rattle.std.proofs.Common.{◌≡◌, ◌==◌, ℕ, zero, suc, Bool, true, false, cond, List, [], ◌∷◌, ◌++◌, map, drop, refl, sym, ap, subst, ◌∙◌, arith, leb, nat_lt, Option, Some, None}
+use Rattle.std.proofs.Common.{◌≡◌, ◌==◌, ℕ, zero, suc, Bool, true, false, cond, List, [], ◌∷◌, ◌++◌, map, drop, refl}
+use Rattle.std.proofs.Common.{sym, ap, subst, ◌∙◌, arith, leb, nat_lt, Option, Some, None}
 use Rattle.std.specs.Prelude.{filter, is_some, ◌&&◌}
 use Rattle.std.specs.Option.{option_to_list}
 use Rattle.std.specs.List.{find, list_any}
@@ -42,11 +43,13 @@ module _ (owner : Owner) (es : List Entry) where
 
   -- ---- the numbers of a list that find such a lock
 
-  number_of : (n : ℕ) (o : Option Request) → numbers_of (option_to_list (place_if ends n o)) ≡ cond (is_some (place_if ends n o)) (n ∷ []) []
+  number_of : (n : ℕ) (o : Option Request) → numbers_of (option_to_list (place_if ends n o))
+      ≡ cond (is_some (place_if ends n o)) (n ∷ []) []
   number_of n None = refl
   number_of n (Some r) = by (ends (n, r))
     where
-      by : (b : Bool) → numbers_of (option_to_list (cond b (Some (place_of (n, r))) None)) ≡ cond (is_some (cond b (Some (place_of (n, r))) None)) (n ∷ []) []
+      by : (b : Bool) → numbers_of (option_to_list (cond b (Some (place_of (n, r))) None))
+          ≡ cond (is_some (cond b (Some (place_of (n, r))) None)) (n ∷ []) []
       by true = refl
       by false = refl
 
@@ -54,40 +57,55 @@ module _ (owner : Owner) (es : List Entry) where
   numbers_picked [] = refl
   numbers_picked (n ∷ ns) =
       map-append (λ (p : Place). p.number) (pick ends es n) (picked ends es ns)
-      ∙ (ap (λ l. l ++ numbers_of (picked ends es ns)) (number_of n (lookup (is_at (nat_cmp n)) es)) ∙ by (finds n) (numbers_picked ns))
+      ∙ (ap (λ l. l ++ numbers_of (picked ends es ns)) (number_of n (lookup (is_at (nat_cmp n)) es))
+      ∙ by (finds n) (numbers_picked ns))
     where
-      by : (b : Bool) → numbers_of (picked ends es ns) ≡ filter finds ns → cond b (n ∷ []) [] ++ numbers_of (picked ends es ns) ≡ cond b (n ∷ filter finds ns) (filter finds ns)
+      by : (b : Bool) → numbers_of (picked ends es ns) ≡ filter finds ns
+          → cond b (n ∷ []) [] ++ numbers_of (picked ends es ns) ≡ cond b (n ∷ filter finds ns) (filter finds ns)
       by true rest = ap (λ l. n ∷ l) rest
       by false rest = rest
 
   -- where the list has all of the signal's, they are the numbers of its untaken locks
-  same_numbers : (ns : List ℕ) → IsStrictlySortedBy nat_cmp (keys_of es) → IsStrictlySortedBy nat_cmp ns → IsOwners owner es ns → (n : ℕ) → is_in n untaken ≡ is_in n (filter finds ns)
+  same_numbers : (ns : List ℕ) → IsStrictlySortedBy nat_cmp (keys_of es) → IsStrictlySortedBy nat_cmp ns
+      → IsOwners owner es ns → (n : ℕ) → is_in n untaken ≡ is_in n (filter finds ns)
   same_numbers ns sorted rising all n =
       let q : Entry → Bool = λ e. ends_lock owner (lock_row e) in
       ap (λ locks. is_in n (map (λ (lock : HeldRow). lock.number) locks)) (sym (held_filter (ends_lock owner) es))
       ∙ any_map (λ m. m == n) (λ (lock : HeldRow). lock.number) (held_of (filter q es))
-      ∙ any_map (λ (lock : HeldRow). lock.number == n) lock_row (by_grant_seq grant_seq_of (filter holding (filter q es)))
+      ∙ any_map (λ (lock : HeldRow). lock.number == n) lock_row
+      (by_grant_seq grant_seq_of (filter holding (filter q es)))
       ∙ any_by_grant_seq grant_seq_of (λ (e : Entry). e.0 == n) (filter holding (filter q es))
       ∙ ap (list_any (λ (e : Entry). e.0 == n)) (filters_commute holding q es ∙ sym (both_filters holding q es))
-      ∙ sym (any_map (λ m. m == n) (λ (p : Place). p.number) (map place_of (filter ends es)) ∙ any_map (λ (p : Place). p.number == n) place_of (filter ends es))
+      ∙ sym (any_map (λ m. m == n) (λ (p : Place). p.number) (map place_of (filter ends es))
+      ∙ any_map (λ (p : Place). p.number == n) place_of (filter ends es))
       ∙ ap (is_in n) (ap numbers_of (sym (all_picked owner Holds es sorted ns rising all)) ∙ numbers_picked ns)
 
 -- what stands behind the place that halving finds is above
-drop_above : (after : ℕ) (ns : List ℕ) (i : ℕ) → IsPartitionPoint (λ n. leb n after ≡ true) (λ n. leb n after ≡ false) ns i → drop i ns ≡ above after ns
+drop_above : (after : ℕ) (ns : List ℕ) (i : ℕ) → IsPartitionPoint (λ n. leb n after ≡ true) (λ n. leb n after ≡ false)
+    ns i → drop i ns ≡ above after ns
 drop_above after ns zero point =
-    sym (filter_whole (nat_lt after) ns (recursion_from_All (λ n. nat_lt after n ≡ true) ns (λ k d less. let high = point.1 k d (omega arith) less in grind (arith, nat_tests, high))))
+    sym (filter_whole (nat_lt after) ns (recursion_from_All (λ n. nat_lt after n ≡ true) ns
+    (λ k d less. let high = point.1 k d (omega arith) less in grind (arith, nat_tests, high))))
 drop_above after [] (suc i) point = refl
 drop_above after (n ∷ ns) (suc i) point =
-    let low : nat_lt after n ≡ false = let is = point.0 0 n (omega arith) (omega arith) in grind (arith, nat_tests, is) in
-    rw low (drop_above after ns i ((λ k d from to. point.0 (suc k) d (omega arith) (omega arith)), (λ k d from to. point.1 (suc k) d (omega arith) (omega arith))))
+    let low : nat_lt after n ≡ false = let is = point.0 0 n (omega arith) (omega arith) in grind (arith, nat_tests, is)
+    in
+    rw low (drop_above after ns i (
+      (λ k d from to. point.0 (suc k) d (omega arith) (omega arith)),
+      (λ k d from to. point.1 (suc k) d (omega arith) (omega arith)),
+    ))
 
 -- the first that finds one there is the least
-pub least_behind : (owner : Owner) (after : ℕ) (es : List Entry) (ns : List ℕ) (i : ℕ) → IsStrictlySortedBy nat_cmp (keys_of es) → IsStrictlySortedBy nat_cmp ns → IsOwners owner es ns
-    → IsPartitionPoint (λ n. leb n after ≡ true) (λ n. leb n after ≡ false) ns i → IsLeast (above after (untaken owner es)) (find (finds_untaken owner es) (drop i ns))
+pub least_behind : (owner : Owner) (after : ℕ) (es : List Entry) (ns : List ℕ) (i : ℕ)
+    → IsStrictlySortedBy nat_cmp (keys_of es) → IsStrictlySortedBy nat_cmp ns → IsOwners owner es ns
+    → IsPartitionPoint (λ n. leb n after ≡ true) (λ n. leb n after ≡ false) ns i
+    → IsLeast (above after (untaken owner es)) (find (finds_untaken owner es) (drop i ns))
 least_behind owner after es ns i sorted rising all point =
     let found = finds_untaken owner es in
     let least = least_found found (above after ns) (rising_filter (nat_lt after) ns rising) in
     subst (λ l. IsLeast (above after (untaken owner es)) (find found l)) (sym (drop_above after ns i point))
     (least_alike (filter found (above after ns)) (above after (untaken owner es)) (find found (above after ns))
-    (λ n. in_filter (nat_lt after) (untaken owner es) n ∙ ap (λ b. b && nat_lt after n) (same_numbers owner es ns sorted rising all n) ∙ sym (in_filter (nat_lt after) (filter found ns) n) ∙ ap (is_in n) (filters_commute (nat_lt after) found ns))
+    (λ n. in_filter (nat_lt after) (untaken owner es) n ∙ ap (λ b. b && nat_lt after n)
+    (same_numbers owner es ns sorted rising all n) ∙ sym (in_filter (nat_lt after) (filter found ns) n)
+    ∙ ap (is_in n) (filters_commute (nat_lt after) found ns))
     least)

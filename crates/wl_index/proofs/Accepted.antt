@@ -6,13 +6,16 @@ use Rattle.wl_types.specs.Names.{is_long}
 use Rattle.wl_types.specs.Refusals.{refuse_if, first_refusal}
 use Rattle.wl_types.specs.declared.ask.Ask.{Ask}
 use Rattle.wl_types.specs.declared.refusal.Refusal.{Refusal}
-use Rattle.wl_types.specs.declared.refusal.Refusal.TheVariants.{InvalidState, NameTooLong, NoSuchSignal, NumbersSpent, TooManyRequests}
+use Rattle.wl_types.specs.declared.refusal.Refusal.TheVariants.{InvalidState, NameTooLong, NoSuchSignal, NumbersSpent}
+use Rattle.wl_types.specs.declared.refusal.Refusal.TheVariants.{TooManyRequests}
 use Rattle.wl_machine.specs.State.{State}
-use Rattle.wl_machine.specs.Refusals.{refusal, has_agent, has_signal, is_inactive, known_agent, unknown_signal, aborted_signal, live_count, is_spent}
+use Rattle.wl_machine.specs.Refusals.{refusal, has_agent, has_signal, is_inactive, known_agent, unknown_signal}
+use Rattle.wl_machine.specs.Refusals.{aborted_signal, live_count, is_spent}
 use Rattle.wl_machine.specs.declared.command.Command.TheVariants as command
 
 -- where the first of a list of refusals is none, it is none, and so is the first of the rest
-pub first_none : (o : Option Refusal) (rest : List (Option Refusal)) → first_refusal (o ∷ rest) ≡ None → (o ≡ None) × (first_refusal rest ≡ None)
+pub first_none : (o : Option Refusal) (rest : List (Option Refusal)) → first_refusal (o ∷ rest) ≡ None
+    → (o ≡ None) × (first_refusal rest ≡ None)
 first_none None rest none = (refl, none)
 first_none (Some r) rest none = absurd (cc)
 
@@ -31,7 +34,8 @@ pub record Accepted (s : State) (agent : ℕ) (ask : Ask) : Type 0 where
   pub few : nat_le 65536 (live_count s) ≡ false
   pub low : is_spent s.next.request ≡ false
 
-pub request_accepted : (s : State) (agent : ℕ) (ask : Ask) → refusal s (command.Request agent ask) ≡ None → Accepted s agent ask
+pub request_accepted : (s : State) (agent : ℕ) (ask : Ask) → refusal s (command.Request agent ask) ≡ None
+    → Accepted s agent ask
 request_accepted s agent ask accepted =
     let eighth = refuse_if (is_spent s.next.request) NumbersSpent ∷ [] in
     let seventh = refuse_if (nat_le 65536 (live_count s)) TooManyRequests ∷ eighth in
@@ -50,7 +54,9 @@ request_accepted s agent ask accepted =
     record {
       live = not_not (has_agent s agent) (not_refused (not (has_agent s agent)) _ a.0);
       allowed = c.0;
-      made = λ signal is. not_not (has_signal s agent signal) (not_refused (not (has_signal s agent signal)) NoSuchSignal (subst (λ o. unknown_signal s agent o ≡ None) is d.0));
+      made = λ signal is. not_not (has_signal s agent signal)
+          (not_refused (not (has_signal s agent signal)) NoSuchSignal
+          (subst (λ o. unknown_signal s agent o ≡ None) is d.0));
       few = not_refused (nat_le 65536 (live_count s)) TooManyRequests g.0;
       low = not_refused (is_spent s.next.request) NumbersSpent h.0;
     }

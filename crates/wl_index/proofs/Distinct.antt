@@ -17,7 +17,8 @@ module _ {X : Type 0} (f : X → ℕ) where
       by false rest = rest
 
   -- a map that keeps the grant sequences
-  pub distinct_map : {Y : Type 0} (h : Y → ℕ) (g : X → Y) → ((x : X) → h (g x) ≡ f x) → (l : List X) → Distinct f l → Distinct h (map g l)
+  pub distinct_map : {Y : Type 0} (h : Y → ℕ) (g : X → Y) → ((x : X) → h (g x) ≡ f x) → (l : List X) → Distinct f l
+      → Distinct h (map g l)
   distinct_map h g keeps [] distinct = tt
   distinct_map h g keeps (x ∷ l) distinct = (others l distinct.0, distinct_map h g keeps l distinct.1)
     where
@@ -25,15 +26,20 @@ module _ {X : Type 0} (f : X → ℕ) where
       others [] all = tt
       others (y ∷ l) all = ((λ same. all.0 (sym (keeps x) ∙ same ∙ keeps y)), others l all.1)
 
-  distinct_middle : (x : X) (front back : List X) → Differs x front → Differs x back → Distinct f (front ++ back) → Distinct f (front ++ x ∷ back)
+  distinct_middle : (x : X) (front back : List X) → Differs x front → Differs x back → Distinct f (front ++ back)
+      → Distinct f (front ++ x ∷ back)
   distinct_middle x [] back low high distinct = (high, distinct)
   distinct_middle x (y ∷ front) back low high distinct =
       let P : X → Type 0 = λ z. f y ≡ f z → ⊥ in
-      let first : f y ≡ f x → ⊥ = λ same. low.0 (sym same) in
-      (all_append P front (x ∷ back) (all_front P front back distinct.0) (first, all_back P front back distinct.0), distinct_middle x front back low.1 high distinct.1)
+      let first : f y ≡ f x → ⊥ = λ same. low.0 (sym same) in (
+        all_append P front (x ∷ back) (all_front P front back distinct.0) (first, all_back P front back distinct.0),
+        distinct_middle x front back low.1 high distinct.1,
+      )
 
   -- one more, whose grant sequence is above all
-  pub distinct_last_come : (x : X) (front back : List X) → AllByRecursion (λ y. f y < f x) front → AllByRecursion (λ y. f y < f x) back → Distinct f (front ++ back) → Distinct f (front ++ x ∷ back)
+  pub distinct_last_come : (x : X) (front back : List X) → AllByRecursion (λ y. f y < f x) front
+      → AllByRecursion (λ y. f y < f x) back → Distinct f (front ++ back) → Distinct f (front ++ x ∷ back)
   distinct_last_come x front back low high distinct =
       let apart : (y : X) → f y < f x → f x ≡ f y → ⊥ = λ y less same. omega (arith, less, same) in
-      distinct_middle x front back (all_weaker (λ y. f y < f x) (λ y. f x ≡ f y → ⊥) front apart low) (all_weaker (λ y. f y < f x) (λ y. f x ≡ f y → ⊥) back apart high) distinct
+      distinct_middle x front back (all_weaker (λ y. f y < f x) (λ y. f x ≡ f y → ⊥) front apart low)
+      (all_weaker (λ y. f y < f x) (λ y. f x ≡ f y → ⊥) back apart high) distinct

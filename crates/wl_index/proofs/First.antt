@@ -1,5 +1,6 @@
 -- The first by grant sequence, and those after it.
-use Rattle.std.proofs.Common.{◌≡◌, ℕ, suc, ◌<◌, ◌≤◌, ◌+◌, ◌-◌, Bool, true, false, cond, List, [], ◌∷◌, ◌++◌, refl, sym, ap, ◌∙◌, filter, nat_lt, nat_le, if◌then◌else◌, arith, Option, Some, None, subst}
+use Rattle.std.proofs.Common.{◌≡◌, ℕ, suc, ◌<◌, ◌≤◌, ◌+◌, ◌-◌, Bool, true, false, cond, List, [], ◌∷◌, ◌++◌, refl, sym}
+use Rattle.std.proofs.Common.{ap, ◌∙◌, filter, nat_lt, nat_le, if◌then◌else◌, arith, Option, Some, None, subst}
 use Rattle.std.specs.List.{AllByRecursion, slice_get}
 use Rattle.std.specs.Option.{option_to_list, unwrap_or}
 use Rattle.std.proofs.lemmas.Bool.Decides.{nat_tests}
@@ -9,7 +10,8 @@ use Rattle.wl_index.proofs.Lists.{filter_whole, all_weaker}
 use Rattle.wl_index.proofs.Sorted.{Climbing}
 
 -- where nothing is left, the list has ended
-pub none_left : {X : Type 0} (i k : ℕ) (l rest : List X) → slice_get rest 0 ≡ None → slice_get l i ≡ slice_get rest k → slice_get l i ≡ None
+pub none_left : {X : Type 0} (i k : ℕ) (l rest : List X) → slice_get rest 0 ≡ None → slice_get l i ≡ slice_get rest k
+    → slice_get l i ≡ None
 none_left i k l [] none before = before
 none_left i k l (x ∷ rest) none before = absurd (none-some x (sym none))
 
@@ -33,7 +35,8 @@ module _ {X : Type 0} (f : X → ℕ) where
   pick_all x y z = by (nat_lt (f x) (f y)) (nat_lt (f y) (f z)) (nat_lt (f x) (f z)) refl refl refl
     where
       by : (a b c : Bool) → nat_lt (f x) (f y) ≡ a → nat_lt (f y) (f z) ≡ b → nat_lt (f x) (f z) ≡ c
-          → pick (Some x) (Some (if nat_lt (f y) (f z) then y else z)) ≡ pick (Some (if nat_lt (f x) (f y) then x else y)) (Some z)
+          → pick (Some x) (Some (if nat_lt (f y) (f z) then y else z))
+          ≡ pick (Some (if nat_lt (f x) (f y) then x else y)) (Some z)
       by true true true ha hb hc = rw (hb, ha, hc) refl
       by true true false ha hb hc = absurd (grind (arith, nat_tests, ha, hb, hc))
       by true false c ha hb hc = rw (hb, ha) refl
@@ -67,7 +70,8 @@ module _ {X : Type 0} (f : X → ℕ) where
 
   -- the first of a list stands for the list
   pub first_again : (l r : List X) → first (option_to_list (first l) ++ r) ≡ first (l ++ r)
-  first_again l r = first_append (option_to_list (first l)) r ∙ ap (λ o. pick o (first r)) (first_self (first l)) ∙ sym (first_append l r)
+  first_again l r = first_append (option_to_list (first l)) r ∙ ap (λ o. pick o (first r)) (first_self (first l))
+      ∙ sym (first_append l r)
 
   -- ---- those after the first
 
@@ -80,7 +84,8 @@ module _ {X : Type 0} (f : X → ℕ) where
     pub rest : from low l ≡ x ∷ from (f x + 1) l
 
   all_from : (low : ℕ) (l : List X) → AllByRecursion (λ y. low ≤ f y) l → from low l ≡ l
-  all_from low l all = filter_whole (λ x. nat_le low (f x)) l (all_weaker (λ y. low ≤ f y) (λ y. nat_le low (f y) ≡ true) l (λ y h. grind (arith, nat_tests, h)) all)
+  all_from low l all = filter_whole (λ x. nat_le low (f x)) l
+      (all_weaker (λ y. low ≤ f y) (λ y. nat_le low (f y) ≡ true) l (λ y h. grind (arith, nat_tests, h)) all)
 
   pub after : (low : ℕ) (l : List X) (x : X) → Climbing f l → slice_get (from low l) 0 ≡ Some x → After low l x
   after low [] x climbing there = absurd (cc)
@@ -96,8 +101,10 @@ module _ {X : Type 0} (f : X → ℕ) where
           record {
             high = high;
             rest = rw (h, past) (ap (λ t. y ∷ t) (
-                all_from low l (all_weaker (λ z. f y < f z) (λ z. low ≤ f z) l (λ z less. omega (arith, less, high)) climbing.0)
-                ∙ sym (all_from (f y + 1) l (all_weaker (λ z. f y < f z) (λ z. f y + 1 ≤ f z) l (λ z less. omega (arith, less)) climbing.0))));
+                all_from low l (all_weaker (λ z. f y < f z) (λ z. low ≤ f z) l (λ z less. omega (arith, less, high))
+                climbing.0)
+                ∙ sym (all_from (f y + 1) l (all_weaker (λ z. f y < f z) (λ z. f y + 1 ≤ f z) l
+                (λ z less. omega (arith, less)) climbing.0))));
           }
 
       by : (b : Bool) → nat_le low (f y) ≡ b → (slice_get (from low l) 0 ≡ Some x → After low l x) → After low (y ∷ l) x
@@ -118,7 +125,10 @@ module _ {X : Type 0} (f : X → ℕ) where
       all (y ∷ l) = (grind (arith, nat_tests), all l)
 
   -- the first from a grant sequence on is passed
-  pub passed : (low i done : ℕ) (l : List X) (x : X) → Climbing f l → done < i → slice_get (from low l) 0 ≡ Some x → slice_get l i ≡ slice_get (from low l) (i - done) → slice_get l i ≡ slice_get (from (f x + 1) l) (i - (done + 1))
+  pub passed : (low i done : ℕ) (l : List X) (x : X) → Climbing f l → done < i → slice_get (from low l) 0 ≡ Some x
+      → slice_get l i ≡ slice_get (from low l) (i - done) → slice_get l i
+      ≡ slice_get (from (f x + 1) l) (i - (done + 1))
   passed low i done l x climbing less there before =
       let one : i - done ≡ suc (i - (done + 1)) = omega (arith, less) in
-      before ∙ ap (λ t. slice_get t (i - done)) (after low l x climbing there).rest ∙ ap (slice_get (x ∷ from (f x + 1) l)) one
+      before ∙ ap (λ t. slice_get t (i - done)) (after low l x climbing there).rest
+      ∙ ap (slice_get (x ∷ from (f x + 1) l)) one

@@ -1,12 +1,16 @@
 -- A list whose grant sequences differ has one order by grant sequence, whatever sorts it.
-use Rattle.std.proofs.Common.{◌≡◌, ℕ, zero, suc, ◌<◌, ◌≤◌, List, [], ◌∷◌, refl, sym, ap, ◌∙◌, length, get_or, set, arith, Bool, true, false, nat_lt, if◌then◌else◌}
+use Rattle.std.proofs.Common.{◌≡◌, ℕ, zero, suc, ◌<◌, ◌≤◌, List, [], ◌∷◌, refl, sym, ap, ◌∙◌, length, get_or, set}
+use Rattle.std.proofs.Common.{arith, Bool, true, false, nat_lt, if◌then◌else◌}
 use Rattle.std.specs.List.{AllByRecursion, swap}
 use Rattle.std.specs.List.Sorted.{IsPermutation, IsNonDecreasingBy}
 use Rattle.std.proofs.lemmas.List.Elements.{recursion_from_All}
-use Rattle.std.proofs.lemmas.List.Sorted.{IsPermutation-keeps, IsPermutation-refl, IsPermutation-sym, IsPermutation-trans, IsPermutation-cons, IsPermutation-middle}
-use Rattle.wl_index.specs.inner.GrantOrder.{Distinct, Rising, place, by_grant_seq, place_apart, place_first, by_grant_seq_rising}
+use Rattle.std.proofs.lemmas.List.Sorted.{IsPermutation-keeps, IsPermutation-refl, IsPermutation-sym}
+use Rattle.std.proofs.lemmas.List.Sorted.{IsPermutation-trans, IsPermutation-cons, IsPermutation-middle}
+use Rattle.wl_index.specs.inner.GrantOrder.{Distinct, Rising, place, by_grant_seq, place_apart, place_first}
+use Rattle.wl_index.specs.inner.GrantOrder.{by_grant_seq_rising}
 
--- A relation holds along each permutation if it is reflexive and transitive, and goes under a head and over an exchange of two heads.
+-- A relation holds along each permutation if it is reflexive and transitive, and goes under a head and over an exchange
+-- of two heads.
 module _ {X : Type 0} (R : List X → List X → Type 0) (same : (xs : List X) → R xs xs)
     (skip : (x : X) (xs ys : List X) → R xs ys → R (x ∷ xs) (x ∷ ys))
     (turn : (x y : X) (xs : List X) → R (x ∷ y ∷ xs) (y ∷ x ∷ xs))
@@ -15,9 +19,11 @@ module _ {X : Type 0} (R : List X → List X → Type 0) (same : (xs : List X) �
   to_head [] j x d h = absurd (omega arith)
   to_head (y ∷ l) zero x d h = turn x y l
   to_head (y ∷ l) (suc j) x d h =
-      chain _ _ _ (turn x y l) (chain _ _ _ (skip y _ _ (to_head l j x d (omega arith))) (turn y (get_or l j d) (set l j x)))
+      chain _ _ _ (turn x y l) (chain _ _ _ (skip y _ _ (to_head l j x d (omega arith)))
+      (turn y (get_or l j d) (set l j x)))
 
-  exchanged : (l : List X) (i j : ℕ) (d : X) → i < length l → j < length l → R l (set (set l i (get_or l j d)) j (get_or l i d))
+  exchanged : (l : List X) (i j : ℕ) (d : X) → i < length l → j < length l
+      → R l (set (set l i (get_or l j d)) j (get_or l i d))
   exchanged [] i j d p q = absurd (omega arith)
   exchanged (x ∷ l) zero zero d p q = same (x ∷ l)
   exchanged (x ∷ l) zero (suc j) d p q = to_head l j x d (omega arith)
@@ -83,9 +89,11 @@ module _ {X : Type 0} (f : X → ℕ) where
   climbs [] rising distinct = tt
   climbs (x ∷ l) rising distinct = (above l rising.0 distinct.0, climbs l rising.1 distinct.1)
     where
-      above : (l : List X) → AllByRecursion (λ y. f x ≤ f y) l → AllByRecursion (λ y. f x ≡ f y → ⊥) l → AllByRecursion (λ y. f x < f y) l
+      above : (l : List X) → AllByRecursion (λ y. f x ≤ f y) l → AllByRecursion (λ y. f x ≡ f y → ⊥) l
+          → AllByRecursion (λ y. f x < f y) l
       above [] all apart = tt
-      above (y ∷ l) all apart = let low = all.0 in let differs = apart.0 in (omega (arith, low, differs), above l all.1 apart.1)
+      above (y ∷ l) all apart = let low = all.0 in let differs = apart.0
+          in (omega (arith, low, differs), above l all.1 apart.1)
 
   -- a list that climbs is in order already
   pub in_order : (l : List X) → Climbing l → by_grant_seq f l ≡ l
@@ -97,24 +105,32 @@ module _ {X : Type 0} (f : X → ℕ) where
   moves x [] = IsPermutation-refl (x ∷ [])
   moves x (y ∷ l) = by (nat_lt (f x) (f y)) (moves x l)
     where
-      by : (b : Bool) → IsPermutation (x ∷ l) (place f x l) → IsPermutation (x ∷ y ∷ l) (if b then x ∷ y ∷ l else y ∷ place f x l)
+      by : (b : Bool) → IsPermutation (x ∷ l) (place f x l)
+          → IsPermutation (x ∷ y ∷ l) (if b then x ∷ y ∷ l else y ∷ place f x l)
       by true rest = IsPermutation-refl (x ∷ y ∷ l)
-      by false rest = IsPermutation-trans (x ∷ y ∷ l) (y ∷ x ∷ l) (y ∷ place f x l) (IsPermutation-sym (y ∷ x ∷ l) (x ∷ y ∷ l) (IsPermutation-middle (y ∷ []) x l)) (IsPermutation-cons y (x ∷ l) (place f x l) rest)
+      by false rest = IsPermutation-trans (x ∷ y ∷ l) (y ∷ x ∷ l) (y ∷ place f x l)
+          (IsPermutation-sym (y ∷ x ∷ l) (x ∷ y ∷ l) (IsPermutation-middle (y ∷ []) x l))
+          (IsPermutation-cons y (x ∷ l) (place f x l) rest)
 
   pub by_grant_seq_moves : (l : List X) → IsPermutation l (by_grant_seq f l)
   by_grant_seq_moves [] = IsPermutation-refl []
-  by_grant_seq_moves (x ∷ l) = IsPermutation-trans (x ∷ l) (x ∷ by_grant_seq f l) (place f x (by_grant_seq f l)) (IsPermutation-cons x l (by_grant_seq f l) (by_grant_seq_moves l)) (moves x (by_grant_seq f l))
+  by_grant_seq_moves (x ∷ l) = IsPermutation-trans (x ∷ l) (x ∷ by_grant_seq f l) (place f x (by_grant_seq f l))
+      (IsPermutation-cons x l (by_grant_seq f l) (by_grant_seq_moves l)) (moves x (by_grant_seq f l))
 
   pub by_grant_seq_climbs : (l : List X) → Distinct f l → Climbing (by_grant_seq f l)
-  by_grant_seq_climbs l distinct = climbs (by_grant_seq f l) (by_grant_seq_rising f l) (permuted l (by_grant_seq f l) (by_grant_seq_moves l) distinct).distinct
+  by_grant_seq_climbs l distinct = climbs (by_grant_seq f l) (by_grant_seq_rising f l)
+      (permuted l (by_grant_seq f l) (by_grant_seq_moves l) distinct).distinct
 
   rises : (l : List X) → IsNonDecreasingBy f l → Rising f l
   rises [] sorted = tt
-  rises (x ∷ l) sorted =
-      (recursion_from_All (λ y. f x ≤ f y) l (λ k d low. sorted 0 (suc k) d (omega arith) (omega (arith, low))), rises l (λ i j d le low. sorted (suc i) (suc j) d (omega (arith, le)) (omega (arith, low))))
+  rises (x ∷ l) sorted = (
+    recursion_from_All (λ y. f x ≤ f y) l (λ k d low. sorted 0 (suc k) d (omega arith) (omega (arith, low))),
+    rises l (λ i j d le low. sorted (suc i) (suc j) d (omega (arith, le)) (omega (arith, low))),
+  )
 
   -- whatever sorts a list by grant sequences that differ gives the one order
-  pub sorted_by_grant_seq : (xs ys : List X) → Distinct f xs → IsPermutation xs ys → IsNonDecreasingBy f ys → ys ≡ by_grant_seq f xs
+  pub sorted_by_grant_seq : (xs ys : List X) → Distinct f xs → IsPermutation xs ys → IsNonDecreasingBy f ys
+      → ys ≡ by_grant_seq f xs
   sorted_by_grant_seq xs ys distinct moved sorted =
       let kept = permuted xs ys moved distinct in
       sym (in_order ys (climbs ys (rises ys sorted) kept.distinct)) ∙ kept.same

@@ -42,13 +42,15 @@ said f number (Some r) = f (number, r) ∷ []
 abbrev pub found_at : {X : Type 0} → (Entry → X) → List Entry → List ℕ → List X
 found_at f es numbers = flat_map (λ n. said f n (lookup (is_at (nat_cmp n)) es)) numbers
 
-pub said_one : {X : Type 0} (f : Entry → X) (number : ℕ) (x : X) (o : Option Request) → IsSome o → IfSome o (λ r. x ≡ f (number, r)) → said f number o ≡ x ∷ []
+pub said_one : {X : Type 0} (f : Entry → X) (number : ℕ) (x : X) (o : Option Request) → IsSome o
+    → IfSome o (λ r. x ≡ f (number, r)) → said f number o ≡ x ∷ []
 said_one f number x None some is = absurd (cc)
 said_one f number x (Some r) some is = ap (λ y. y ∷ []) (sym is)
 
 -- ---- each entry is found
 
-lookup_later : (x : Entry) (es rest : List Entry) → AllByRecursion (λ y. nat_cmp x.0 y ≡ Less) (keys_of rest) → AllByRecursion (Finds es) rest → AllByRecursion (Finds (x ∷ es)) rest
+lookup_later : (x : Entry) (es rest : List Entry) → AllByRecursion (λ y. nat_cmp x.0 y ≡ Less) (keys_of rest)
+    → AllByRecursion (Finds es) rest → AllByRecursion (Finds (x ∷ es)) rest
 lookup_later x es [] above found = tt
 lookup_later x es (e ∷ rest) above found =
     let apart : (x.0 == e.0) ≡ false = grind (arith, nat_tests, above.0) in
@@ -58,16 +60,19 @@ pub all_found : (es : List Entry) → IsStrictlySortedBy nat_cmp (keys_of es) �
 all_found [] sorted = tt
 all_found (x ∷ es) sorted = (
   rw (same_number x.0 x.0, number_same x.0) refl,
-  lookup_later x es es (sorted_head nat_cmp x.0 (keys_of es) sorted) (all_found es (sorted_tail nat_cmp x.0 (keys_of es) sorted)),
+  lookup_later x es es (sorted_head nat_cmp x.0 (keys_of es) sorted)
+      (all_found es (sorted_tail nat_cmp x.0 (keys_of es) sorted)),
 )
 
 -- ---- entries by their numbers
 
-pub numbers_stand : (es some : List Entry) → AllByRecursion (Finds es) some → AllByRecursion (Stands es) (map (λ e. e.0) some)
+pub numbers_stand : (es some : List Entry) → AllByRecursion (Finds es) some
+    → AllByRecursion (Stands es) (map (λ e. e.0) some)
 numbers_stand es [] found = tt
 numbers_stand es (e ∷ some) found = (rw found.0 refl, numbers_stand es some found.1)
 
-pub numbers_say : {X : Type 0} (f : Entry → X) (es some : List Entry) → AllByRecursion (Finds es) some → found_at f es (map (λ e. e.0) some) ≡ map f some
+pub numbers_say : {X : Type 0} (f : Entry → X) (es some : List Entry) → AllByRecursion (Finds es) some
+    → found_at f es (map (λ e. e.0) some) ≡ map f some
 numbers_say f es [] found = refl
 numbers_say f es (e ∷ some) found = rw found.0 (ap (λ l. f e ∷ l) (numbers_say f es some found.1))
 
@@ -79,19 +84,29 @@ queued name es = filter (λ e. bytes_eq (request_row e).name name) (filter waiti
 queue_is : (name : List ℕ) (es : List Entry) → queue name (pending_of es) ≡ map request_row (queued name es)
 queue_is name es = filter_map (λ request. bytes_eq request.name name) request_row (filter waiting es)
 
-queue_numbers : (name : List ℕ) (es : List Entry) → keys_of (map number_and_mode (queue name (pending_of es))) ≡ map (λ e. e.0) (queued name es)
+queue_numbers : (name : List ℕ) (es : List Entry) → keys_of (map number_and_mode (queue name (pending_of es)))
+    ≡ map (λ e. e.0) (queued name es)
 queue_numbers name es =
-    ap (λ l. keys_of (map number_and_mode l)) (queue_is name es) ∙ ap keys_of (map_twice number_and_mode request_row (queued name es)) ∙ map_twice (λ (n : Numbered). n.0) (λ e. number_and_mode (request_row e)) (queued name es)
+    ap (λ l. keys_of (map number_and_mode l)) (queue_is name es)
+    ∙ ap keys_of (map_twice number_and_mode request_row (queued name es))
+    ∙ map_twice (λ (n : Numbered). n.0) (λ e. number_and_mode (request_row e)) (queued name es)
 
-queued_found : (name : List ℕ) (es : List Entry) → IsStrictlySortedBy nat_cmp (keys_of es) → AllByRecursion (Finds es) (queued name es)
-queued_found name es sorted = all_filter (Finds es) (λ e. bytes_eq (request_row e).name name) (filter waiting es) (all_filter (Finds es) waiting es (all_found es sorted))
+queued_found : (name : List ℕ) (es : List Entry) → IsStrictlySortedBy nat_cmp (keys_of es)
+    → AllByRecursion (Finds es) (queued name es)
+queued_found name es sorted = all_filter (Finds es) (λ e. bytes_eq (request_row e).name name) (filter waiting es)
+    (all_filter (Finds es) waiting es (all_found es sorted))
 
-pub queue_stands : (name : List ℕ) (es : List Entry) → IsStrictlySortedBy nat_cmp (keys_of es) → AllByRecursion (Stands es) (keys_of (map number_and_mode (queue name (pending_of es))))
-queue_stands name es sorted = rw (queue_numbers name es) (numbers_stand es (queued name es) (queued_found name es sorted))
+pub queue_stands : (name : List ℕ) (es : List Entry) → IsStrictlySortedBy nat_cmp (keys_of es)
+    → AllByRecursion (Stands es) (keys_of (map number_and_mode (queue name (pending_of es))))
+queue_stands name es sorted = rw (queue_numbers name es) (numbers_stand es (queued name es)
+    (queued_found name es sorted))
 
-pub queue_shown : (name : List ℕ) (es : List Entry) → IsStrictlySortedBy nat_cmp (keys_of es) → found_at info es (keys_of (map number_and_mode (queue name (pending_of es)))) ≡ map request_info (queue name (pending_of es))
+pub queue_shown : (name : List ℕ) (es : List Entry) → IsStrictlySortedBy nat_cmp (keys_of es)
+    → found_at info es (keys_of (map number_and_mode (queue name (pending_of es))))
+    ≡ map request_info (queue name (pending_of es))
 queue_shown name es sorted =
-    ap (found_at info es) (queue_numbers name es) ∙ numbers_say info es (queued name es) (queued_found name es sorted) ∙ sym (ap (map request_info) (queue_is name es) ∙ map_twice request_info request_row (queued name es))
+    ap (found_at info es) (queue_numbers name es) ∙ numbers_say info es (queued name es) (queued_found name es sorted)
+    ∙ sym (ap (map request_info) (queue_is name es) ∙ map_twice request_info request_row (queued name es))
 
 -- ---- the locks
 
@@ -102,14 +117,20 @@ lock_numbers : (es : List Entry) → map (λ lock. lock.number) (held_of es) ≡
 lock_numbers es = map_twice (λ lock. lock.number) lock_row (granted es)
 
 granted_found : (es : List Entry) → IsStrictlySortedBy nat_cmp (keys_of es) → AllByRecursion (Finds es) (granted es)
-granted_found es sorted = by_grant_seq_all grant_seq_of (Finds es) (filter holding es) (all_filter (Finds es) holding es (all_found es sorted))
+granted_found es sorted = by_grant_seq_all grant_seq_of (Finds es) (filter holding es)
+    (all_filter (Finds es) holding es (all_found es sorted))
 
-pub locks_stand : (es : List Entry) → IsStrictlySortedBy nat_cmp (keys_of es) → AllByRecursion (Stands es) (map (λ lock. lock.number) (held_of es))
+pub locks_stand : (es : List Entry) → IsStrictlySortedBy nat_cmp (keys_of es)
+    → AllByRecursion (Stands es) (map (λ lock. lock.number) (held_of es))
 locks_stand es sorted = rw (lock_numbers es) (numbers_stand es (granted es) (granted_found es sorted))
 
-pub locks_shown : (es : List Entry) → IsStrictlySortedBy nat_cmp (keys_of es) → found_at info es (map (λ lock. lock.number) (held_of es)) ≡ map lock_info (held_of es)
+pub locks_shown : (es : List Entry) → IsStrictlySortedBy nat_cmp (keys_of es)
+    → found_at info es (map (λ lock. lock.number) (held_of es)) ≡ map lock_info (held_of es)
 locks_shown es sorted =
-    ap (found_at info es) (lock_numbers es) ∙ numbers_say info es (granted es) (granted_found es sorted) ∙ sym (map_twice lock_info lock_row (granted es))
+    ap (found_at info es) (lock_numbers es) ∙ numbers_say info es (granted es) (granted_found es sorted)
+    ∙ sym (map_twice lock_info lock_row (granted es))
 
-pub locks_copied : (es : List Entry) → IsStrictlySortedBy nat_cmp (keys_of es) → found_at lock_row es (map (λ lock. lock.number) (held_of es)) ≡ held_of es
-locks_copied es sorted = ap (found_at lock_row es) (lock_numbers es) ∙ numbers_say lock_row es (granted es) (granted_found es sorted)
+pub locks_copied : (es : List Entry) → IsStrictlySortedBy nat_cmp (keys_of es)
+    → found_at lock_row es (map (λ lock. lock.number) (held_of es)) ≡ held_of es
+locks_copied es sorted = ap (found_at lock_row es) (lock_numbers es)
+    ∙ numbers_say lock_row es (granted es) (granted_found es sorted)

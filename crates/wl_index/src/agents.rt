@@ -1,5 +1,6 @@
 //! Agents, their signals, and the lists by which the requests of each are found.
-ghost use Rattle.std.specs.Prelude.{◌≡◌, ◌+◌, ◌<◌, ◌==◌, ◌&&◌, true, not, [], ◌∷◌, ◌++◌, map, filter, length, OnOk, OnErr, IfOk, IfSome, IsSome, Some, None, ℕ, false, if◌then◌else◌};
+ghost use Rattle.std.specs.Prelude.{◌≡◌, ◌+◌, ◌<◌, ◌==◌, ◌&&◌, true, not, [], ◌∷◌, ◌++◌, map, filter, length, OnOk};
+ghost use Rattle.std.specs.Prelude.{OnErr, IfOk, IfSome, IsSome, Some, None, ℕ, false, if◌then◌else◌};
 ghost use Rattle.std.specs.List.{list_any, Contains};
 ghost use Rattle.std.specs.Map.{keys_of, lookup, set_value};
 ghost use Rattle.std.specs.List.Sorted.{IsStrictlySortedBy};
@@ -10,7 +11,8 @@ ghost use Rattle.wl_machine.specs.Refusals.{is_window, reason_in, signals_of};
 ghost use Rattle.wl_machine.specs.Step.{with_active, with_reason};
 ghost use Rattle.wl_index.specs.inner.AgentRows.{aborted, agent_row, signal_row};
 ghost use Rattle.std.specs.Option.{option_copied};
-ghost use Rattle.wl_index.specs.inner.Lists.{IsOn, IsRising, Keeps, KeepsLive, SameLists, at, list_at, numbers_of_owner, only_live, own_of, signed_of, is_spared};
+ghost use Rattle.wl_index.specs.inner.Lists.{IsOn, IsRising, Keeps, KeepsLive, SameLists, at, list_at};
+ghost use Rattle.wl_index.specs.inner.Lists.{numbers_of_owner, only_live, own_of, signed_of, is_spared};
 
 use crate::listing::{enlist, retain_live};
 use crate::request::Owner;
@@ -21,8 +23,8 @@ use std::marker::Model;
 use wl_number_map::{NumberMap, Rows};
 use wl_types::{Kind, Memory, Reason};
 
-/// A live agent: numbers that rise, with those of all its live requests; and of each of its signals numbers that rise, with
-/// those of all its live requests with that signal.
+/// A live agent: numbers that rise, with those of all its live requests; and of each of its signals numbers that rise,
+/// with those of all its live requests with that signal.
 #[derive(Drop)]
 pub struct Agent {
     pub kind: Kind,
@@ -69,12 +71,21 @@ impl Model for Agents {
       members = a.agents.entries;
     } };
 
-    ghost invariant = { λ a. IsAgentIndex a.agents.entries a.signals.entries a.next_agent a.next_signal × ((agent : ℕ) → IsRising (at agent a.agents.entries)) };
+    ghost invariant = { λ a. IsAgentIndex a.agents.entries a.signals.entries a.next_agent a.next_signal
+        × ((agent : ℕ) → IsRising (at agent a.agents.entries)) };
 }
 
 impl Agents {
     pub fn new(alloc: Global, next_agent: u64, next_signal: u64) -> Agents
-        ensures { result ≡ record { rows = record { agents = []; signals = []; next_agent = next_agent; next_signal = next_signal }; members = [] } }
+        ensures { result ≡ record {
+          rows = record {
+            agents = [];
+            signals = [];
+            next_agent = next_agent;
+            next_signal = next_signal;
+          };
+          members = [];
+        } }
     {
         Agents {
             agents: NumberMap::new(alloc),
@@ -122,7 +133,11 @@ impl Agents {
     pub fn open(&mut self, kind: Kind) -> Result<u64, Memory>
         requires { self.old.rows.next_agent < 9007199254740992 }
         ensures number { IfOk result (λ n. n ≡ self.old.rows.next_agent) }
-        ensures opened { OnOk result (self.new.rows ≡ record self.old.rows { agents = self.old.rows.agents ++ record { number = self.old.rows.next_agent; kind = kind; active = true } ∷ []; next_agent = self.old.rows.next_agent + 1 }) }
+        ensures opened { OnOk result (self.new.rows ≡ record self.old.rows {
+          agents = self.old.rows.agents
+              ++ record { number = self.old.rows.next_agent; kind = kind; active = true } ∷ [];
+          next_agent = self.old.rows.next_agent + 1;
+        }) }
         ensures err { OnErr result (self.new ≡ self.old) }
         ensures lists { SameLists self.old.members self.new.members }
     {
@@ -146,7 +161,8 @@ impl Agents {
 
     /// Whether the agent is a window made inactive.
     pub fn is_inactive(&self, agent: u64) -> bool
-        ensures { result ≡ list_any (λ row. row.number == agent && is_window row.kind && not row.active) self.now.rows.agents }
+        ensures { result ≡ list_any (λ row. row.number == agent && is_window row.kind && not row.active)
+            self.now.rows.agents }
     {
         match self.agents.get(agent) {
             Some(found) => is_inactive(found),
@@ -193,7 +209,10 @@ impl Agents {
 
     /// Makes the agent active or inactive.
     pub fn set_active(&mut self, agent: u64, active: bool)
-        ensures rows { self.new.rows ≡ record self.old.rows { agents = map (with_active agent active) self.old.rows.agents } }
+        ensures rows { self.new.rows ≡ record self.old.rows {
+          agents =
+              map (with_active agent active) self.old.rows.agents;
+        } }
         ensures lists { SameLists self.old.members self.new.members }
     {
         let Some(found) = self.agents.get_mut(agent) else {
@@ -205,8 +224,12 @@ impl Agents {
     /// The agent's signal is aborted for this reason, and used no more: its list keeps live requests alone, and no more
     /// room than it needs.
     pub fn abort(&mut self, live: &Requests, agent: u64, signal: u64, reason: Reason)
-        ensures rows { self.new.rows ≡ record self.old.rows { signals = map (with_reason agent signal reason) self.old.rows.signals } }
-        ensures cleaned { signed_of signal (at agent self.new.members) ≡ only_live live.now.entries (signed_of signal (at agent self.old.members)) }
+        ensures rows { self.new.rows ≡ record self.old.rows {
+          signals =
+              map (with_reason agent signal reason) self.old.rows.signals;
+        } }
+        ensures cleaned { signed_of signal (at agent self.new.members)
+            ≡ only_live live.now.entries (signed_of signal (at agent self.old.members)) }
         ensures kept { (a : ℕ) → Keeps live.now.entries (at a self.old.members) (at a self.new.members) }
     {
         self.set_reason(agent, signal, reason);
@@ -215,7 +238,10 @@ impl Agents {
 
     /// The agent's signal has this reason.
     fn set_reason(&mut self, agent: u64, signal: u64, reason: Reason)
-        ensures rows { self.new.rows ≡ record self.old.rows { signals = map (with_reason agent signal reason) self.old.rows.signals } }
+        ensures rows { self.new.rows ≡ record self.old.rows {
+          signals =
+              map (with_reason agent signal reason) self.old.rows.signals;
+        } }
         ensures members { self.new.members ≡ self.old.members }
     {
         let Some(found) = self.signals.get_mut(signal) else {
@@ -227,14 +253,20 @@ impl Agents {
     /// The agent and its signals are gone. It costs what is gone.
     pub fn close(&mut self, agent: u64)
         requires { list_any (λ row. row.number == agent) self.old.rows.agents ≡ true }
-        ensures rows { self.new.rows ≡ record self.old.rows { agents = filter (λ row. not (row.number == agent)) self.old.rows.agents; signals = filter (λ row. not (row.agent == agent)) self.old.rows.signals } }
-        ensures others { (other : ℕ) → (other == agent) ≡ false → at other self.new.members ≡ at other self.old.members }
+        ensures rows { self.new.rows ≡ record self.old.rows {
+          agents =
+              filter (λ row. not (row.number == agent)) self.old.rows.agents;
+          signals = filter (λ row. not (row.agent == agent)) self.old.rows.signals;
+        } }
+        ensures others { (other : ℕ) → (other == agent) ≡ false
+            → at other self.new.members ≡ at other self.old.members }
     {
         let left = self.agents.remove(agent).unwrap();
         remove_signals(&mut self.signals, &left.signals);
     }
 
-    /// A request of the agent, of a number above all that are live, comes to the agent's list, and to that of its signal.
+    /// A request of the agent, of a number above all that are live, comes to the agent's list, and to that of its
+    /// signal.
     pub fn enlist(
         &mut self,
         live: &Requests,
@@ -243,7 +275,8 @@ impl Agents {
         number: u64,
     ) -> Result<(), Memory>
         requires there { list_any (λ row. row.number == agent) self.old.rows.agents ≡ true }
-        requires signed { (s : ℕ) → signal ≡ Some s → list_any (λ row. row.agent == agent && row.number == s) self.old.rows.signals ≡ true }
+        requires signed { (s : ℕ) → signal ≡ Some s → list_any (λ row. row.agent == agent && row.number == s)
+            self.old.rows.signals ≡ true }
         requires above { (n : ℕ) → IsSome (at n live.now.entries) → n < number }
         ensures rows { self.new.rows ≡ self.old.rows }
         ensures kept { (a : ℕ) → Keeps live.now.entries (at a self.old.members) (at a self.new.members) }
@@ -267,7 +300,8 @@ impl Agents {
     /// A signal's list is cleaned, and keeps no more room than it needs.
     fn clean(&mut self, live: &Requests, agent: u64, signal: u64)
         ensures rows { self.new.rows ≡ self.old.rows }
-        ensures cleaned { signed_of signal (at agent self.new.members) ≡ only_live live.now.entries (signed_of signal (at agent self.old.members)) }
+        ensures cleaned { signed_of signal (at agent self.new.members)
+            ≡ only_live live.now.entries (signed_of signal (at agent self.old.members)) }
         ensures kept { (a : ℕ) → Keeps live.now.entries (at a self.old.members) (at a self.new.members) }
     {
         let Some(found) = self.agents.get_mut(agent) else {
@@ -281,7 +315,11 @@ impl Agents {
         requires low { self.old.rows.next_signal < 9007199254740992 }
         requires there { list_any (λ row. row.number == agent) self.old.rows.agents ≡ true }
         ensures number { IfOk result (λ n. n ≡ self.old.rows.next_signal) }
-        ensures made { OnOk result (self.new.rows ≡ record self.old.rows { signals = self.old.rows.signals ++ record { agent = agent; number = self.old.rows.next_signal; reason = None } ∷ []; next_signal = self.old.rows.next_signal + 1 }) }
+        ensures made { OnOk result (self.new.rows ≡ record self.old.rows {
+          signals = self.old.rows.signals
+              ++ record { agent = agent; number = self.old.rows.next_signal; reason = None } ∷ [];
+          next_signal = self.old.rows.next_signal + 1;
+        }) }
         ensures err { OnErr result (self.new.rows ≡ self.old.rows) }
         ensures lists { SameLists self.old.members self.new.members }
     {
@@ -335,7 +373,8 @@ fn enroll(
     requires above { (n : ℕ) → IsSome (at n live.now.entries) → n < number }
     ensures rising { IsRising (Some agent.new) }
     ensures kept { Keeps live.now.entries (Some agent.old) (Some agent.new) }
-    ensures same { (agent.new.kind ≡ agent.old.kind) × (agent.new.active ≡ agent.old.active) × (keys_of agent.new.signals.entries ≡ keys_of agent.old.signals.entries) }
+    ensures same { (agent.new.kind ≡ agent.old.kind) × (agent.new.active ≡ agent.old.active)
+        × (keys_of agent.new.signals.entries ≡ keys_of agent.old.signals.entries) }
     ensures on { OnOk result (IsOn (Some agent.new) number signal) }
 {
     enlist(live, &mut agent.requests, number)?;
@@ -356,7 +395,8 @@ fn sign(
     requires rising { (s : ℕ) → IsStrictlySortedBy nat_cmp (list_at s signals.old.entries) }
     requires above { (n : ℕ) → IsSome (at n live.now.entries) → n < number }
     ensures rising { (s : ℕ) → IsStrictlySortedBy nat_cmp (list_at s signals.new.entries) }
-    ensures kept { (s : ℕ) → KeepsLive live.now.entries (list_at s signals.old.entries) (list_at s signals.new.entries) }
+    ensures kept { (s : ℕ) → KeepsLive live.now.entries (list_at s signals.old.entries)
+        (list_at s signals.new.entries) }
     ensures keys { keys_of signals.new.entries ≡ keys_of signals.old.entries }
     ensures on { OnOk result (Contains (list_at signal signals.new.entries) number) }
 {
@@ -368,8 +408,10 @@ fn sign(
 fn clean_list(live: &Requests, signals: &mut BTreeMap<u64, Vec<u64>>, signal: u64)
     requires { (s : ℕ) → IsStrictlySortedBy nat_cmp (list_at s signals.old.entries) }
     ensures rising { (s : ℕ) → IsStrictlySortedBy nat_cmp (list_at s signals.new.entries) }
-    ensures cleaned { list_at signal signals.new.entries ≡ only_live live.now.entries (list_at signal signals.old.entries) }
-    ensures kept { (s : ℕ) → KeepsLive live.now.entries (list_at s signals.old.entries) (list_at s signals.new.entries) }
+    ensures cleaned { list_at signal signals.new.entries ≡ only_live live.now.entries
+        (list_at signal signals.old.entries) }
+    ensures kept { (s : ℕ) → KeepsLive live.now.entries (list_at s signals.old.entries)
+        (list_at s signals.new.entries) }
     ensures keys { keys_of signals.new.entries ≡ keys_of signals.old.entries }
 {
     if let Some(list) = signals.get_mut(&signal) {
@@ -386,8 +428,14 @@ fn add_signal(
     signal: u64,
 ) -> Result<(), Memory>
     requires { IsSome (lookup (is_at (nat_cmp agent)) agents.old.entries) }
-    ensures ok { OnOk result (IfSome (lookup (is_at (nat_cmp agent)) agents.old.entries) (λ m. (now : Agent) × (agents.new.entries ≡ set_value (is_at (nat_cmp agent)) agents.old.entries now) × (now.kind ≡ m.kind) × (now.active ≡ m.active) × (now.requests ≡ m.requests) × (now.signals.entries ≡ insert_entry nat_cmp m.signals.entries signal list))) }
-    ensures err { OnErr result (IfSome (lookup (is_at (nat_cmp agent)) agents.old.entries) (λ m. (now : Agent) × (agents.new.entries ≡ set_value (is_at (nat_cmp agent)) agents.old.entries now) × (now.kind ≡ m.kind) × (now.active ≡ m.active) × (now.requests ≡ m.requests) × (now.signals.entries ≡ m.signals.entries))) }
+    ensures ok { OnOk result (IfSome (lookup (is_at (nat_cmp agent)) agents.old.entries)
+        (λ m. (now : Agent) × (agents.new.entries ≡ set_value (is_at (nat_cmp agent)) agents.old.entries now)
+        × (now.kind ≡ m.kind) × (now.active ≡ m.active) × (now.requests ≡ m.requests)
+        × (now.signals.entries ≡ insert_entry nat_cmp m.signals.entries signal list))) }
+    ensures err { OnErr result (IfSome (lookup (is_at (nat_cmp agent)) agents.old.entries)
+        (λ m. (now : Agent) × (agents.new.entries ≡ set_value (is_at (nat_cmp agent)) agents.old.entries now)
+        × (now.kind ≡ m.kind) × (now.active ≡ m.active) × (now.requests ≡ m.requests)
+        × (now.signals.entries ≡ m.signals.entries))) }
 {
     let agent = agents.get_mut(agent).unwrap();
     agent.signals.insert(signal, list)?;

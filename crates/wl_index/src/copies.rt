@@ -58,7 +58,8 @@ fn add_names(alloc: Global, draft: &mut PlainDraft, queues: &Queues) -> Result<(
 /// The lock of this number.
 fn lock_of(alloc: Global, requests: &Requests, number: u64) -> Result<HeldRow, Memory>
     requires { IsSome (lookup (is_at (nat_cmp number)) requests.now.entries) }
-    ensures { IfOk result (λ row. IfSome (lookup (is_at (nat_cmp number)) requests.now.entries) (λ r. row ≡ lock_row (number, r))) }
+    ensures { IfOk result (λ row. IfSome (lookup (is_at (nat_cmp number)) requests.now.entries)
+        (λ r. row ≡ lock_row (number, r))) }
 {
     let request = requests.get(number).unwrap();
     Ok(HeldRow {
@@ -95,7 +96,10 @@ fn add_request(
     number: u64,
     request: &Request,
 ) -> Result<(), Memory>
-    ensures { OnOk result (draft.new ≡ record draft.old { pending = draft.old.pending ++ pending_of ((number, request.now) ∷ []) }) }
+    ensures { OnOk result (draft.new ≡ record draft.old {
+      pending = draft.old.pending
+          ++ pending_of ((number, request.now) ∷ []);
+    }) }
 {
     if let Stage::Held(_, _) = request.stage {
         return Ok(());
@@ -110,7 +114,10 @@ fn add_request(
 }
 
 fn add_requests(alloc: Global, draft: &mut PlainDraft, requests: &Requests) -> Result<(), Memory>
-    ensures { OnOk result (draft.new ≡ record draft.old { pending = draft.old.pending ++ pending_of requests.now.entries }) }
+    ensures { OnOk result (draft.new ≡ record draft.old {
+      pending = draft.old.pending
+          ++ pending_of requests.now.entries;
+    }) }
 {
     for (number, request) in requests.rows(alloc)? {
         add_request(alloc, draft, number, request)?;

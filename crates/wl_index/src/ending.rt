@@ -7,7 +7,8 @@ ghost use Rattle.std.specs.Ordering.{nat_cmp};
 ghost use Rattle.wl_machine.specs.Step.{request_ends, lock_ends};
 ghost use Rattle.wl_index.specs.declared.request.Standing.TheVariants.{Waits, Holds};
 ghost use Rattle.wl_index.specs.declared.request.Place.{Place};
-ghost use Rattle.wl_index.specs.inner.Ends.{IsOwners, ends_request, ends_lock, ends_entry, place_ends, numbers_of, without_ends, AreLive};
+ghost use Rattle.wl_index.specs.inner.Ends.{IsOwners, ends_request, ends_lock, ends_entry, place_ends, numbers_of};
+ghost use Rattle.wl_index.specs.inner.Ends.{without_ends, AreLive};
 ghost use Rattle.wl_index.specs.inner.Lists.{is_spared};
 ghost use Rattle.wl_index.specs.inner.Order.{place_of};
 ghost use Rattle.wl_index.specs.inner.Rows.{held_of, pending_of, holding, grant_seq_of};
@@ -29,7 +30,10 @@ pub(crate) struct Ending {
 /// These requests and locks end, in this order.
 fn end_all(locks: &mut Locks, places: &[Place], phase: Phase)
     requires { AreLive (numbers_of places.now) locks.old.entries }
-    ensures { locks.new ≡ record locks.old { entries = filter (is_spared (numbers_of places.now)) locks.old.entries; changes = locks.old.changes ++ place_ends phase places.now } }
+    ensures { locks.new ≡ record locks.old {
+      entries = filter (is_spared (numbers_of places.now)) locks.old.entries;
+      changes = locks.old.changes ++ place_ends phase places.now;
+    } }
 {
     for place in places {
         locks.end(place.number, phase);
@@ -41,7 +45,11 @@ fn end_requests(locks: &mut Locks, numbers: &[u64], ending: Ending, places: &mut
     requires finds { IsStrictlySortedBy nat_cmp numbers.now × IsOwners ending.owner locks.old.entries numbers.now }
     requires none { places.old.items ≡ [] }
     requires room { length locks.old.entries ≤ vec_capacity places.old }
-    ensures ended { locks.new ≡ record locks.old { entries = without_ends ending.owner Waits locks.old.entries; changes = locks.old.changes ++ request_ends ending.waiting (filter (ends_request ending.owner) (pending_of locks.old.entries)) } }
+    ensures ended { locks.new ≡ record locks.old {
+      entries = without_ends ending.owner Waits locks.old.entries;
+      changes = locks.old.changes ++ request_ends ending.waiting
+          (filter (ends_request ending.owner) (pending_of locks.old.entries));
+    } }
     ensures emptied { places.new.items ≡ [] }
     ensures capacity { vec_capacity places.old ≤ vec_capacity places.new }
 {
@@ -57,7 +65,11 @@ fn end_locks(locks: &mut Locks, numbers: &[u64], ending: Ending, places: &mut Ve
     requires finds { IsStrictlySortedBy nat_cmp numbers.now × IsOwners ending.owner locks.old.entries numbers.now }
     requires none { places.old.items ≡ [] }
     requires room { length locks.old.entries ≤ vec_capacity places.old }
-    ensures ended { locks.new ≡ record locks.old { entries = without_ends ending.owner Holds locks.old.entries; changes = locks.old.changes ++ lock_ends ending.held (filter (ends_lock ending.owner) (held_of locks.old.entries)) } }
+    ensures ended { locks.new ≡ record locks.old {
+      entries = without_ends ending.owner Holds locks.old.entries;
+      changes = locks.old.changes ++ lock_ends ending.held
+          (filter (ends_lock ending.owner) (held_of locks.old.entries));
+    } }
     ensures emptied { places.new.items ≡ [] }
     ensures capacity { vec_capacity places.old ≤ vec_capacity places.new }
 {
@@ -69,12 +81,19 @@ fn end_locks(locks: &mut Locks, numbers: &[u64], ending: Ending, places: &mut Ve
     places.clear();
 }
 
-/// What an owner has ends: its requests, in order, and then its locks, in the order of their grants. These numbers find it.
+/// What an owner has ends: its requests, in order, and then its locks, in the order of their grants. These numbers find
+/// it.
 pub(crate) fn end_owned(locks: &mut Locks, numbers: &[u64], ending: Ending, places: &mut Vec<Place>)
     requires finds { IsStrictlySortedBy nat_cmp numbers.now × IsOwners ending.owner locks.old.entries numbers.now }
     requires none { places.old.items ≡ [] }
     requires room { length locks.old.entries ≤ vec_capacity places.old }
-    ensures ended { locks.new ≡ record locks.old { entries = without_ends ending.owner Holds (without_ends ending.owner Waits locks.old.entries); changes = (locks.old.changes ++ request_ends ending.waiting (filter (ends_request ending.owner) (pending_of locks.old.entries))) ++ lock_ends ending.held (filter (ends_lock ending.owner) (held_of locks.old.entries)) } }
+    ensures ended { locks.new ≡ record locks.old {
+      entries =
+          without_ends ending.owner Holds (without_ends ending.owner Waits locks.old.entries);
+      changes = (locks.old.changes ++ request_ends ending.waiting
+          (filter (ends_request ending.owner) (pending_of locks.old.entries)))
+          ++ lock_ends ending.held (filter (ends_lock ending.owner) (held_of locks.old.entries));
+    } }
     ensures emptied { places.new.items ≡ [] }
     ensures capacity { vec_capacity places.old ≤ vec_capacity places.new }
 {

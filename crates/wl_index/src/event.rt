@@ -9,8 +9,8 @@ use std::alloc::Global;
 use std::marker::Model;
 use wl_types::{Change, Memory, Phase};
 
-/// The changes of an event, and the places of the queues that it touched, which are still to be processed. `room` is how
-/// many more can be noted without memory.
+/// The changes of an event, and the places of the queues that it touched, which are still to be processed. `room` is
+/// how many more can be noted without memory.
 #[derive(Drop)]
 pub(crate) struct Event {
     changes: Vec<Change>,
@@ -27,7 +27,8 @@ impl Model for Event {
 
     ghost view = { λ e. record { changes = e.changes.items; touched = reverse e.touched.items; room = e.room } };
 
-    ghost invariant = { λ e. (vec_len e.changes + e.room ≤ vec_capacity e.changes) × (vec_len e.touched + e.room ≤ vec_capacity e.touched) };
+    ghost invariant = { λ e. (vec_len e.changes + e.room ≤ vec_capacity e.changes)
+        × (vec_len e.touched + e.room ≤ vec_capacity e.touched) };
 }
 
 impl Event {
@@ -88,7 +89,10 @@ impl Event {
     /// A request's or a lock's phase changed.
     pub fn note(&mut self, id: u64, phase: Phase)
         requires { 1 ≤ self.old.room }
-        ensures { self.new ≡ record self.old { changes = self.old.changes ++ record { id = id; phase = phase } ∷ []; room = self.old.room - 1 } }
+        ensures { self.new ≡ record self.old {
+          changes = self.old.changes ++ record { id = id; phase = phase } ∷ [];
+          room = self.old.room - 1;
+        } }
     {
         self.room -= 1;
         self.changes.push_reserved(Change { id, phase });
@@ -97,7 +101,11 @@ impl Event {
     /// A phase changed, and that touched a queue.
     pub fn note_at(&mut self, place: u64, id: u64, phase: Phase)
         requires { 1 ≤ self.old.room }
-        ensures { self.new ≡ record { changes = self.old.changes ++ record { id = id; phase = phase } ∷ []; touched = place ∷ self.old.touched; room = self.old.room - 1 } }
+        ensures { self.new ≡ record {
+          changes = self.old.changes ++ record { id = id; phase = phase } ∷ [];
+          touched = place ∷ self.old.touched;
+          room = self.old.room - 1;
+        } }
     {
         self.room -= 1;
         self.touched.push_reserved(place);

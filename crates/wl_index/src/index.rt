@@ -1,5 +1,6 @@
 //! The machine over indexes.
-ghost use Rattle.std.specs.Prelude.{◌≡◌, ℕ, ◌+◌, ◌<◌, ◌&&◌, not, [], ◌∷◌, ◌++◌, IfOk, OnOk, OnErr, Option, None, true, false};
+ghost use Rattle.std.specs.Prelude.{◌≡◌, ℕ, ◌+◌, ◌<◌, ◌&&◌, not, [], ◌∷◌, ◌++◌, IfOk, OnOk, OnErr, Option, None, true};
+ghost use Rattle.std.specs.Prelude.{false};
 ghost use Rattle.std.specs.List.{AllByRecursion};
 ghost use Rattle.wl_machine.specs.Refusals.{refusal};
 ghost use Rattle.wl_machine.specs.Step.{Gives, available, new_request, with_name};
@@ -52,7 +53,8 @@ impl Model for IndexCore {
 impl IndexCore {
     /// Whether a request is to be granted at once or not at all, and can't be granted.
     fn is_unavailable(&self, ask: &Ask) -> bool
-        ensures { (agent : ℕ) → result ≡ (ask.now.if_available && not (available self.now.state (new_request self.now.state agent ask.now))) }
+        ensures { (agent : ℕ) → result ≡ (ask.now.if_available
+            && not (available self.now.state (new_request self.now.state agent ask.now))) }
     {
         ask.if_available && !self.locks.is_available(ask.name.as_str(), ask.mode)
     }
@@ -62,7 +64,8 @@ impl IndexCore {
         requires accepted { refusal self.old.state (Command.Request agent ask.now) ≡ None }
         requires no_changes { self.old.recent ≡ [] }
         requires plain { ask.now.steal ≡ false }
-        ensures admitted { IfOk result (λ id. Gives self.old.state (Command.Request agent ask.now) self.new.state (Reply.Request id) self.new.recent) }
+        ensures admitted { IfOk result (λ id. Gives self.old.state (Command.Request agent ask.now) self.new.state
+            (Reply.Request id) self.new.recent) }
         ensures unchanged { OnErr result (self.new ≡ self.old) }
     {
         if self.is_unavailable(ask) {
@@ -79,7 +82,8 @@ impl IndexCore {
         requires accepted { refusal self.old.state (Command.Request agent ask.now) ≡ None }
         requires no_changes { self.old.recent ≡ [] }
         requires steal { ask.now.steal ≡ true }
-        ensures admitted { IfOk result (λ id. Gives self.old.state (Command.Request agent ask.now) self.new.state (Reply.Request id) self.new.recent) }
+        ensures admitted { IfOk result (λ id. Gives self.old.state (Command.Request agent ask.now) self.new.state
+            (Reply.Request id) self.new.recent) }
         ensures unchanged { OnErr result (self.new ≡ self.old) }
     {
         self.ending.reserve(self.locks.requests().len() + 1)?;
@@ -96,7 +100,12 @@ fn enqueue(agents: &mut Agents, locks: &mut Locks, agent: u64, ask: &Ask) -> Res
     requires accepted { refusal (machine_state agents.old.rows locks.old) (Command.Request agent ask.now) ≡ None }
     requires grouped { IsGrouped (tags_of locks.old.entries) agents.old.members }
     ensures number { IfOk result (λ n. n ≡ locks.old.next) }
-    ensures enqueued { OnOk result (locks.new ≡ record locks.old { entries = locks.old.entries ++ (locks.old.next, request_for agent ask.now) ∷ []; next = locks.old.next + 1; names = with_name ask.now.name locks.old.names }) }
+    ensures enqueued { OnOk result (locks.new ≡ record locks.old {
+      entries = locks.old.entries
+          ++ (locks.old.next, request_for agent ask.now) ∷ [];
+      next = locks.old.next + 1;
+      names = with_name ask.now.name locks.old.names;
+    }) }
     ensures below { OnOk result (AllByRecursion (λ e. e.0 < locks.old.next) locks.old.entries) }
     ensures rows { agents.new.rows ≡ agents.old.rows }
     ensures grouped { IsGrouped (tags_of locks.new.entries) agents.new.members }

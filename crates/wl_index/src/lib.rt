@@ -1,8 +1,8 @@
 //! The lock machine over indexes: a core on which an event costs O(log n) for each request, lock, name, agent or signal
 //! that it changes.
 //!
-//! It has three tables: the requests by number, the queues by name, and the agents with the lists by which what they have
-//! is found. An event notes its changes and the queues that it touched, which are processed at its end.
+//! It has three tables: the requests by number, the queues by name, and the agents with the lists by which what they
+//! have is found. An event notes its changes and the queues that it touched, which are processed at its end.
 #![tactic(auto)]
 
 mod agents;

@@ -46,7 +46,8 @@ fn is_below(list: &[u64], number: u64) -> bool
     }
 }
 
-/// What is at a number or above it leaves a list. A request that was not admitted in the end may have left such a number.
+/// What is at a number or above it leaves a list. A request that was not admitted in the end may have left such a
+/// number.
 fn trim(list: &mut Vec<u64>, number: u64)
     requires { IsStrictlySortedBy nat_cmp list.old.items }
     ensures { list.new.items ≡ filter (λ n. nat_lt n number) list.old.items }

@@ -3,7 +3,9 @@ ghost use Rattle.std.specs.Prelude.{map, ◌≡◌, ◌<◌, [], ◌∷◌, OnOk
 ghost use Rattle.std.specs.List.{AllByRecursion};
 ghost use Rattle.wl_types.specs.declared.words.Mode.TheVariants.{Exclusive};
 ghost use Rattle.wl_machine.specs.Grants.{is_empty};
-ghost use Rattle.wl_index.specs.inner.NameQueue.{admits, excludes, next_grant, after_grant, is_busy, with_one_more, without, holder_without, head_number, live_after, first_left, first_or};
+ghost use Rattle.wl_index.specs.inner.NameQueue.{admits, excludes, next_grant, after_grant, is_busy, with_one_more};
+ghost use Rattle.wl_index.specs.inner.NameQueue.{without, holder_without, head_number, live_after, first_left};
+ghost use Rattle.wl_index.specs.inner.NameQueue.{first_or};
 
 use std::alloc::Global;
 use std::collections::BTreeMap;
@@ -29,7 +31,11 @@ impl Model for NameQueue {
 
     ghost Value = { Waiting };
 
-    ghost view = { λ q. record { name = q.name; waits = waits_from q.first q.live.entries; holders = holders_of q.holder q.live.entries (waits_from q.first q.live.entries) } };
+    ghost view = { λ q. record {
+      name = q.name;
+      waits = waits_from q.first q.live.entries;
+      holders = holders_of q.holder q.live.entries (waits_from q.first q.live.entries);
+    } };
 
     ghost invariant = { λ q. IsQueue q.live.entries (waits_from q.first q.live.entries) q.first q.holder };
 }

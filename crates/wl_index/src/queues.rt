@@ -1,12 +1,14 @@
 //! The names in use, each with its queue.
-ghost use Rattle.std.specs.Prelude.{◌≡◌, ◌<◌, true, List, ℕ, [], ◌∷◌, ◌++◌, map, slice_get, IfOk, OnOk, OnErr, IfSome, IfNone, Some, None};
+ghost use Rattle.std.specs.Prelude.{◌≡◌, ◌<◌, true, List, ℕ, [], ◌∷◌, ◌++◌, map, slice_get, IfOk, OnOk, OnErr, IfSome};
+ghost use Rattle.std.specs.Prelude.{IfNone, Some, None};
 ghost use Rattle.std.specs.List.{AllByRecursion};
 ghost use Rattle.std.specs.Map.{lookup};
 ghost use Rattle.std.specs.BTreeMap.{is_at};
 ghost use Rattle.std.specs.Option.{option_copied};
 ghost use Rattle.std.specs.Ordering.{nat_cmp};
 ghost use Rattle.wl_index.specs.inner.NameQueue.{Waiting, without, after_seize, after_grant, is_busy, with_one_more};
-ghost use Rattle.wl_index.specs.inner.Queues.{AreQueues, IsBelow, at_place, grant_at, place_of, queue_of, with_joined, with_updated, without_idle};
+ghost use Rattle.wl_index.specs.inner.Queues.{AreQueues, IsBelow, at_place, grant_at, place_of, queue_of, with_joined};
+ghost use Rattle.wl_index.specs.inner.Queues.{with_updated, without_idle};
 
 use crate::queue::NameQueue;
 use indexmap::IndexMap;
@@ -93,7 +95,10 @@ impl Queues {
     fn add(&mut self, name: &str, number: u64, mode: Mode) -> Result<(), Memory>
         requires places { AllByRecursion (λ e. e.0 < number) self.old }
         requires fresh { place_of name.now self.old ≡ None }
-        ensures added { OnOk result (self.new ≡ self.old ++ (number, record { name = name.now; waits = (number, mode) ∷ []; holders = [] }) ∷ []) }
+        ensures added { OnOk result (self.new ≡ self.old ++ (
+          number,
+          record { name = name.now; waits = (number, mode) ∷ []; holders = [] },
+        ) ∷ []) }
         ensures are { OnOk result (AreQueues self.new) }
         ensures err { OnErr result (self.new ≡ self.old) }
     {
@@ -181,7 +186,8 @@ fn push_at(
     mode: Mode,
 ) -> Result<(), Memory>
     requires { AllByRecursion (λ e. IsBelow number e.1) queues.old.entries }
-    ensures ok { OnOk result (queues.new.entries ≡ with_updated place (λ w. with_one_more w number mode) queues.old.entries) }
+    ensures ok { OnOk result (queues.new.entries ≡ with_updated place (λ w. with_one_more w number mode)
+        queues.old.entries) }
     ensures err { OnErr result (queues.new.entries ≡ queues.old.entries) }
 {
     match queues.get_mut(place) {

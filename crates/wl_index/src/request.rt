@@ -92,7 +92,13 @@ fn has_signal(request: &Request, signal: u64) -> bool
 
 /// Whether a request that waits ends with its owner.
 fn is_request_to_end(request: &Request, owner: Owner) -> bool
-    ensures { (number : ℕ) → result ≡ ends_request owner (record { number = number; agent = request.now.agent; name = request.now.name; mode = request.now.mode; signal = request.now.signal }) }
+    ensures { (number : ℕ) → result ≡ ends_request owner (record {
+      number = number;
+      agent = request.now.agent;
+      name = request.now.name;
+      mode = request.now.mode;
+      signal = request.now.signal;
+    }) }
 {
     match owner {
         Owner::Signal(agent, signal) => request.agent == agent && has_signal(request, signal),
@@ -102,7 +108,14 @@ fn is_request_to_end(request: &Request, owner: Owner) -> bool
 
 /// Whether a lock ends with its owner.
 fn is_lock_to_end(request: &Request, taken: bool, owner: Owner) -> bool
-    ensures { (number : ℕ) → result ≡ ends_lock owner (record { number = number; agent = request.now.agent; name = request.now.name; mode = request.now.mode; signal = request.now.signal; taken = taken }) }
+    ensures { (number : ℕ) → result ≡ ends_lock owner (record {
+      number = number;
+      agent = request.now.agent;
+      name = request.now.name;
+      mode = request.now.mode;
+      signal = request.now.signal;
+      taken = taken;
+    }) }
 {
     match owner {
         Owner::Signal(agent, signal) => {

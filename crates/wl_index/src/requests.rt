@@ -1,6 +1,7 @@
 //! The live requests by number. A lock keeps its place in the order of grants as a grant sequence, so a grant writes in
 //! place.
-ghost use Rattle.std.specs.Prelude.{◌≡◌, ◌+◌, ◌≤◌, ◌<◌, ◌^◌, ◌==◌, true, [], ◌∷◌, ◌++◌, map, filter, not, length, vec_len, vec_capacity, is_some, IfOk, OnOk, OnErr, Some};
+ghost use Rattle.std.specs.Prelude.{◌≡◌, ◌+◌, ◌≤◌, ◌<◌, ◌^◌, ◌==◌, true, [], ◌∷◌, ◌++◌, map, filter, not, length};
+ghost use Rattle.std.specs.Prelude.{vec_len, vec_capacity, is_some, IfOk, OnOk, OnErr, Some};
 ghost use Rattle.std.specs.List.{list_any, AllByRecursion};
 ghost use Rattle.std.specs.List.Sorted.{IsStrictlySortedBy};
 ghost use Rattle.std.specs.Map.{keys_of, lookup};
@@ -93,7 +94,8 @@ impl Requests {
 
     /// The numbers of the locks, in the order of their grants.
     pub fn locks_in_order(&self, alloc: Global) -> Result<Vec<u64>, Memory>
-        ensures numbers { IfOk result (λ numbers. numbers.items ≡ map (λ (lock : HeldRow). lock.number) (held_of self.now.entries)) }
+        ensures numbers { IfOk result (λ numbers. numbers.items
+            ≡ map (λ (lock : HeldRow). lock.number) (held_of self.now.entries)) }
         ensures ordered { IsStrictlySortedBy nat_cmp (keys_of self.now.entries) }
     {
         let mut places = order::places(&self.requests, alloc)?;
@@ -108,7 +110,8 @@ impl Requests {
         owner: Owner,
         standing: Standing,
     ) -> Option<Place>
-        ensures { result ≡ place_if (ends_entry owner standing) number (lookup (is_at (nat_cmp number)) self.now.entries) }
+        ensures { result ≡ place_if (ends_entry owner standing) number
+            (lookup (is_at (nat_cmp number)) self.now.entries) }
     {
         ending_place(number, self.requests.get(number)?, owner, standing)
     }
@@ -173,7 +176,8 @@ impl Requests {
     /// Takes the last request back, with its number.
     pub fn retract(&mut self, number: u64)
         requires last { self.old.next ≡ number + 1 }
-        requires waits { (r : Request) × (lookup (is_at (nat_cmp number)) self.old.entries ≡ Some r) × (r.stage ≡ Stage.Pending) }
+        requires waits { (r : Request) × (lookup (is_at (nat_cmp number)) self.old.entries ≡ Some r)
+            × (r.stage ≡ Stage.Pending) }
         ensures { self.new ≡ record { entries = filter (other number) self.old.entries; next = number } }
     {
         self.requests.remove(number);
@@ -206,8 +210,11 @@ impl Requests {
     pub fn grant(&mut self, number: u64)
         requires { list_any (λ (request : PendingRow). request.number == number) (pending_of self.old.entries) ≡ true }
         ensures apart { Apart (pending_of self.old.entries) }
-        ensures held { held_of self.new.entries ≡ held_of self.old.entries ++ map granted_lock (filter (λ (request : PendingRow). request.number == number) (pending_of self.old.entries)) }
-        ensures pending { pending_of self.new.entries ≡ filter (λ (request : PendingRow). not (request.number == number)) (pending_of self.old.entries) }
+        ensures held { held_of self.new.entries ≡ held_of self.old.entries
+            ++ map granted_lock (filter (λ (request : PendingRow). request.number == number)
+            (pending_of self.old.entries)) }
+        ensures pending { pending_of self.new.entries ≡ filter
+            (λ (request : PendingRow). not (request.number == number)) (pending_of self.old.entries) }
         ensures tags { tags_of self.new.entries ≡ tags_of self.old.entries }
         ensures next { self.new.next ≡ self.old.next }
     {

@@ -23,7 +23,8 @@ use wl_types::{Infos, LockInfo, Memory, Snapshot};
 /// The request or the lock of this number.
 fn info_of(alloc: Global, requests: &Requests, number: u64) -> Result<LockInfo, Memory>
     requires { IsSome (lookup (is_at (nat_cmp number)) requests.now.entries) }
-    ensures { IfOk result (λ info. IfSome (lookup (is_at (nat_cmp number)) requests.now.entries) (λ r. info ≡ record { name = r.name; mode = r.mode; client = r.agent })) }
+    ensures { IfOk result (λ info. IfSome (lookup (is_at (nat_cmp number)) requests.now.entries)
+        (λ r. info ≡ record { name = r.name; mode = r.mode; client = r.agent })) }
 {
     let request = requests.get(number).unwrap();
     Ok(LockInfo {
@@ -55,7 +56,8 @@ fn add_queue(
 ) -> Result<(), Memory>
     requires ordered { IsStrictlySortedBy nat_cmp (keys_of requests.now.entries) }
     requires matched { Matches name_queue.now (held_of requests.now.entries) (pending_of requests.now.entries) }
-    ensures { OnOk result (infos.new ≡ infos.old ++ map request_info (queue name_queue.now.name (pending_of requests.now.entries))) }
+    ensures { OnOk result (infos.new ≡ infos.old ++ map request_info
+        (queue name_queue.now.name (pending_of requests.now.entries))) }
 {
     for (number, _) in name_queue.waiting() {
         infos.push(info_of(alloc, requests, *number)?)?;
@@ -66,8 +68,10 @@ fn add_queue(
 /// The queues, name by name.
 fn pending_infos(alloc: Global, requests: &Requests, queues: &Queues) -> Result<Infos, Memory>
     requires ordered { IsStrictlySortedBy nat_cmp (keys_of requests.now.entries) }
-    requires matched { AllByRecursion (λ e. Matches e.1 (held_of requests.now.entries) (pending_of requests.now.entries)) queues.now }
-    ensures { IfOk result (λ infos. infos ≡ flat_map (λ name. map request_info (queue name (pending_of requests.now.entries))) (names_of queues.now)) }
+    requires matched { AllByRecursion (λ e. Matches e.1 (held_of requests.now.entries)
+        (pending_of requests.now.entries)) queues.now }
+    ensures { IfOk result (λ infos. infos ≡ flat_map (λ name. map request_info
+        (queue name (pending_of requests.now.entries))) (names_of queues.now)) }
 {
     let mut infos = Infos::new(alloc);
     for (_, name_queue) in queues.rows(alloc)? {
@@ -79,7 +83,8 @@ fn pending_infos(alloc: Global, requests: &Requests, queues: &Queues) -> Result<
 /// What is held and what waits.
 pub(crate) fn make_snapshot(alloc: Global, locks: &Locks) -> Result<Snapshot, Memory>
     ensures held { IfOk result (λ seen. seen.held ≡ map lock_info (held_of locks.now.entries)) }
-    ensures pending { IfOk result (λ seen. seen.pending ≡ flat_map (λ name. map request_info (queue name (pending_of locks.now.entries))) locks.now.names) }
+    ensures pending { IfOk result (λ seen. seen.pending ≡ flat_map
+        (λ name. map request_info (queue name (pending_of locks.now.entries))) locks.now.names) }
 {
     let requests = locks.requests();
     let in_order = requests.locks_in_order(alloc)?;

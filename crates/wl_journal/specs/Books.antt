@@ -4,7 +4,8 @@ use Rattle.wl_types.specs.declared.phases.Change.{Change}
 use Rattle.wl_machine.specs.State.{State}
 use Rattle.wl_journal.specs.declared.entry.Entry.{Entry}
 
--- the machine's state and the changes of the last call; the state at the last cut, the entries since, and the number ever recorded
+-- the machine's state and the changes of the last call; the state at the last cut, the entries since, and the number
+-- ever recorded
 pub record Book : Type 0 where
   pub state : State
   pub recent : List Change

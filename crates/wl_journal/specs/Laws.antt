@@ -6,8 +6,10 @@ use Rattle.wl_journal.specs.History.{IsLegal, IsFirstIllegal}
 
 -- a history with a first illegal entry is not legal
 abbrev pub FirstIllegalIsIllegal : Type 0
-FirstIllegalIsIllegal = (base : State) (entries : List Entry) (place : ℕ) → IsFirstIllegal base entries place → IsLegal base entries → ⊥
+FirstIllegalIsIllegal = (base : State) (entries : List Entry) (place : ℕ) → IsFirstIllegal base entries place
+    → IsLegal base entries → ⊥
 
 -- a history has one first illegal entry at most
 abbrev pub FirstIllegalIsOne : Type 0
-FirstIllegalIsOne = (base : State) (entries : List Entry) (one other : ℕ) → IsFirstIllegal base entries one → IsFirstIllegal base entries other → one ≡ other
+FirstIllegalIsOne = (base : State) (entries : List Entry) (one other : ℕ) → IsFirstIllegal base entries one
+    → IsFirstIllegal base entries other → one ≡ other

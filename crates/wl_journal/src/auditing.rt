@@ -44,7 +44,8 @@ pub fn audit(base: &PlainCore, entries: &[Entry]) -> Result<(), AuditFault>
     ensures legal { OnOk result (IsLegal base.now.state entries.now) }
     ensures illegal { IfErr result (λ fault. Explains base.now.state entries.now fault) }
     ensures where_legal { IsLegal base.now.state entries.now → IfErr result (λ fault. fault ≡ AuditFault.Memory) }
-    ensures where_illegal { (place : ℕ) → IsFirstIllegal base.now.state entries.now place → (result ≡ Err (AuditFault.Illegal place)) ⊎ (result ≡ Err AuditFault.Memory) }
+    ensures where_illegal { (place : ℕ) → IsFirstIllegal base.now.state entries.now place
+        → (result ≡ Err (AuditFault.Illegal place)) ⊎ (result ≡ Err AuditFault.Memory) }
 {
     let mut core = match base.copy_plain() {
         Ok(core) => core,

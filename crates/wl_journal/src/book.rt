@@ -51,9 +51,17 @@ impl<C: LockCore> Model for Book<C> {
 
     ghost Value = { BookContent };
 
-    ghost view = { λ b. record { state = C.state b.core; recent = if b.is_quiet then [] else C.recent b.core; base = b.base.state; entries = b.entries.items; total = b.handed_out + length b.entries.items } };
+    ghost view = { λ b. record {
+      state = C.state b.core;
+      recent = if b.is_quiet then []
+          else C.recent b.core;
+      base = b.base.state;
+      entries = b.entries.items;
+      total = b.handed_out + length b.entries.items;
+    } };
 
-    ghost invariant = { λ b. IsKept b.base.state (C.state b.core) b.entries.items b.owed (vec_capacity b.entries) b.handed_out };
+    ghost invariant = { λ b. IsKept b.base.state (C.state b.core) b.entries.items b.owed (vec_capacity b.entries)
+        b.handed_out };
 }
 
 /// What an agent sees, and where in the journal's course it sees it.
@@ -108,7 +116,8 @@ impl<C: LockCore> Book<C> {
     /// The agent's snapshot, with `total`. Nothing is recorded. Refused: as `snapshot`.
     pub fn sight(&self, agent: u64) -> Result<Sight, Refusal>
         ensures total { IfOk result (λ sight. sight.seen ≡ self.now.total) }
-        ensures seen { IfOk result (λ sight. step self.now.state (Command.Query agent) ≡ record { state = self.now.state; reply = Reply.Seen sight.snapshot; changes = [] }) }
+        ensures seen { IfOk result (λ sight. step self.now.state (Command.Query agent)
+            ≡ record { state = self.now.state; reply = Reply.Seen sight.snapshot; changes = [] }) }
         ensures refused { IfErr result (λ r. r ≡ refused_or_memory (refusal self.now.state (Command.Query agent))) }
     {
         let seen = self.total();

@@ -6,7 +6,8 @@ use Rattle.wl_liveness.specs.declared.liveness.Due.TheVariants.{Nothing, Ping, E
 use Rattle.wl_liveness.specs.declared.liveness.Liveness.{Liveness}
 use Rattle.wl_liveness.specs.declared.liveness.Liveness.TheVariants.{Handshake, Open, Closing}
 
--- 10 s for a handshake; a ping after so many seconds of silence, the end after twice as many; 2 s and 64 KiB for what comes while closing
+-- 10 s for a handshake; a ping after so many seconds of silence, the end after twice as many; 2 s and 64 KiB for what
+-- comes while closing
 abbrev pub limits_for : ℕ → Limits
 limits_for seconds = record {
   handshake = 10000;
@@ -54,4 +55,5 @@ due_of (Handshake since) now limits = end_if (nat_le limits.handshake (now - sin
 due_of (Open last is_pinged) now limits =
     if nat_le limits.end_after (now - last) then End
     else (if (not is_pinged) && nat_le limits.ping_after (now - last) then Ping else Nothing)
-due_of (Closing since dropped) now limits = end_if (nat_le limits.closing (now - since) || nat_le limits.closing_bytes dropped)
+due_of (Closing since dropped) now limits = end_if (nat_le limits.closing (now - since)
+    || nat_le limits.closing_bytes dropped)

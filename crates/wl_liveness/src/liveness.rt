@@ -15,7 +15,8 @@ pub enum Liveness {
     },
     /// Messages may come and go.
     Open {
-        /// When bytes last came. Bytes that were sent are no sign of life: the system takes them for a peer that is gone.
+        /// When bytes last came. Bytes that were sent are no sign of life: the system takes them for a peer that is
+        /// gone.
         heard: u64,
         /// Whether a ping was sent since.
         is_pinged: bool,

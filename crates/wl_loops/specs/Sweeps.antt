@@ -8,7 +8,8 @@ use Rattle.wl_liveness.specs.declared.liveness.Due.TheVariants.{Nothing, Ping, E
 use Rattle.wl_liveness.specs.declared.liveness.Liveness.{Liveness}
 
 module _ {C : Type 0} (liveness_of : C → Liveness) where
-  -- What is due is done. A connection whose peer can't be pinged ends, and one for which nothing is due is left as it was.
+  -- What is due is done. A connection whose peer can't be pinged ends, and one for which nothing is due is left as it
+  -- was.
   abbrev pub Does : Due → C → Option C → Type 0
   Does End old new = new ≡ None
   Does Ping old new = IfSome new (λ one. liveness_of one ≡ pinged (liveness_of old))

@@ -55,8 +55,8 @@ pub struct EventLoop<'a, 'b, R: Wait, H: Host> {
 }
 
 impl<'a, 'b, R: Wait + Clock, H: Host> EventLoop<'a, 'b, R, H> {
-    /// The loop of this number, from 0. One of a server's loops has the listeners, all of them; the others have none. All
-    /// loops have the same start, since a connection takes its times along to another loop.
+    /// The loop of this number, from 0. One of a server's loops has the listeners, all of them; the others have none.
+    /// All loops have the same start, since a connection takes its times along to another loop.
     pub fn new(
         rt: &'a R,
         shared: &'a Shared<H>,
@@ -333,7 +333,8 @@ impl<'a, 'b, R: Wait + Clock, H: Host> EventLoop<'a, 'b, R, H> {
 
     /// Looks at all connections, if it is time to: silent peers are pinged, and those that are over end.
     fn sweep_in_time(&mut self)
-        ensures late { 500 ≤ self.old.now - self.old.swept → EachWatched (λ one. one.connection.liveness) self.old.now (H.held_to self.old.shared.now.host) self.old.served self.new.served }
+        ensures late { 500 ≤ self.old.now - self.old.swept → EachWatched (λ one. one.connection.liveness) self.old.now
+            (H.held_to self.old.shared.now.host) self.old.served self.new.served }
         ensures soon { self.old.now - self.old.swept < 500 → self.new.served ≡ self.old.served }
     {
         if self.now.saturating_sub(self.swept) < SWEEP {

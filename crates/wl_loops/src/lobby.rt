@@ -48,8 +48,8 @@ impl<'a, R: Wait, H: Host> Lobby<'a, R, H> {
         self.rooms.len()
     }
 
-    /// Sends the connection of this key, of the loop with this poll, to another, and answers whose it is. Where there is
-    /// no memory for that, or the other loop is leaving, it stays.
+    /// Sends the connection of this key, of the loop with this poll, to another, and answers whose it is. Where there
+    /// is no memory for that, or the other loop is leaving, it stays.
     pub(crate) fn send(
         &self,
         rt: &R,
@@ -72,8 +72,8 @@ impl<'a, R: Wait, H: Host> Lobby<'a, R, H> {
         Some(source)
     }
 
-    /// Takes in a connection that was sent to the loop of this place and this poll. Where there is no memory for that it
-    /// waits for the next time.
+    /// Takes in a connection that was sent to the loop of this place and this poll. Where there is no memory for that
+    /// it waits for the next time.
     pub(crate) fn receive(
         &self,
         rt: &R,

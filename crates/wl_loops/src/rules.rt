@@ -57,7 +57,8 @@ impl AdmissionRules {
     /// Those for a peer of this machine's file system, or of the network.
     pub fn of_peer<R: Wait>(&self, rt: &R, is_local: bool) -> io::Result<Arc<Rules, Global>>
         ensures local { is_local ≡ true → IfOk result (λ rules. (arc_value rules).tokens ≡ None) }
-        ensures wanted { is_local ≡ false → self.now.wants_tokens ≡ true → IfOk result (λ rules. is_some (arc_value rules).tokens ≡ true) }
+        ensures wanted { is_local ≡ false → self.now.wants_tokens ≡ true
+            → IfOk result (λ rules. is_some (arc_value rules).tokens ≡ true) }
     {
         if is_local {
             return Ok(Arc::try_clone(&self.local)?);

@@ -42,7 +42,8 @@ fn watch_one<'a, R: Wait, H: Host>(
     now: u64,
     limits: &Limits,
 ) -> Option<Hold>
-    ensures watched { Watched (λ one. one.connection.liveness) now limits.now (get served.old key) (get served.new key) }
+    ensures watched { Watched (λ one. one.connection.liveness) now limits.now (get served.old key)
+        (get served.new key) }
     ensures others { (other : ℕ) → other ≢ key → get served.new other ≡ get served.old other }
 {
     let is_over = match served.get_mut(key) {

@@ -206,8 +206,8 @@ impl<H> Shared<H> {
         self.rules.set(rt, rules)
     }
 
-    /// The rules by which handshakes of the network are admitted now. `Memory` comes only where the count of their owners
-    /// is used up.
+    /// The rules by which handshakes of the network are admitted now. `Memory` comes only where the count of their
+    /// owners is used up.
     pub fn rules<R: Wait>(&self, rt: &R) -> Result<Arc<Rules, Global>, AllocError> {
         self.rules.network(rt)
     }
@@ -219,8 +219,10 @@ impl<H> Shared<H> {
         arrival: &Arrival,
     ) -> io::Result<Option<Arc<Rules, Global>>>
         ensures placed { IfOk result (λ rules. is_some rules ≡ is_served arrival.now.hold) }
-        ensures local { is_local arrival.now.transport ≡ true → IfOk result (λ rules. IfSome rules (λ its. (arc_value its).tokens ≡ None)) }
-        ensures wanted { is_local arrival.now.transport ≡ false → self.now.rules.wants_tokens ≡ true → IfOk result (λ rules. IfSome rules (λ its. is_some (arc_value its).tokens ≡ true)) }
+        ensures local { is_local arrival.now.transport ≡ true
+            → IfOk result (λ rules. IfSome rules (λ its. (arc_value its).tokens ≡ None)) }
+        ensures wanted { is_local arrival.now.transport ≡ false → self.now.rules.wants_tokens ≡ true
+            → IfOk result (λ rules. IfSome rules (λ its. is_some (arc_value its).tokens ≡ true)) }
     {
         match arrival.hold {
             Hold::Served(_) => Ok(Some(self.rules.of_peer(rt, arrival.transport.is_local())?)),

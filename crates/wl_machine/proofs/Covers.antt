@@ -1,5 +1,6 @@
 -- What is looked up at numbers in order, some of which find nothing, is what is looked up at all that find something.
-use Rattle.std.proofs.Common.{◌≡◌, ◌⊎◌, ℕ, ◌<◌, ◌==◌, Bool, true, false, cond, List, [], ◌∷◌, ◌++◌, refl, sym, ap, subst, ◌∙◌, inl, inr, arith}
+use Rattle.std.proofs.Common.{◌≡◌, ◌⊎◌, ℕ, ◌<◌, ◌==◌, Bool, true, false, cond, List, [], ◌∷◌, ◌++◌, refl, sym, ap}
+use Rattle.std.proofs.Common.{subst, ◌∙◌, inl, inr, arith}
 use Rattle.std.specs.Prelude.{filter}
 use Rattle.std.specs.List.{AllByRecursion, Contains, flat_map}
 use Rattle.std.specs.List.Sorted.{IsStrictlySortedBy}
@@ -29,7 +30,8 @@ pub alike : (k n : ℕ) → (k == n) ≡ true → k ≡ n
 alike k n h = grind (arith, nat_tests, h)
 
 -- what is above a number is above one that is lower
-pub all_above : (a b : ℕ) → nat_cmp a b ≡ Less → (ks : List ℕ) → AllByRecursion (λ k. nat_cmp b k ≡ Less) ks → AllByRecursion (λ k. nat_cmp a k ≡ Less) ks
+pub all_above : (a b : ℕ) → nat_cmp a b ≡ Less → (ks : List ℕ) → AllByRecursion (λ k. nat_cmp b k ≡ Less) ks
+    → AllByRecursion (λ k. nat_cmp a k ≡ Less) ks
 all_above a b h [] all = tt
 all_above a b h (k ∷ ks) all = (before a b k h all.0, all_above a b h ks all.1)
 
@@ -41,14 +43,16 @@ head_in k ks = Contains-get_or (k ∷ ks) 0 0 (omega arith)
 pub tail_in : (k q : ℕ) (ks : List ℕ) → Contains ks q → Contains (k ∷ ks) q
 tail_in k q ks has = Contains-append_right (k ∷ []) ks q has
 
-pub Contains-filter : (test : ℕ → Bool) (xs : List ℕ) (q : ℕ) → test q ≡ true → Contains xs q → Contains (filter test xs) q
+pub Contains-filter : (test : ℕ → Bool) (xs : List ℕ) (q : ℕ) → test q ≡ true → Contains xs q
+    → Contains (filter test xs) q
 Contains-filter test [] q passes has = has
 Contains-filter test (x ∷ xs) q passes has = by (x == q) refl (test x) refl (Contains-filter test xs q passes)
   where
     rest_in : (x == q) ≡ false → Contains xs q
     rest_in h = Contains-tail x xs q (λ e. grind (arith, nat_tests, h, e)) has
 
-    by : (a : Bool) → (x == q) ≡ a → (b : Bool) → test x ≡ b → (Contains xs q → Contains (filter test xs) q) → Contains (cond b (x ∷ filter test xs) (filter test xs)) q
+    by : (a : Bool) → (x == q) ≡ a → (b : Bool) → test x ≡ b → (Contains xs q → Contains (filter test xs) q)
+        → Contains (cond b (x ∷ filter test xs) (filter test xs)) q
     by true h true t rest = subst (Contains (x ∷ filter test xs)) (alike x q h) (head_in x (filter test xs))
     by true h false t rest = absurd (let off : true ≡ false = sym passes ∙ ap test (sym (alike x q h)) ∙ t in cc)
     by false h true t rest = tail_in x q (filter test xs) (rest (rest_in h))
@@ -57,30 +61,36 @@ Contains-filter test (x ∷ xs) q passes has = by (x == q) refl (test x) refl (C
 -- ---- numbers that rise
 
 -- those that pass a test
-pub rising_filter : (test : ℕ → Bool) (xs : List ℕ) → IsStrictlySortedBy nat_cmp xs → IsStrictlySortedBy nat_cmp (filter test xs)
+pub rising_filter : (test : ℕ → Bool) (xs : List ℕ) → IsStrictlySortedBy nat_cmp xs
+    → IsStrictlySortedBy nat_cmp (filter test xs)
 unfolding IsStrictlySortedBy
 rising_filter test [] s = s
 rising_filter test (x ∷ xs) s = by (test x) (rising_filter test xs (sorted_tail nat_cmp x xs s))
   where
-    kept : (l : List ℕ) → AllByRecursion (λ y. nat_cmp x y ≡ Less) l → AllByRecursion (λ y. nat_cmp x y ≡ Less) (filter test l)
+    kept : (l : List ℕ) → AllByRecursion (λ y. nat_cmp x y ≡ Less) l
+        → AllByRecursion (λ y. nat_cmp x y ≡ Less) (filter test l)
     kept [] all = tt
     kept (y ∷ l) all = or_not (test y) (kept l all.1)
       where
-        or_not : (b : Bool) → AllByRecursion (λ z. nat_cmp x z ≡ Less) (filter test l) → AllByRecursion (λ z. nat_cmp x z ≡ Less) (cond b (y ∷ filter test l) (filter test l))
+        or_not : (b : Bool) → AllByRecursion (λ z. nat_cmp x z ≡ Less) (filter test l)
+            → AllByRecursion (λ z. nat_cmp x z ≡ Less) (cond b (y ∷ filter test l) (filter test l))
         or_not true rest = (all.0, rest)
         or_not false rest = rest
 
-    by : (b : Bool) → IsStrictlySortedBy nat_cmp (filter test xs) → IsStrictlySortedBy nat_cmp (cond b (x ∷ filter test xs) (filter test xs))
+    by : (b : Bool) → IsStrictlySortedBy nat_cmp (filter test xs)
+        → IsStrictlySortedBy nat_cmp (cond b (x ∷ filter test xs) (filter test xs))
     by true rest = (kept xs (sorted_head nat_cmp x xs s), rest)
     by false rest = rest
 
 -- one more, above all
-pub rising_more : (xs : List ℕ) (n : ℕ) → IsStrictlySortedBy nat_cmp xs → AllByRecursion (λ x. x < n) xs → IsStrictlySortedBy nat_cmp (xs ++ n ∷ [])
+pub rising_more : (xs : List ℕ) (n : ℕ) → IsStrictlySortedBy nat_cmp xs → AllByRecursion (λ x. x < n) xs
+    → IsStrictlySortedBy nat_cmp (xs ++ n ∷ [])
 unfolding IsStrictlySortedBy
 rising_more [] n s all = (tt, tt)
 rising_more (x ∷ xs) n s all = (over xs s.0, rising_more xs n s.1 all.1)
   where
-    over : (l : List ℕ) → AllByRecursion (λ y. nat_cmp x y ≡ Less) l → AllByRecursion (λ y. nat_cmp x y ≡ Less) (l ++ n ∷ [])
+    over : (l : List ℕ) → AllByRecursion (λ y. nat_cmp x y ≡ Less) l
+        → AllByRecursion (λ y. nat_cmp x y ≡ Less) (l ++ n ∷ [])
     over [] above = (let lower = all.0 in grind (arith, nat_tests, lower), tt)
     over (y ∷ l) above = (above.0, over l above.1)
 
@@ -94,7 +104,11 @@ module _ {X : Type 0} (g : ℕ → List X) where
   -- one that another list does not have
   lone : (n : ℕ) (ns ks : List ℕ) → AllByRecursion (λ k. nat_cmp n k ≡ Less) ks → Covers ks (n ∷ ns) → g n ≡ []
   lone n ns ks above covers = elim (covers n (head_in n ns)) [
-    | inl has ↦ absurd (omega (arith, less n n (All-contains (λ k. nat_cmp n k ≡ Less) ks n (All-from_recursion (λ k. nat_cmp n k ≡ Less) ks above) has)))
+    | inl has ↦ absurd (omega (
+      arith,
+      less n n (All-contains (λ k. nat_cmp n k ≡ Less) ks n
+          (All-from_recursion (λ k. nat_cmp n k ≡ Less) ks above) has),
+    ))
     | inr none ↦ none
   ]
 
@@ -106,7 +120,12 @@ module _ {X : Type 0} (g : ℕ → List X) where
   ]
     where
       differ : n ≡ q → ⊥
-      differ e = omega (arith, e, less n q (All-contains (λ k. nat_cmp n k ≡ Less) ks q (All-from_recursion (λ k. nat_cmp n k ≡ Less) ks above) has))
+      differ e = omega (
+        arith,
+        e,
+        less n q (All-contains (λ k. nat_cmp n k ≡ Less) ks q
+            (All-from_recursion (λ k. nat_cmp n k ≡ Less) ks above) has),
+      )
 
   fewer : (n : ℕ) (ns ks : List ℕ) → Covers ks (n ∷ ns) → Covers ks ns
   fewer n ns ks covers q has = covers q (tail_in n q ns has)
@@ -115,15 +134,18 @@ module _ {X : Type 0} (g : ℕ → List X) where
   nothing [] covers = refl
   nothing (k ∷ ks) covers = rw (lone k ks [] tt covers) (nothing ks (fewer k ks [] covers))
 
-  pub looked_alike : (ns ks : List ℕ) → IsStrictlySortedBy nat_cmp ns → IsStrictlySortedBy nat_cmp ks → Covers ks ns → Covers ns ks → flat_map g ns ≡ flat_map g ks
+  pub looked_alike : (ns ks : List ℕ) → IsStrictlySortedBy nat_cmp ns → IsStrictlySortedBy nat_cmp ks → Covers ks ns
+      → Covers ns ks → flat_map g ns ≡ flat_map g ks
   looked_alike [] ks s t some all = sym (nothing ks all)
   looked_alike (n ∷ ns) ks s t some all = inner (looked_alike ns) ks t some all
     where
       above : AllByRecursion (λ k. nat_cmp n k ≡ Less) ns
       above = sorted_head nat_cmp n ns s
 
-      inner : ((ks : List ℕ) → IsStrictlySortedBy nat_cmp ns → IsStrictlySortedBy nat_cmp ks → Covers ks ns → Covers ns ks → flat_map g ns ≡ flat_map g ks)
-          → (ks : List ℕ) → IsStrictlySortedBy nat_cmp ks → Covers ks (n ∷ ns) → Covers (n ∷ ns) ks → flat_map g (n ∷ ns) ≡ flat_map g ks
+      inner : ((ks : List ℕ) → IsStrictlySortedBy nat_cmp ns → IsStrictlySortedBy nat_cmp ks → Covers ks ns
+          → Covers ns ks → flat_map g ns ≡ flat_map g ks)
+          → (ks : List ℕ) → IsStrictlySortedBy nat_cmp ks → Covers ks (n ∷ ns) → Covers (n ∷ ns) ks
+          → flat_map g (n ∷ ns) ≡ flat_map g ks
       inner outer [] t some all = nothing (n ∷ ns) some
       inner outer (k ∷ ks) t some all = by (nat_cmp n k) refl (inner outer ks)
         where
@@ -133,7 +155,8 @@ module _ {X : Type 0} (g : ℕ → List X) where
           over : AllByRecursion (λ q. nat_cmp k q ≡ Less) ks
           over = sorted_head nat_cmp k ks t
 
-          by : (o : Ordering) → nat_cmp n k ≡ o → (IsStrictlySortedBy nat_cmp ks → Covers ks (n ∷ ns) → Covers (n ∷ ns) ks → flat_map g (n ∷ ns) ≡ flat_map g ks)
+          by : (o : Ordering) → nat_cmp n k ≡ o → (IsStrictlySortedBy nat_cmp ks → Covers ks (n ∷ ns)
+              → Covers (n ∷ ns) ks → flat_map g (n ∷ ns) ≡ flat_map g ks)
               → flat_map g (n ∷ ns) ≡ flat_map g (k ∷ ks)
           by Less h rest =
               let high : AllByRecursion (λ q. nat_cmp n q ≡ Less) (k ∷ ks) = (h, all_above n k h ks over) in
@@ -146,7 +169,10 @@ module _ {X : Type 0} (g : ℕ → List X) where
               rest (sorted_tail nat_cmp k ks t) (lower k ks (n ∷ ns) high some) (fewer k ks (n ∷ ns) all) ∙ sym gone
           by Equal h rest =
               let is = equal n k h in
-              let high : AllByRecursion (λ q. nat_cmp n q ≡ Less) ks = subst (λ m. AllByRecursion (λ q. nat_cmp m q ≡ Less) ks) (sym is) over in
-              let low : AllByRecursion (λ q. nat_cmp k q ≡ Less) ns = subst (λ m. AllByRecursion (λ q. nat_cmp m q ≡ Less) ns) is above in
-              let tails = outer ks rises (sorted_tail nat_cmp k ks t) (lower k ks ns low (fewer n ns (k ∷ ks) some)) (lower n ns ks high (fewer k ks (n ∷ ns) all)) in
+              let high : AllByRecursion (λ q. nat_cmp n q ≡ Less) ks =
+              subst (λ m. AllByRecursion (λ q. nat_cmp m q ≡ Less) ks) (sym is) over in
+              let low : AllByRecursion (λ q. nat_cmp k q ≡ Less) ns =
+              subst (λ m. AllByRecursion (λ q. nat_cmp m q ≡ Less) ns) is above in
+              let tails = outer ks rises (sorted_tail nat_cmp k ks t) (lower k ks ns low (fewer n ns (k ∷ ks) some))
+              (lower n ns ks high (fewer k ks (n ∷ ns) all)) in
               ap (λ l. g n ++ l) tails ∙ ap (λ m. g m ++ flat_map g ks) is

@@ -21,7 +21,8 @@ use Rattle.wl_machine.specs.declared.rows.PendingRow.{PendingRow}
 use Rattle.wl_machine.specs.State.{State}
 use Rattle.wl_machine.specs.Grants.{is_exclusive}
 use Rattle.wl_machine.specs.Refusals.{is_window}
-use Rattle.wl_machine.specs.Same.{same_reason, same_agent, same_signal, same_lock, same_request, same_numbers, same_state}
+use Rattle.wl_machine.specs.Same.{same_reason, same_agent, same_signal, same_lock, same_request, same_numbers}
+use Rattle.wl_machine.specs.Same.{same_state}
 use Rattle.wl_machine.specs.Laws.{SameIsEqual}
 use Rattle.wl_machine.specs.Alike.{same_state_equiv}
 use Rattle.wl_machine.proofs.Lists.{and_first, and_second}
@@ -29,7 +30,8 @@ use Rattle.wl_machine.proofs.Lists.{and_first, and_second}
 both : (a b : Bool) → (a && b) ≡ true → (a ≡ true) × (b ≡ true)
 both a b is = (and_first a b is, and_second a b is)
 
-pointwise_exact : {X : Type 0} (same : X → X → Bool) → ((a b : X) → same a b ≡ true → a ≡ b) → (xs ys : List X) → pointwise same xs ys ≡ true → xs ≡ ys
+pointwise_exact : {X : Type 0} (same : X → X → Bool) → ((a b : X) → same a b ≡ true → a ≡ b) → (xs ys : List X)
+    → pointwise same xs ys ≡ true → xs ≡ ys
 pointwise_exact same exact [] [] is = refl
 pointwise_exact same exact [] (y ∷ ys) is = absurd (cc (is))
 pointwise_exact same exact (x ∷ xs) [] is = absurd (cc (is))
@@ -39,7 +41,8 @@ pointwise_exact same exact (x ∷ xs) (y ∷ ys) is =
     let rest : xs ≡ ys = pointwise_exact same exact xs ys parts.1 in
     rw (first, rest) refl
 
-option_exact : {X : Type 0} (same : X → X → Bool) → ((a b : X) → same a b ≡ true → a ≡ b) → (one other : Option X) → option_eq same one other ≡ true → one ≡ other
+option_exact : {X : Type 0} (same : X → X → Bool) → ((a b : X) → same a b ≡ true → a ≡ b) → (one other : Option X)
+    → option_eq same one other ≡ true → one ≡ other
 option_exact same exact None None is = refl
 option_exact same exact None (Some y) is = absurd (cc (is))
 option_exact same exact (Some x) None is = absurd (cc (is))
@@ -85,7 +88,8 @@ agent_exact a b is =
     let number : a.number ≡ b.number = number_exact a.number b.number one.0 in
     let kind : a.kind ≡ b.kind = kind_exact a.kind b.kind two.0 in
     let active : a.active ≡ b.active = bool_exact a.active b.active two.1 in
-    let equal : agent_row_of a.number a.kind a.active ≡ agent_row_of b.number b.kind b.active = rw (number, kind, active) refl in
+    let equal : agent_row_of a.number a.kind a.active ≡ agent_row_of b.number b.kind b.active =
+    rw (number, kind, active) refl in
     equal
 
 abbrev signal_row_of : ℕ → ℕ → Option Reason → SignalRow
@@ -98,11 +102,13 @@ signal_exact a b is =
     let agent : a.agent ≡ b.agent = number_exact a.agent b.agent one.0 in
     let number : a.number ≡ b.number = number_exact a.number b.number two.0 in
     let reason : a.reason ≡ b.reason = option_exact same_reason reason_exact a.reason b.reason two.1 in
-    let equal : signal_row_of a.agent a.number a.reason ≡ signal_row_of b.agent b.number b.reason = rw (agent, number, reason) refl in
+    let equal : signal_row_of a.agent a.number a.reason ≡ signal_row_of b.agent b.number b.reason =
+    rw (agent, number, reason) refl in
     equal
 
 abbrev pending_row_of : ℕ → ℕ → List ℕ → Mode → Option ℕ → PendingRow
-pending_row_of the_number the_agent the_name the_mode the_signal = record { number = the_number; agent = the_agent; name = the_name; mode = the_mode; signal = the_signal }
+pending_row_of the_number the_agent the_name the_mode the_signal =
+    record { number = the_number; agent = the_agent; name = the_name; mode = the_mode; signal = the_signal }
 
 request_exact : (a b : PendingRow) → same_request a b ≡ true → a ≡ b
 request_exact a b is =
@@ -115,11 +121,20 @@ request_exact a b is =
     let name : a.name ≡ b.name = text_exact a.name b.name three.0 in
     let mode : a.mode ≡ b.mode = mode_exact a.mode b.mode four.0 in
     let signal : a.signal ≡ b.signal = option_exact ◌==◌ number_exact a.signal b.signal four.1 in
-    let equal : pending_row_of a.number a.agent a.name a.mode a.signal ≡ pending_row_of b.number b.agent b.name b.mode b.signal = rw (number, agent, name, mode, signal) refl in
+    let equal : pending_row_of a.number a.agent a.name a.mode a.signal
+    ≡ pending_row_of b.number b.agent b.name b.mode b.signal = rw (number, agent, name, mode, signal) refl in
     equal
 
 abbrev held_row_of : ℕ → ℕ → List ℕ → Mode → Option ℕ → Bool → HeldRow
-held_row_of the_number the_agent the_name the_mode the_signal the_taken = record { number = the_number; agent = the_agent; name = the_name; mode = the_mode; signal = the_signal; taken = the_taken }
+held_row_of the_number the_agent the_name the_mode the_signal the_taken =
+    record {
+      number = the_number;
+      agent = the_agent;
+      name = the_name;
+      mode = the_mode;
+      signal = the_signal;
+      taken = the_taken;
+    }
 
 lock_exact : (a b : HeldRow) → same_lock a b ≡ true → a ≡ b
 lock_exact a b is =
@@ -134,7 +149,9 @@ lock_exact a b is =
     let mode : a.mode ≡ b.mode = mode_exact a.mode b.mode four.0 in
     let signal : a.signal ≡ b.signal = option_exact ◌==◌ number_exact a.signal b.signal five.0 in
     let taken : a.taken ≡ b.taken = bool_exact a.taken b.taken five.1 in
-    let equal : held_row_of a.number a.agent a.name a.mode a.signal a.taken ≡ held_row_of b.number b.agent b.name b.mode b.signal b.taken = rw (number, agent, name, mode, signal, taken) refl in
+    let equal : held_row_of a.number a.agent a.name a.mode a.signal a.taken
+    ≡ held_row_of b.number b.agent b.name b.mode b.signal b.taken = rw (number, agent, name, mode, signal, taken) refl
+    in
     equal
 
 abbrev numbers_of : ℕ → ℕ → ℕ → Numbers
@@ -147,11 +164,20 @@ numbers_exact a b is =
     let agent : a.agent ≡ b.agent = number_exact a.agent b.agent one.0 in
     let request : a.request ≡ b.request = number_exact a.request b.request two.0 in
     let signal : a.signal ≡ b.signal = number_exact a.signal b.signal two.1 in
-    let equal : numbers_of a.agent a.request a.signal ≡ numbers_of b.agent b.request b.signal = rw (agent, request, signal) refl in
+    let equal : numbers_of a.agent a.request a.signal ≡ numbers_of b.agent b.request b.signal =
+    rw (agent, request, signal) refl in
     equal
 
 abbrev state_of : List AgentRow → List SignalRow → List (List ℕ) → List HeldRow → List PendingRow → Numbers → State
-state_of the_agents the_signals the_names the_held the_pending the_next = record { agents = the_agents; signals = the_signals; names = the_names; held = the_held; pending = the_pending; next = the_next }
+state_of the_agents the_signals the_names the_held the_pending the_next =
+    record {
+      agents = the_agents;
+      signals = the_signals;
+      names = the_names;
+      held = the_held;
+      pending = the_pending;
+      next = the_next;
+    }
 
 exact : (s t : State) → same_state s t ≡ true → s ≡ t
 exact s t is =
@@ -166,7 +192,9 @@ exact s t is =
     let held : s.held ≡ t.held = pointwise_exact same_lock lock_exact s.held t.held four.0 in
     let pending : s.pending ≡ t.pending = pointwise_exact same_request request_exact s.pending t.pending five.0 in
     let next : s.next ≡ t.next = numbers_exact s.next t.next five.1 in
-    let equal : state_of s.agents s.signals s.names s.held s.pending s.next ≡ state_of t.agents t.signals t.names t.held t.pending t.next = rw (agents, signals, names, held, pending, next) refl in
+    let equal : state_of s.agents s.signals s.names s.held s.pending s.next
+    ≡ state_of t.agents t.signals t.names t.held t.pending t.next =
+    rw (agents, signals, names, held, pending, next) refl in
     equal
 
 pub same_is_equal : SameIsEqual

@@ -1,6 +1,7 @@
--- Which requests are granted: Web Locks, "grantable" and "process the lock request queue". The one list of locks, the one
--- list of requests and the order of names are (own): the standard keeps a queue for each name.
-use Rattle.std.specs.Prelude.{ℕ, suc, zero, Bool, true, false, ◌&&◌, ◌||◌, List, [], ◌∷◌, ◌++◌, length, map, filter, take, if◌then◌else◌}
+-- Which requests are granted: Web Locks, "grantable" and "process the lock request queue". The one list of locks, the
+-- one list of requests and the order of names are (own): the standard keeps a queue for each name.
+use Rattle.std.specs.Prelude.{ℕ, suc, zero, Bool, true, false, ◌&&◌, ◌||◌, List, [], ◌∷◌, ◌++◌, length, map, filter}
+use Rattle.std.specs.Prelude.{take, if◌then◌else◌}
 use Rattle.std.specs.List.{list_any}
 use Rattle.std.specs.Str.{bytes_eq}
 use Rattle.wl_types.specs.declared.words.Mode.{Mode}
@@ -40,20 +41,21 @@ abbrev pub shared_prefix : List PendingRow → List PendingRow
 shared_prefix [] = []
 shared_prefix (request ∷ requests) = if is_exclusive request.mode then [] else request ∷ shared_prefix requests
 
--- what is granted of one name's queue: nothing beside an exclusive lock; an exclusive request that is first, alone, where no
--- lock is held; else the shared requests in front
+-- what is granted of one name's queue: nothing beside an exclusive lock; an exclusive request that is first, alone,
+-- where no lock is held; else the shared requests in front
 abbrev pub grants : List HeldRow → List PendingRow → List PendingRow
 grants held requests =
     if any_exclusive held then []
     else (if is_empty held && starts_exclusive requests then take 1 requests else shared_prefix requests)
 
--- the requests without the first of this name, as many as count says. What is granted is a front of one name's queue, which
--- stands scattered in the list of all requests: so it is counted off, name by name, and a filter can't say it
+-- the requests without the first of this name, as many as count says. What is granted is a front of one name's queue,
+-- which stands scattered in the list of all requests: so it is counted off, name by name, and a filter can't say it
 abbrev pub without_first : List ℕ → ℕ → List PendingRow → List PendingRow
 without_first name zero pending = pending
 without_first name (suc count) [] = []
 without_first name (suc count) (request ∷ pending) =
-    if bytes_eq request.name name then without_first name count pending else request ∷ without_first name (suc count) pending
+    if bytes_eq request.name name then without_first name count pending
+    else request ∷ without_first name (suc count) pending
 
 -- the lock of a request that is granted: untaken
 abbrev pub granted_lock : PendingRow → HeldRow

@@ -1,5 +1,6 @@
 -- Laws of the machine, as statements. Each is the contract of a public function of the same name.
-use Rattle.std.specs.Prelude.{◌≡◌, ◌<◌, ◌≤◌, ◌↔◌, ℕ, Bool, true, false, not, ◌&&◌, ◌==◌, List, [], ◌∷◌, ◌++◌, length, map, filter, if◌then◌else◌}
+use Rattle.std.specs.Prelude.{◌≡◌, ◌<◌, ◌≤◌, ◌↔◌, ℕ, Bool, true, false, not, ◌&&◌, ◌==◌, List, [], ◌∷◌, ◌++◌, length}
+use Rattle.std.specs.Prelude.{map, filter, if◌then◌else◌}
 use Rattle.std.specs.List.{list_any, AllPairs}
 use Rattle.wl_types.specs.declared.phases.Numbers.{Numbers}
 use Rattle.wl_types.specs.declared.phases.Phase.{Phase}
@@ -41,7 +42,8 @@ NothingLeftToGrant = (next : Numbers) (commands : List Command) (name : List ℕ
 -- in a reachable state an exclusive lock is the only lock of its name
 abbrev pub ExclusiveIsAlone : Type 0
 ExclusiveIsAlone = (next : Numbers) (commands : List Command) (name : List ℕ) →
-    let s = state_after commands (opening next) in any_exclusive (locks name s.held) ≡ true → length (locks name s.held) ≡ 1
+    let s = state_after commands (opening next) in any_exclusive (locks name s.held) ≡ true
+    → length (locks name s.held) ≡ 1
 
 -- in a reachable state, of two requests that wait the later has the greater number: a steal is granted in its own step
 abbrev pub WaitingNumbersRise : Type 0
@@ -58,7 +60,8 @@ all_changes command step_result = step_result.changes ++ take_changes command st
 
 abbrev pub history : List Command → State → List Change
 history [] s = []
-history (command ∷ commands) s = let step_result = step s command in all_changes command step_result ++ history commands step_result.state
+history (command ∷ commands) s = let step_result = step s command
+    in all_changes command step_result ++ history commands step_result.state
 
 -- the phases that a request comes to
 abbrev pub phases_of : ℕ → List Change → List Phase
@@ -97,8 +100,8 @@ asks_for_flag aside s (Abort agent signal reason) =
     list_any (λ lock. aside lock.number && lock.agent == agent && is_signal signal lock.signal) s.held
 asks_for_flag aside s command = false
 
--- states that differ only in the flags of some locks give equal replies and changes, and states that differ only in those flags,
--- for every command that does not ask for such a flag
+-- states that differ only in the flags of some locks give equal replies and changes, and states that differ only in
+-- those flags, for every command that does not ask for such a flag
 abbrev pub FlagsPlayNoPart : Type 0
 FlagsPlayNoPart = (aside : ℕ → Bool) (s t : State) (command : Command) →
     without_flags aside s ≡ without_flags aside t → asks_for_flag aside s command ≡ false →

@@ -1,6 +1,7 @@
--- The phases of requests in a state, and how one command moves them (own). The statements at the end are laws: each is the
--- contract of a public function.
-use Rattle.std.specs.Prelude.{◌≡◌, ◌⊎◌, ◌≤◌, ◌==◌, ◌++◌, ℕ, Bool, true, false, List, [], ◌∷◌, length, map, filter, if◌then◌else◌}
+-- The phases of requests in a state, and how one command moves them (own). The statements at the end are laws: each is
+-- the contract of a public function.
+use Rattle.std.specs.Prelude.{◌≡◌, ◌⊎◌, ◌≤◌, ◌==◌, ◌++◌, ℕ, Bool, true, false, List, [], ◌∷◌, length, map, filter}
+use Rattle.std.specs.Prelude.{if◌then◌else◌}
 use Rattle.wl_types.specs.Phases.{is_end, is_move}
 use Rattle.wl_types.specs.declared.phases.Phase.{Phase}
 use Rattle.wl_types.specs.declared.phases.Phase.TheVariants.{Pending, Granted, Taken, Aborted}
@@ -34,7 +35,8 @@ live phase = if is_end phase then [] else phase ∷ []
 -- a request stays as it is, or makes one move that the table has
 abbrev pub MovesOnce : (Phase → Phase → Bool) → List Phase → List Phase → List Phase → Type 0
 MovesOnce table before changes after =
-    ((changes ≡ []) × (after ≡ before)) ⊎ ((from to : Phase) × (before ≡ from ∷ []) × (changes ≡ to ∷ []) × (table from to ≡ true) × (after ≡ live to))
+    ((changes ≡ []) × (after ≡ before)) ⊎ ((from to : Phase) × (before ≡ from ∷ []) × (changes ≡ to ∷ [])
+    × (table from to ≡ true) × (after ≡ live to))
 
 -- each number is that of one request at most, and below the next one
 pub record IsNumbered (s : State) : Type 0 where
@@ -68,7 +70,8 @@ taken_from phase = phase
 -- a command that nothing refuses, but a take, moves each request once at most
 abbrev pub RequestsMoveOnce : Type 0
 RequestsMoveOnce = (s : State) (command : Command) (id : ℕ) → IsNumbered s → is_take command ≡ false
-    → MovesOnce (table_of command) (phases_in s id ++ added_phases s command id) (phases_of id (accepted s command).changes) (phases_in (accepted s command).state id)
+    → MovesOnce (table_of command) (phases_in s id ++ added_phases s command id)
+    (phases_of id (accepted s command).changes) (phases_in (accepted s command).state id)
 
 -- numbers stay apart, and below the next one
 abbrev pub NumbersStayApart : Type 0
@@ -76,4 +79,5 @@ NumbersStayApart = (s : State) (command : Command) → IsNumbered s → IsNumber
 
 -- a take makes its request's granted lock a taken one, and no other
 abbrev pub TakeTakesOne : Type 0
-TakeTakesOne = (s : State) (taken id : ℕ) → phases_in (step s (Take taken)).state id ≡ (if id == taken then map taken_from (phases_in s id) else phases_in s id)
+TakeTakesOne = (s : State) (taken id : ℕ) → phases_in (step s (Take taken)).state id
+    ≡ (if id == taken then map taken_from (phases_in s id) else phases_in s id)

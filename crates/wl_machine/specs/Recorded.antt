@@ -6,7 +6,8 @@ use Rattle.wl_types.specs.declared.answers.AbortAnswer.TheVariants.{AlreadyAbort
 use Rattle.wl_machine.specs.declared.command.Reply.{Reply}
 use Rattle.wl_machine.specs.declared.command.Reply.TheVariants as reply
 
--- What changed nothing is not recorded: a query's snapshot, a refusal, a lock not granted or not held, a signal aborted before.
+-- What changed nothing is not recorded: a query's snapshot, a refusal, a lock not granted or not held, a signal aborted
+-- before.
 abbrev pub is_recorded : Reply → Bool
 is_recorded (reply.Seen snapshot) = false
 is_recorded (reply.Refused refusal) = false

@@ -1,6 +1,7 @@
--- Why a command is refused. The checks of a request for a fully active window, a reserved name, options that exclude each
--- other and an aborted signal are those of Web Locks, `request()`; all others, and the order, are (own).
-use Rattle.std.specs.Prelude.{ℕ, Bool, true, false, not, ◌&&◌, ◌==◌, nat_le, ◌+◌, List, [], ◌∷◌, length, filter, if◌then◌else◌, Option, Some, None}
+-- Why a command is refused. The checks of a request for a fully active window, a reserved name, options that exclude
+-- each other and an aborted signal are those of Web Locks, `request()`; all others, and the order, are (own).
+use Rattle.std.specs.Prelude.{ℕ, Bool, true, false, not, ◌&&◌, ◌==◌, nat_le, ◌+◌, List, [], ◌∷◌, length, filter}
+use Rattle.std.specs.Prelude.{if◌then◌else◌, Option, Some, None}
 use Rattle.std.specs.List.{list_any}
 use Rattle.wl_types.specs.Names.{is_long}
 use Rattle.wl_types.specs.Asks.{ask_refusal}
@@ -9,11 +10,14 @@ use Rattle.wl_types.specs.declared.words.Kind.{Kind}
 use Rattle.wl_types.specs.declared.words.Kind.TheVariants.{Window, Worker}
 use Rattle.wl_types.specs.declared.words.Reason.{Reason}
 use Rattle.wl_types.specs.declared.refusal.Refusal.{Refusal}
-use Rattle.wl_types.specs.declared.refusal.Refusal.TheVariants.{InvalidState, Security, SignalAborted, NameTooLong, NoSuchSignal, TooManyRequests, TooManySignals, TooManyAgents, NumbersSpent, NoSuchAgent, NotAWindow}
+use Rattle.wl_types.specs.declared.refusal.Refusal.TheVariants.{InvalidState, Security, SignalAborted, NameTooLong}
+use Rattle.wl_types.specs.declared.refusal.Refusal.TheVariants.{NoSuchSignal, TooManyRequests, TooManySignals}
+use Rattle.wl_types.specs.declared.refusal.Refusal.TheVariants.{TooManyAgents, NumbersSpent, NoSuchAgent, NotAWindow}
 use Rattle.wl_types.specs.declared.ask.Ask.{Ask}
 use Rattle.wl_machine.specs.declared.rows.SignalRow.{SignalRow}
 use Rattle.wl_machine.specs.declared.command.Command.{Command}
-use Rattle.wl_machine.specs.declared.command.Command.TheVariants.{Enter, SetActive, NewSignal, Request, Take, Release, Abort, Terminate, Query}
+use Rattle.wl_machine.specs.declared.command.Command.TheVariants.{Enter, SetActive, NewSignal, Request, Take, Release}
+use Rattle.wl_machine.specs.declared.command.Command.TheVariants.{Abort, Terminate, Query}
 use Rattle.wl_machine.specs.State.{State}
 
 -- whether the agent is live
@@ -24,8 +28,8 @@ abbrev pub is_window : Kind → Bool
 is_window Window = true
 is_window Worker = false
 
--- What `request` and `query` are refused where an origin is opaque: Storage's "obtain a local storage bottle map" fails, which
--- is a SecurityError, but a document that isn't fully active gets its InvalidStateError first (Web Locks).
+-- What `request` and `query` are refused where an origin is opaque: Storage's "obtain a local storage bottle map"
+-- fails, which is a SecurityError, but a document that isn't fully active gets its InvalidStateError first (Web Locks).
 abbrev pub no_storage : Kind → Bool → Refusal
 no_storage kind active = if is_window kind && not active then InvalidState else Security
 
@@ -87,14 +91,17 @@ request_refusals s agent ask =
 
 -- the refusals of each command, in their order
 abbrev pub refusals : State → Command → List (Option Refusal)
-refusals s (Enter kind) = refuse_if (nat_le 4096 (length s.agents)) TooManyAgents ∷ refuse_if (is_spent s.next.agent) NumbersSpent ∷ []
+refusals s (Enter kind) = refuse_if (nat_le 4096 (length s.agents)) TooManyAgents
+    ∷ refuse_if (is_spent s.next.agent) NumbersSpent ∷ []
 refusals s (SetActive agent active) = known_agent s agent ∷ refuse_if (is_worker s agent) NotAWindow ∷ []
 refusals s (NewSignal agent) =
-    known_agent s agent ∷ refuse_if (nat_le 1024 (length (signals_of agent s.signals))) TooManySignals ∷ refuse_if (is_spent s.next.signal) NumbersSpent ∷ []
+    known_agent s agent ∷ refuse_if (nat_le 1024 (length (signals_of agent s.signals))) TooManySignals
+    ∷ refuse_if (is_spent s.next.signal) NumbersSpent ∷ []
 refusals s (Request agent ask) = request_refusals s agent ask
 refusals s (Take id) = []
 refusals s (Release agent id) = []
-refusals s (Abort agent signal reason) = known_agent s agent ∷ refuse_if (not (has_signal s agent signal)) NoSuchSignal ∷ []
+refusals s (Abort agent signal reason) = known_agent s agent ∷ refuse_if (not (has_signal s agent signal)) NoSuchSignal
+    ∷ []
 refusals s (Terminate agent) = known_agent s agent ∷ []
 refusals s (Query agent) = known_agent s agent ∷ refuse_if (is_inactive s agent) InvalidState ∷ []
 

@@ -1,5 +1,5 @@
--- The state of a lock manager: Web Locks, "lock manager", "held lock set" and "lock request queue map"; Storage, for its being
--- one to each bucket of an origin. Agents, signals and their numbers are (own).
+-- The state of a lock manager: Web Locks, "lock manager", "held lock set" and "lock request queue map"; Storage, for
+-- its being one to each bucket of an origin. Agents, signals and their numbers are (own).
 use Rattle.std.specs.Prelude.{ℕ, List, [], ◌≤◌}
 use Rattle.wl_types.specs.declared.phases.Numbers.{Numbers}
 use Rattle.wl_types.specs.declared.phases.Change.{Change}

@@ -1,6 +1,7 @@
--- One command: the state, the reply and the changes that it gives. Changes are the ends, in the order of the lists, and then
--- the grants, in the order in which the queues are processed.
-use Rattle.std.specs.Prelude.{◌≡◌, ℕ, Bool, true, false, not, ◌&&◌, ◌||◌, ◌==◌, ◌+◌, List, [], ◌∷◌, ◌++◌, map, filter, is_some, if◌then◌else◌, Option, Some, None}
+-- One command: the state, the reply and the changes that it gives. Changes are the ends, in the order of the lists, and
+-- then the grants, in the order in which the queues are processed.
+use Rattle.std.specs.Prelude.{◌≡◌, ℕ, Bool, true, false, not, ◌&&◌, ◌||◌, ◌==◌, ◌+◌, List, [], ◌∷◌, ◌++◌, map, filter}
+use Rattle.std.specs.Prelude.{is_some, if◌then◌else◌, Option, Some, None}
 use Rattle.std.specs.List.{list_any, flat_map}
 use Rattle.std.specs.Str.{bytes_eq}
 use Rattle.wl_types.specs.declared.words.Kind.{Kind}
@@ -18,7 +19,8 @@ use Rattle.wl_machine.specs.declared.rows.SignalRow.{SignalRow}
 use Rattle.wl_machine.specs.declared.rows.HeldRow.{HeldRow}
 use Rattle.wl_machine.specs.declared.rows.PendingRow.{PendingRow}
 use Rattle.wl_machine.specs.declared.command.Command.{Command}
-use Rattle.wl_machine.specs.declared.command.Command.TheVariants.{Enter, SetActive, NewSignal, Request, Take, Release, Abort, Terminate, Query}
+use Rattle.wl_machine.specs.declared.command.Command.TheVariants.{Enter, SetActive, NewSignal, Request, Take, Release}
+use Rattle.wl_machine.specs.declared.command.Command.TheVariants.{Abort, Terminate, Query}
 use Rattle.wl_machine.specs.declared.command.Reply.{Reply}
 use Rattle.wl_machine.specs.declared.command.Reply.TheVariants as reply
 use Rattle.wl_types.specs.declared.answers.TakeAnswer.TheVariants as take_answer
@@ -37,13 +39,17 @@ pub record StepResult : Type 0 where
 abbrev pub no_changes : State → Reply → StepResult
 no_changes s reply = record { state = s; reply = reply; changes = [] }
 
--- Web Locks, "process the lock request queue": the queues of all names are processed, after these ends. Then each name that
--- is out of use leaves (own: the standard keeps empty queues)
+-- Web Locks, "process the lock request queue": the queues of all names are processed, after these ends. Then each name
+-- that is out of use leaves (own: the standard keeps empty queues)
 abbrev pub after_processing : State → List Change → Reply → StepResult
 after_processing s ends reply =
     let lists = process_queues (record { held = s.held; pending = s.pending; changes = ends }) s.names in
     record {
-      state = record s { names = filter (in_use lists.held lists.pending) s.names; held = lists.held; pending = lists.pending };
+      state = record s {
+        names = filter (in_use lists.held lists.pending) s.names;
+        held = lists.held;
+        pending = lists.pending;
+      };
       reply = reply;
       changes = lists.changes;
     }
@@ -72,14 +78,18 @@ new_request s agent ask = record {
 abbrev pub with_number_used : State → State
 with_number_used s = record s { next = record s.next { request = s.next.request + 1 } }
 
--- whether the request could be granted at once; one that asks with ifAvailable stands in no queue, so any queued request of
--- its name is in its way
+-- whether the request could be granted at once; one that asks with ifAvailable stands in no queue, so any queued
+-- request of its name is in its way
 abbrev pub available : State → PendingRow → Bool
-available s request = is_empty (queue request.name s.pending) && not (is_empty (grants (locks request.name s.held) (request ∷ [])))
+available s request = is_empty (queue request.name s.pending)
+    && not (is_empty (grants (locks request.name s.held) (request ∷ [])))
 
 -- the request comes to the end of its queue
 abbrev pub enqueue : State → PendingRow → State
-enqueue s request = record (with_number_used s) { names = with_name request.name s.names; pending = s.pending ++ request ∷ [] }
+enqueue s request = record (with_number_used s) {
+  names = with_name request.name s.names;
+  pending = s.pending ++ request ∷ [];
+}
 
 abbrev pub plain_request : State → PendingRow → StepResult
 plain_request s request = after_processing (enqueue s request) [] (reply.Request request.number)
@@ -102,7 +112,8 @@ steal_locks s request = record (with_number_used s) {
 
 abbrev pub stealing_request : State → PendingRow → StepResult
 stealing_request s request =
-    after_processing (steal_locks s request) (lock_ends Stolen (locks request.name s.held)) (reply.Request request.number)
+    after_processing (steal_locks s request) (lock_ends Stolen (locks request.name s.held))
+    (reply.Request request.number)
 
 abbrev pub request_step : State → ℕ → Ask → StepResult
 request_step s agent ask =
@@ -175,9 +186,11 @@ abbrev pub abort_step : State → ℕ → ℕ → Reason → StepResult
 abort_step s agent signal reason =
     if is_some (reason_in s.signals agent signal)
     then no_changes s (reply.Aborted abort_answer.AlreadyAborted)
-    else after_processing (with_aborted s agent signal reason) (abort_ends s agent signal reason) (reply.Aborted abort_answer.Done)
+    else after_processing (with_aborted s agent signal reason) (abort_ends s agent signal reason)
+    (reply.Aborted abort_answer.Done)
 
--- Web Locks, "agent termination": the agent, its signals, requests and locks are gone. The reason that its requests get is (own)
+-- Web Locks, "agent termination": the agent, its signals, requests and locks are gone. The reason that its requests get
+-- is (own)
 abbrev pub without_agent : State → ℕ → State
 without_agent s agent = record s {
   agents = filter (λ row. not (row.number == agent)) s.agents;

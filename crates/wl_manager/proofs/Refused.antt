@@ -8,7 +8,8 @@ use Rattle.wl_machine.specs.Refusals.{refusal}
 use Rattle.wl_machine.specs.declared.command.Command.{Command}
 use Rattle.wl_manager.specs.Agents.{MayRefuse}
 
-pub may_refuse : (s : State) (command : Command) (r : Refusal) → r ≡ refused_or_memory (refusal s command) → MayRefuse command r
+pub may_refuse : (s : State) (command : Command) (r : Refusal) → r ≡ refused_or_memory (refusal s command)
+    → MayRefuse command r
 may_refuse s command r is = by (refusal s command) refl is
   where
     by : (o : Option Refusal) → refusal s command ≡ o → r ≡ refused_or_memory o → MayRefuse command r

@@ -45,27 +45,35 @@ pub record AreInOrder (numbers all : List ℕ) : Type 0 where
   pub rising : IsStrictlySortedBy nat_cmp numbers
   pub same : (id : ℕ) → is_in id numbers ≡ is_in id all
 
--- These granted locks of a signal were tried, in the order of their numbers, and so they were found. The takes found are entered, so
--- that the signal's other locks are left to an abort, and the keepers of those that were aborted are at the abort
-pub record Tried (old : Book) (old_kept : Kept) (agent signal : ℕ) (reason : Reason) (new : Book) (new_kept : Kept) (found : Found) (locks : List ℕ) : Type 0 where
+-- These granted locks of a signal were tried, in the order of their numbers, and so they were found. The takes found
+-- are entered, so that the signal's other locks are left to an abort, and the keepers of those that were aborted are at
+-- the abort
+pub record Tried (old : Book) (old_kept : Kept) (agent signal : ℕ) (reason : Reason) (new : Book) (new_kept : Kept)
+    (found : Found) (locks : List ℕ) : Type 0 where
   pub order : AreInOrder (numbers_of found) locks
-  pub left : untaken_numbers new.state agent signal ≡ filter (λ id. not (is_in id (taken found))) (untaken_numbers old.state agent signal)
+  pub left : untaken_numbers new.state agent signal ≡ filter (λ id. not (is_in id (taken found)))
+      (untaken_numbers old.state agent signal)
   pub state : new.state ≡ with_takes old.state found
   pub appends : Appends old new (map take_entry (taken found))
   pub standing : IsStanding new.state
-  pub phases : (id : ℕ) → phases_at id new_kept ≡ (if is_in id (aborted found) then phase.Aborted reason ∷ [] else phases_in new.state id)
+  pub phases : (id : ℕ) → phases_at id new_kept ≡ (if is_in id (aborted found) then phase.Aborted reason ∷ []
+      else phases_in new.state id)
   pub cells : (id : ℕ) → cells_at id new_kept ≡ cells_at id old_kept
 
 -- all of them were tried
 abbrev pub TriedAll : Book → Kept → ℕ → ℕ → Reason → Book → Kept → Found → Type 0
-TriedAll old old_kept agent signal reason new new_kept found = Tried old old_kept agent signal reason new new_kept found (untaken_numbers old.state agent signal)
+TriedAll old old_kept agent signal reason new new_kept found =
+    Tried old old_kept agent signal reason new new_kept found (untaken_numbers old.state agent signal)
 
--- an abort: its exchanges found this of the signal's granted locks, in the order of their numbers. The machine's step and answer are
--- those of the state with the takes found; each such take is entered, in that order, and then just the abort's own entry. A second
--- abort finds nothing, and enters nothing
-pub record Aborts (old new : Inner) (agent signal : ℕ) (reason : Reason) (answer : AbortAnswer) (found : Found) : Type 0 where
-  pub locks : AreInOrder (numbers_of found) (untaken_numbers old.book.state agent signal)
-  pub gives : Gives (with_takes old.book.state found) (Abort agent signal reason) new.book.state (Aborted answer) new.book.recent
-  pub appends : Appends old.book new.book (map take_entry (taken found) ++ recorded (Abort agent signal reason) (Aborted answer))
-  pub cells : KeepsCells old new
-  pub again : answer ≡ AlreadyAborted → found ≡ []
+-- an abort: its exchanges found this of the signal's granted locks, in the order of their numbers. The machine's step
+-- and answer are those of the state with the takes found; each such take is entered, in that order, and then just the
+-- abort's own entry. A second abort finds nothing, and enters nothing
+pub record Aborts (old new : Inner) (agent signal : ℕ) (reason : Reason) (answer : AbortAnswer) (found : Found) : Type 0
+  where
+    pub locks : AreInOrder (numbers_of found) (untaken_numbers old.book.state agent signal)
+    pub gives : Gives (with_takes old.book.state found) (Abort agent signal reason) new.book.state (Aborted answer)
+        new.book.recent
+    pub appends : Appends old.book new.book (map take_entry (taken found)
+        ++ recorded (Abort agent signal reason) (Aborted answer))
+    pub cells : KeepsCells old new
+    pub again : answer ≡ AlreadyAborted → found ≡ []

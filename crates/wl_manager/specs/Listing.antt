@@ -1,5 +1,6 @@
--- What a manager lists of a state (own): the locks in grant order and then the requests that wait, each name's in queue order, so many
--- rows at most; the others are counted. Of the times nothing is said but that a lock alone has one of its grant.
+-- What a manager lists of a state (own): the locks in grant order and then the requests that wait, each name's in queue
+-- order, so many rows at most; the others are counted. Of the times nothing is said but that a lock alone has one of
+-- its grant.
 use Rattle.std.specs.Prelude.{◌≡◌, ℕ, ◌+◌, ◌-◌, Bool, true, false, List, length, map, take, is_some}
 use Rattle.wl_types.specs.declared.words.Mode.{Mode}
 use Rattle.wl_machine.specs.declared.rows.HeldRow.{HeldRow}
@@ -18,13 +19,25 @@ pub record Listed : Type 0 where
   pub granted : Bool
 
 abbrev pub as_listed : LockRow → Listed
-as_listed row = record { client = row.client; request = row.request; name = row.name; mode = row.mode; granted = is_some row.since_granted }
+as_listed row = record {
+  client = row.client;
+  request = row.request;
+  name = row.name;
+  mode = row.mode;
+  granted = is_some row.since_granted;
+}
 
 abbrev pub of_lock : HeldRow → Listed
 of_lock lock = record { client = lock.agent; request = lock.number; name = lock.name; mode = lock.mode; granted = true }
 
 abbrev pub of_request : PendingRow → Listed
-of_request request = record { client = request.agent; request = request.number; name = request.name; mode = request.mode; granted = false }
+of_request request = record {
+  client = request.agent;
+  request = request.number;
+  name = request.name;
+  mode = request.mode;
+  granted = false;
+}
 
 -- the list is of this state: its first rows, at most so many, and how many there are beside them
 pub record Lists (s : State) (most : ℕ) (list : LockList) : Type 0 where

@@ -16,8 +16,8 @@ use Rattle.wl_journal.specs.History.{IsLegal, state_of, recorded}
 use Rattle.wl_journal.specs.declared.entry.Entry.{Entry}
 use Rattle.wl_manager.specs.Keepers.{Kept, phases_at, cells_at}
 
--- the journal; the keepers; the number that the next request gets; how many agents opened, and how many Leavings were handed in;
--- the total of the ledger, and the parts and the amount of the share that others are split from
+-- the journal; the keepers; the number that the next request gets; how many agents opened, and how many Leavings were
+-- handed in; the total of the ledger, and the parts and the amount of the share that others are split from
 pub record Inner : Type 0 where
   pub book : Book
   pub kept : Kept
@@ -32,14 +32,15 @@ pub record Inner : Type 0 where
 abbrev pub first : State
 first = opening all_ones
 
--- with those that were cut before, entries that a journal has from this base on are a legal history from the opening state
+-- with those that were cut before, entries that a journal has from this base on are a legal history from the opening
+-- state
 pub record WasCut (base : State) (entries : List Entry) : Type 0 where
   pub cut : List Entry
   pub legal : IsLegal first (cut ++ entries)
   pub leads : base ≡ state_of first cut
 
--- What was cut of a journal: a legal history from the opening state to the journal's base, and all that was recorded before.
--- Where all entries are kept, nothing
+-- What was cut of a journal: a legal history from the opening state to the journal's base, and all that was recorded
+-- before. Where all entries are kept, nothing
 pub record IsCut (keeps_all : Bool) (book : Book) : Type 0 where
   pub cut : List Entry
   pub legal : IsLegal first cut
@@ -70,7 +71,8 @@ pub record IsKept (counts keeps_all : Bool) (all : ℕ) (l : Inner) : Type 0 whe
 
 -- the keeper of each request that was live is of its cell
 abbrev pub KeepsCells : Inner → Inner → Type 0
-KeepsCells old new = (id : ℕ) (phase : Phase) → phases_in old.book.state id ≡ phase ∷ [] → cells_at id new.kept ≡ cells_at id old.kept
+KeepsCells old new = (id : ℕ) (phase : Phase) → phases_in old.book.state id ≡ phase ∷ []
+    → cells_at id new.kept ≡ cells_at id old.kept
 
 -- the machine's step and answer, just its own entry, and no live request's cell exchanged
 pub record Does (old new : Inner) (command : Command) (answer : Reply) : Type 0 where

@@ -84,7 +84,8 @@ impl<C: LockCore, T: Count> Agent<C, T> {
     /// Gives up the lock of this ticket, by its number. `NotHeld` where this agent doesn't hold it. The ticket should
     /// be of this agent's manager: the number of another's means another request here.
     pub fn release<R: Wait>(&mut self, rt: &R, ticket: &mut Ticket<C, T>) -> ReleaseAnswer
-        ensures counted { T.COUNTS ≡ true → T.amount self.new.share ≡ T.amount self.old.share + (if is_released result then 1 else 0) }
+        ensures counted { T.COUNTS ≡ true → T.amount self.new.share
+            ≡ T.amount self.old.share + (if is_released result then 1 else 0) }
         ensures client { self.new.number ≡ self.old.number }
         ensures ticket { ticket.new ≡ ticket.old }
     {
@@ -121,7 +122,9 @@ impl<C: LockCore, T: Count> Agent<C, T> {
         signal: u64,
         reason: Reason,
     ) -> Result<AbortAnswer, Refusal>
-        ensures counted { IfOk result (λ answer. T.COUNTS ≡ true → (takes : ℕ) × (answer ≡ AlreadyAborted → takes ≡ 0) × (T.amount self.new.share ≡ T.amount self.old.share + takes + entries_of_abort answer)) }
+        ensures counted { IfOk result (λ answer. T.COUNTS ≡ true
+            → (takes : ℕ) × (answer ≡ AlreadyAborted → takes ≡ 0)
+            × (T.amount self.new.share ≡ T.amount self.old.share + takes + entries_of_abort answer)) }
         ensures refused { IfErr result (λ refusal. (refusal ≡ NoSuchAgent) ⊎ (refusal ≡ NoSuchSignal)) }
         ensures err { OnErr result (T.COUNTS ≡ true → T.amount self.new.share ≡ T.amount self.old.share) }
         ensures client { self.new.number ≡ self.old.number }

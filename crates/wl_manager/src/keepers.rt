@@ -111,7 +111,8 @@ impl Keepers {
 
     /// Keeps this keeper under this number, and the inbox that its changes go to.
     pub(crate) fn put(&mut self, id: u64, keeper: Keeper, inbox: Arc<Inbox>) -> Result<(), Memory>
-        ensures put { OnOk result ((other : ℕ) → seat_at other self.new ≡ (if other == id then Some keeper else seat_at other self.old)) }
+        ensures put { OnOk result ((other : ℕ) → seat_at other self.new
+            ≡ (if other == id then Some keeper else seat_at other self.old)) }
         ensures err { OnErr result (self.new ≡ self.old) }
     {
         let now = self.now();
@@ -151,7 +152,8 @@ impl Keepers {
     /// Publishes the phase in the cell of this number, if it isn't there, and adds it to its agent's inbox.
     pub(crate) fn publish(&mut self, id: u64, phase: Phase)
         requires { MayPublish (phases_at id self.old) phase }
-        ensures phases { (other : ℕ) → phases_at other self.new ≡ (if other == id then phase ∷ [] else phases_at other self.old) }
+        ensures phases { (other : ℕ) → phases_at other self.new
+            ≡ (if other == id then phase ∷ [] else phases_at other self.old) }
         ensures cells { (other : ℕ) → cells_at other self.new ≡ cells_at other self.old }
     {
         let now = self.now();
@@ -174,7 +176,8 @@ impl Keepers {
     /// Aborts the granted lock of this number, unless its owner took it.
     pub(crate) fn try_abort(&mut self, id: u64, reason: Reason) -> bool
         requires { phases_at id self.old ≡ Granted ∷ [] }
-        ensures phases { (other : ℕ) → phases_at other self.new ≡ (if other == id then (if result then Aborted reason else Taken) ∷ [] else phases_at other self.old) }
+        ensures phases { (other : ℕ) → phases_at other self.new
+            ≡ (if other == id then (if result then Aborted reason else Taken) ∷ [] else phases_at other self.old) }
         ensures cells { (other : ℕ) → cells_at other self.new ≡ cells_at other self.old }
     {
         self.kept.get_mut(&id).unwrap().try_abort(reason)

@@ -49,9 +49,28 @@ impl<C: LockCore, T: Count> Model for Locked<C, T> {
 
     ghost Value = { Inner };
 
-    ghost view = { λ l. record { book = l.book; kept = l.keepers; next = l.next; opened = l.opened; handed = l.handed; total = T.total l.total; parts = T.parts l.share; amount = T.amount l.share } };
+    ghost view = { λ l. record {
+      book = l.book;
+      kept = l.keepers;
+      next = l.next;
+      opened = l.opened;
+      handed = l.handed;
+      total = T.total l.total;
+      parts = T.parts l.share;
+      amount = T.amount l.share;
+    } };
 
-    ghost invariant = { λ l. IsKept T.COUNTS T.KEEPS_ALL T.all (record { book = l.book; kept = l.keepers; next = l.next; opened = l.opened; handed = l.handed; total = T.total l.total; parts = T.parts l.share; amount = T.amount l.share }) };
+    ghost invariant = { λ l. IsKept T.COUNTS T.KEEPS_ALL T.all
+        (record {
+          book = l.book;
+          kept = l.keepers;
+          next = l.next;
+          opened = l.opened;
+          handed = l.handed;
+          total = T.total l.total;
+          parts = T.parts l.share;
+          amount = T.amount l.share;
+        }) };
 }
 
 impl<C: LockCore, T: Count> Locked<C, T> {
@@ -116,11 +135,16 @@ impl<C: LockCore, T: Count> Locked<C, T> {
     /// What an agent sees, after how many entries: no fewer than its share has. Nothing is recorded.
     pub fn query(&mut self, agent: u64, share: &mut T::Share) -> Result<Sight, Refusal>
         ensures total { IfOk result (λ sight. sight.seen ≡ self.old.book.total) }
-        ensures seen { IfOk result (λ sight. step self.old.book.state (Command.Query agent) ≡ record { state = self.old.book.state; reply = Reply.Seen sight.snapshot; changes = [] }) }
+        ensures seen { IfOk result (λ sight. step self.old.book.state (Command.Query agent)
+            ≡ record { state = self.old.book.state; reply = Reply.Seen sight.snapshot; changes = [] }) }
         ensures mine { T.COUNTS ≡ true → T.amount share.old ≤ self.old.book.total }
-        ensures refused { IfErr result (λ r. r ≡ refused_or_memory (refusal self.old.book.state (Command.Query agent))) }
-        ensures same { (self.new.book ≡ self.old.book) × (self.new.kept ≡ self.old.kept) × (self.new.next ≡ self.old.next) × (self.new.opened ≡ self.old.opened) × (self.new.handed ≡ self.old.handed) }
-        ensures share { T.COUNTS ≡ true → (T.amount share.new ≡ T.amount share.old) × (T.parts share.new ≡ T.parts share.old) }
+        ensures refused { IfErr result (λ r. r ≡ refused_or_memory
+            (refusal self.old.book.state (Command.Query agent))) }
+        ensures same { (self.new.book ≡ self.old.book) × (self.new.kept ≡ self.old.kept)
+            × (self.new.next ≡ self.old.next) × (self.new.opened ≡ self.old.opened)
+            × (self.new.handed ≡ self.old.handed) }
+        ensures share { T.COUNTS ≡ true → (T.amount share.new ≡ T.amount share.old)
+            × (T.parts share.new ≡ T.parts share.old) }
     {
         T::audit(&mut self.total, share);
         self.book.sight(agent)

@@ -134,8 +134,8 @@ impl<C: LockCore, T: Count> Manager<C, T> {
         })
     }
 
-    /// Takes the lock. A thread that finds it held spins, and then lets others run for a while before it sleeps: what is
-    /// done under it takes a few microseconds, and to wake takes longer.
+    /// Takes the lock. A thread that finds it held spins, and then lets others run for a while before it sleeps: what
+    /// is done under it takes a few microseconds, and to wake takes longer.
     pub(crate) fn lock<R: Wait>(&self, rt: &R) -> MutexGuard<'_, Locked<C, T>> {
         for _ in 0..LOOKS {
             if let Some(locked) = self.locked.try_lock() {
@@ -170,9 +170,9 @@ impl<C: LockCore, T: Count> Manager<C, T> {
         }
     }
 
-    /// At most so many rows of what is held and what waits, locks first, for whoever watches a server: it is no event of
-    /// the machine, and no agent's. `now` is a time of the clock that the manager was made with; where it has none the
-    /// rows' times mean nothing. It copies the manager's state under its lock.
+    /// At most so many rows of what is held and what waits, locks first, for whoever watches a server: it is no event
+    /// of the machine, and no agent's. `now` is a time of the clock that the manager was made with; where it has none
+    /// the rows' times mean nothing. It copies the manager's state under its lock.
     pub fn list_locks<R: Wait>(&self, rt: &R, most: usize, now: u64) -> Result<LockList, Memory>
         ensures may { IfOk result (MayList most) }
         ensures few { IfOk result (λ list. length list.held.items + length list.pending.items ≤ most) }

@@ -11,8 +11,8 @@ use wl_types::Memory;
 const TRIES: u32 = 64;
 
 /// The numbers of what changed until somebody collects them: of an agent's requests, or of the agents of a loop.
-/// Whoever adds one waits for nobody and takes no memory: its place was reserved before. A number that finds no place is
-/// missed, and then anything may have changed.
+/// Whoever adds one waits for nobody and takes no memory: its place was reserved before. A number that finds no place
+/// is missed, and then anything may have changed.
 #[derive(Drop)]
 pub struct Ring {
     changed: Mutex<Vec<u64>>,
@@ -124,8 +124,8 @@ impl Bell {
         })
     }
 
-    /// From now on the bell adds this place to this ring. What rings meanwhile may go to either or to neither, so whoever
-    /// moves a bell looks afterwards whether the agent has changed requests. Where memory is refused it stays.
+    /// From now on the bell adds this place to this ring. What rings meanwhile may go to either or to neither, so
+    /// whoever moves a bell looks afterwards whether the agent has changed requests. Where memory is refused it stays.
     pub fn move_to<R: Wait>(&self, rt: &R, ring: &Arc<Ring>, place: u64) -> Result<(), Memory> {
         let target = Target::new(ring, place)?;
         let left = mem::replace(&mut *self.target.lock(rt), target);

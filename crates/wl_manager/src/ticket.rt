@@ -50,7 +50,10 @@ impl<C: LockCore, T: Count> Ticket<C, T> {
     pub fn watch(&mut self) -> Result<Watch, Memory>
         ensures same { self.new.owner ≡ self.old.owner }
         ensures number { self.new.number ≡ self.old.number }
-        ensures watch { IfOk result (λ watch. watch ≡ record { cell = self.old.owner.cell; seen = self.old.owner.seen }) }
+        ensures watch { IfOk result (λ watch. watch ≡ record {
+          cell = self.old.owner.cell;
+          seen = self.old.owner.seen;
+        }) }
     {
         self.owner.watch()
     }

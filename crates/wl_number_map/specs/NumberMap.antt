@@ -1,4 +1,5 @@
--- What contracts see of a map by number: its entries in the order of the numbers, which the map itself doesn't keep. (own)
+-- What contracts see of a map by number: its entries in the order of the numbers, which the map itself doesn't keep.
+-- (own)
 use Rattle.std.specs.Prelude.{◌≡◌, ℕ, List, [], ◌∷◌, Option, Some, IsSome, cond, refl, map}
 use Rattle.std.specs.Borrow.{Bor}
 use Rattle.std.specs.Coded.{Coded, code_by, coded×, coded_ℕ, coded_list}
@@ -14,7 +15,8 @@ pub record NumberMap (X : Type 0) : Type 0 where
 -- a map is stored as the list of its entries
 abbrev pub number_map_code : {X : Type 0} → Coded X → Coded (NumberMap X)
 number_map_code {X} code =
-    code_by (List (ℕ × X)) (coded_list (coded× coded_ℕ code)) (λ m. m.entries) (λ es. record { entries = es }) (λ _. refl)
+    code_by (List (ℕ × X)) (coded_list (coded× coded_ℕ code)) (λ m. m.entries) (λ es. record { entries = es })
+    (λ _. refl)
 
 -- entries with distinct numbers, put in order
 abbrev pub in_order : {X : Type 0} → List (ℕ × X) → List (ℕ × X)
@@ -41,4 +43,5 @@ module _ {X : Type 0} where
   -- n is m with another value at a number, if it has that number
   abbrev pub WritesThrough : ℕ → NumberMap X → X → NumberMap X → Type 0
   WritesThrough number m value n =
-      (n.entries ≡ set_value (is_at (nat_cmp number)) m.entries value) × (IsSome (found number m) → IsWritten number (Some value) m n) × IsOrdered n
+      (n.entries ≡ set_value (is_at (nat_cmp number)) m.entries value)
+      × (IsSome (found number m) → IsWritten number (Some value) m n) × IsOrdered n

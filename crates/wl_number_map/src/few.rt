@@ -1,5 +1,6 @@
 //! A few values with their numbers, found one after another.
-ghost use Rattle.std.specs.Prelude.{◌≡◌, ℕ, ◌+◌, ◌<◌, ◌≤◌, ◌==◌, ◌++◌, [], length, true, IfOk, IfSome, IfNone, OnOk, OnErr, Some, None};
+ghost use Rattle.std.specs.Prelude.{◌≡◌, ℕ, ◌+◌, ◌<◌, ◌≤◌, ◌==◌, ◌++◌, [], length, true, IfOk, IfSome, IfNone, OnOk};
+ghost use Rattle.std.specs.Prelude.{OnErr, Some, None};
 ghost use Rattle.indexmap.specs.IndexMap.{spare};
 ghost use Rattle.std.specs.Borrow.{sem};
 ghost use Rattle.std.specs.List.{IsDistinct};
@@ -17,8 +18,8 @@ use std::marker::Model;
 /// How many there are at most: so few that to look at each number costs no more than a hash.
 const LIMIT: usize = 4;
 
-/// Values with distinct numbers, at most `LIMIT` of them, in one block of memory. Most of a service's maps have a single
-/// value (an agent of an origin, its one request), for which a hash map would make room for nine.
+/// Values with distinct numbers, at most `LIMIT` of them, in one block of memory. Most of a service's maps have a
+/// single value (an agent of an origin, its one request), for which a hash map would make room for nine.
 #[derive(Drop)]
 pub(crate) struct Few<V> {
     rows: Vec<(u64, V)>,

@@ -1,5 +1,6 @@
 -- Names of storage buckets: Storage, "storage bucket". Which texts are names, and their order, is (own).
-use Rattle.std.specs.Prelude.{◌≡◌, ℕ, List, [], ◌∷◌, Bool, true, false, not, ◌&&◌, ◌||◌, ◌==◌, nat_le, Option, Some, None, bytes_eq, codes, length, if◌then◌else◌}
+use Rattle.std.specs.Prelude.{◌≡◌, ℕ, List, [], ◌∷◌, Bool, true, false, not, ◌&&◌, ◌||◌, ◌==◌, nat_le, Option, Some}
+use Rattle.std.specs.Prelude.{None, bytes_eq, codes, length, if◌then◌else◌}
 use Rattle.std.specs.Char.{is_ascii_digit, is_ascii_lowercase}
 use Rattle.std.specs.Cmp.{IsTotalOrder}
 use Rattle.std.specs.Cmp.Lexicographic.{slice_cmp}
@@ -29,7 +30,8 @@ begins_with_mark (first ∷ rest) = is_mark first
 
 -- whether the text is a name: 1 to 64 such bytes, the first neither `-` nor `_`
 abbrev pub is_bucket : List ℕ → Bool
-is_bucket text = nat_le 1 (length text) && nat_le (length text) 64 && not (begins_with_mark text) && list_all is_bucket_byte text
+is_bucket text = nat_le 1 (length text) && nat_le (length text) 64 && not (begins_with_mark text)
+    && list_all is_bucket_byte text
 
 -- the name that a text is, if it is one
 abbrev pub bucket_in : List ℕ → Option (List ℕ)

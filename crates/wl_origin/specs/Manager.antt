@@ -1,5 +1,5 @@
--- Keys of lock managers: Web Locks, "lock manager", of which each storage bucket has one; Storage, "storage bucket", of which
--- an origin has one for each bucket name.
+-- Keys of lock managers: Web Locks, "lock manager", of which each storage bucket has one; Storage, "storage bucket", of
+-- which an origin has one for each bucket name.
 use Rattle.std.specs.Prelude.{◌≡◌, List, ℕ, true, ◌++◌}
 use Rattle.std.specs.Cmp.{IsTotalOrder}
 use Rattle.std.specs.Hash as fed

@@ -2,7 +2,8 @@
 
 ghost use Rattle.std.specs.Prelude.{◌≡◌, true, IfOk, IfErr, OnOk};
 ghost use Rattle.std.specs.List.{list_all};
-ghost use Rattle.wl_origin.specs.Bucket.{begins_with_mark, bucket_fault, bucket_in, is_bucket, is_bucket_byte, is_default, is_mark};
+ghost use Rattle.wl_origin.specs.Bucket.{begins_with_mark, bucket_fault, bucket_in, is_bucket, is_bucket_byte};
+ghost use Rattle.wl_origin.specs.Bucket.{is_default, is_mark};
 
 use std::alloc::Global;
 use std::cmp::Ordering;

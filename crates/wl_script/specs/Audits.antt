@@ -1,6 +1,7 @@
--- What an audit writes (own): a line for each manager whose journal has an entry. Below, "origin" stands for the bucket of an
--- origin that it is the manager of.
-use Rattle.std.specs.Prelude.{ℕ, ◌+◌, ◌≡◌, ◌==◌, ◌≤◌, ◌<◌, ◌++◌, ◌∷◌, ◌⊎◌, [], List, Bool, true, not, codes, filter, length, take, All, Option, Some, if◌then◌else◌}
+-- What an audit writes (own): a line for each manager whose journal has an entry. Below, "origin" stands for the bucket
+-- of an origin that it is the manager of.
+use Rattle.std.specs.Prelude.{ℕ, ◌+◌, ◌≡◌, ◌==◌, ◌≤◌, ◌<◌, ◌++◌, ◌∷◌, ◌⊎◌, [], List, Bool, true, not, codes, filter}
+use Rattle.std.specs.Prelude.{length, take, All, Option, Some, if◌then◌else◌}
 use Rattle.std.specs.List.{flat_map}
 use Rattle.std.specs.Option.{unwrap_or}
 use Rattle.std.specs.Io.KnownBytes.{Appends, Keeps}
@@ -32,12 +33,14 @@ with_entries cores = filter (λ origin. not (entries_of origin.1 == 0)) cores
 -- what every line has
 abbrev pub audit_members : ℕ → Bool → List ℕ → Members
 audit_members entries legal origin =
-    member (codes "entries") (number (unsigned entries)) (member (codes "legal") (boolean legal) (member (codes "origin") (string origin) no_members))
+    member (codes "entries") (number (unsigned entries)) (member (codes "legal") (boolean legal)
+    (member (codes "origin") (string origin) no_members))
 
 -- a line begins with its bucket, where that isn't the default one
 abbrev pub audit_value : List ℕ → ℕ → Bool → List ℕ → Data
 audit_value bucket entries legal origin =
-    object (if is_default bucket then audit_members entries legal origin else member (codes "bucket") (string bucket) (audit_members entries legal origin))
+    object (if is_default bucket then audit_members entries legal origin
+    else member (codes "bucket") (string bucket) (audit_members entries legal origin))
 
 -- an origin's line: its journal is legal
 abbrev pub audit_line : ManagerKey → ℕ → List ℕ
@@ -86,14 +89,15 @@ DoneFirst limit lines n = (n ≤ length lines) × All (λ line. length line ≤ 
 
 -- What a fault leaves. Before the end of the script nothing is written.
 abbrev pub LeavesAudit : ℕ → List (List ℕ) → ScriptFault → Option (List ℕ) → Option (List ℕ) → Type 0
-LeavesAudit limit lines (Memory n) old new = (DoneFirst limit lines n × Keeps old new) ⊎ ((n ≡ length lines) × OfWorld (after recording lines) (λ cores. WritesFirst cores old new))
+LeavesAudit limit lines (Memory n) old new = (DoneFirst limit lines n × Keeps old new)
+    ⊎ ((n ≡ length lines) × OfWorld (after recording lines) (λ cores. WritesFirst cores old new))
 LeavesAudit limit lines (Write n) old new = OfWorld (after recording lines) (λ cores. WritesWithin cores n old new)
 LeavesAudit limit lines (Read n) old new = DoneFirst limit lines n × Keeps old new
 LeavesAudit limit lines (TooManyTurns n) old new = DoneFirst limit lines n × Keeps old new
 LeavesAudit limit lines (LineTooLong n) old new = DoneFirst limit lines n × Keeps old new × IsTooLong limit lines n
 
--- A fault's number is that of the lines that were done: of those that were read all but some of the last read, as in a run; or
--- all of the script, where memory was refused behind its end. `Write` counts origins
+-- A fault's number is that of the lines that were done: of those that were read all but some of the last read, as in a
+-- run; or all of the script, where memory was refused behind its end. `Write` counts origins
 abbrev pub CountsDone : List (List ℕ) → ScriptFault → Option (List ℕ) → Option (List ℕ) → Type 0
 CountsDone lines (Memory n) old new = (n ≡ length lines) ⊎ AnswersAtOnce (Memory n) old new
 CountsDone lines (Write n) old new = Unit {0}

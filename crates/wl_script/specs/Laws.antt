@@ -25,17 +25,19 @@ ScriptsMayBeCut = (world : World) (front rest : List ℕ) → transcript world (
 abbrev pub TranscriptsAreReplies : Type 0
 TranscriptsAreReplies = (world : World) (all : List (List ℕ)) → transcript world all ≡ with_lfs (replies world all)
 
--- of the lines that were written those that stand where a script has the lines of a bucket of an origin: line n is the reply to line n
+-- of the lines that were written those that stand where a script has the lines of a bucket of an origin: line n is the
+-- reply to line n
 abbrev pub written_to : ManagerKey → World → List (List ℕ) → List (List ℕ) → List (List ℕ)
 written_to k world [] written = []
 written_to k world (line ∷ script) [] = []
-written_to k world (line ∷ script) (reply ∷ written) = if is_of k world line then reply ∷ written_to k (next world line) script written else written_to k (next world line) script written
+written_to k world (line ∷ script) (reply ∷ written) = if is_of k world line
+    then reply ∷ written_to k (next world line) script written else written_to k (next world line) script written
 
 abbrev pub replies_among : ManagerKey → List ℕ → List ℕ → List (List ℕ)
 replies_among k script written = written_to k opening (lines script) (lines written)
 
--- Two runs over inputs that have the same lines of a bucket of an origin wrote the same replies to them, whatever the other lines of
--- the inputs are
+-- Two runs over inputs that have the same lines of a bucket of an origin wrote the same replies to them, whatever the
+-- other lines of the inputs are
 abbrev pub RunsAreIsolated : Type 0
 RunsAreIsolated = (k : ManagerKey) (one other one_written other_written : List ℕ)
     → one_written ≡ transcript opening (lines one) → other_written ≡ transcript opening (lines other)

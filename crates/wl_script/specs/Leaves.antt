@@ -14,12 +14,14 @@ pub record Answered (limit : ℕ) (world : World) (lines : List (List ℕ)) (old
   pub written : Appends old new (transcript world lines)
 
 -- the first n of the lines were answered
-pub record AnsweredFirst (limit : ℕ) (world : World) (lines : List (List ℕ)) (n : ℕ) (old new : Option (List ℕ)) : Type 0 where
+pub record AnsweredFirst (limit : ℕ) (world : World) (lines : List (List ℕ)) (n : ℕ) (old new : Option (List ℕ)) : Type
+    0 where
   pub few : n ≤ length lines
   pub answered : Answered limit world (take n lines) old new
 
 -- the first n of the lines were answered, and then a part of the reply line to the next was written, but not all of it
-pub record AnsweredWithin (limit : ℕ) (world : World) (lines : List (List ℕ)) (n : ℕ) (old new : Option (List ℕ)) : Type 0 where
+pub record AnsweredWithin (limit : ℕ) (world : World) (lines : List (List ℕ)) (n : ℕ) (old new : Option (List ℕ)) : Type
+    0 where
   pub line : List ℕ
   pub is_next : slice_get lines n ≡ Some line
   pub short : length line ≤ limit
@@ -42,11 +44,12 @@ Leaves limit world lines (TooManyTurns n) old new = AnsweredFirst limit world li
 Leaves limit world lines (LineTooLong n) old new = AnsweredFirst limit world lines n old new × IsTooLong limit lines n
 Leaves limit world lines (Write n) old new = AnsweredWithin limit world lines n old new
 
--- Every line that was read was answered, but for those that ended in the last read, and no other line was. Between reads there
--- are none of these, so that just those were answered that were read
+-- Every line that was read was answered, but for those that ended in the last read, and no other line was. Between
+-- reads there are none of these, so that just those were answered that were read
 abbrev pub AnswersAtOnce : ScriptFault → Option (List ℕ) → Option (List ℕ) → Type 0
 AnswersAtOnce fault old new = (earlier last : List ℕ) × Consumes old new (earlier ++ last)
-    × (line_feeds earlier ≤ answered fault) × (answered fault ≤ line_feeds (earlier ++ last)) × (length last ≤ unanswered_bytes fault)
+    × (line_feeds earlier ≤ answered fault) × (answered fault ≤ line_feeds (earlier ++ last))
+    × (length last ≤ unanswered_bytes fault)
 
 -- each of n reads gave a byte
 abbrev pub GaveBytes : Option (List ℕ) → Option (List ℕ) → ℕ → Type 0

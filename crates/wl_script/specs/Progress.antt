@@ -55,13 +55,14 @@ Stops limit now back (Read n) new = ⊥
 Stops limit now back (TooManyTurns n) new = ⊥
 
 -- the run ended within these bytes
-pub record Breaks (limit : ℕ) (old : Moment) (bytes : List ℕ) (fault : ScriptFault) (new : Option (List ℕ)) : Type 0 where
-  pub front : List ℕ
-  pub back : List ℕ
-  pub split : bytes ≡ front ++ back
-  pub now : Moment
-  pub fed : Fed limit old front now
-  pub stops : Stops limit now back fault new
+pub record Breaks (limit : ℕ) (old : Moment) (bytes : List ℕ) (fault : ScriptFault) (new : Option (List ℕ)) : Type 0
+  where
+    pub front : List ℕ
+    pub back : List ℕ
+    pub split : bytes ≡ front ++ back
+    pub now : Moment
+    pub fed : Fed limit old front now
+    pub stops : Stops limit now back fault new
 
 -- the beginning of a line wasn't kept
 abbrev pub IsNotKept : ℕ → ℕ → List ℕ → ScriptFault → Type 0

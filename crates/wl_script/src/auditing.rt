@@ -1,10 +1,12 @@
 //! Audits a script: runs it over books, and says for each manager whether its journal is legal.
 
-ghost use Rattle.std.specs.Prelude.{◌≡◌, ◌+◌, ◌<◌, ◌≤◌, ◌^◌, true, None, All, codes, length, IfOk, IfErr, IfSome, string_bytes};
+ghost use Rattle.std.specs.Prelude.{◌≡◌, ◌+◌, ◌<◌, ◌≤◌, ◌^◌, true, None, All, codes, length, IfOk, IfErr, IfSome};
+ghost use Rattle.std.specs.Prelude.{string_bytes};
 ghost use Rattle.serde_json.specs.Data.{member, object, string};
 ghost use Rattle.serde_json.specs.View.{view};
 ghost use Rattle.wl_origin.specs.Origin.{tuple_text};
-ghost use Rattle.wl_script.specs.Audits.{Audited, CountsDone, LeavesAudit, WritesOrigins, audit_line, audit_members, audit_value, recording};
+ghost use Rattle.wl_script.specs.Audits.{Audited, CountsDone, LeavesAudit, WritesOrigins, audit_line, audit_members};
+ghost use Rattle.wl_script.specs.Audits.{audit_value, recording};
 ghost use Rattle.wl_script.specs.inner.Audits.{LeavesOrigins, IsUnwritten, WritesNext, cores_of, core_of};
 ghost use Rattle.wl_script.specs.Faults.{is_read, is_write, IsTooManyTurns};
 ghost use Rattle.wl_script.specs.Leaves.{GaveBytes};
@@ -70,7 +72,8 @@ fn value_of_bucket(
     origin: String,
 ) -> Result<Value, Memory>
     ensures { IfOk result (λ value. view value
-        ≡ object (member (codes "bucket") (string (string_bytes bucket)) (audit_members entries legal (string_bytes origin)))) }
+        ≡ object (member (codes "bucket") (string (string_bytes bucket))
+        (audit_members entries legal (string_bytes origin)))) }
 {
     Ok(json!(in alloc; {"bucket": bucket, "entries": entries, "legal": legal, "origin": origin})?)
 }
@@ -110,7 +113,8 @@ fn write_origin<W: Output>(
     written: u64,
 ) -> Result<u64, ScriptFault>
     requires { written + 1 < 2 ^ 64 }
-    ensures ok { IfOk result (λ n. WritesNext written (key.now, core_of book.now) n (W.held writer.old) (W.held writer.new)) }
+    ensures ok { IfOk result (λ n. WritesNext written (key.now, core_of book.now) n (W.held writer.old)
+        (W.held writer.new)) }
     ensures err { IfErr result (λ fault.
         IsUnwritten lines written (key.now, core_of book.now) (W.held writer.old) fault (W.held writer.new)) }
     ensures counted { Counts (W.failures writer.old) (W.failures writer.new) (is_write result) }

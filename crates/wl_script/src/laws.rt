@@ -1,6 +1,7 @@
 //! Laws of scripts. Each is the contract of a function without a body.
 
-ghost use Rattle.wl_script.specs.Laws.{LinesAreAnsweredInTurn, RunsAreIsolated, ScriptsAreLines, ScriptsMayBeCut, TranscriptsAreReplies};
+ghost use Rattle.wl_script.specs.Laws.{LinesAreAnsweredInTurn, RunsAreIsolated, ScriptsAreLines, ScriptsMayBeCut};
+ghost use Rattle.wl_script.specs.Laws.{TranscriptsAreReplies};
 
 /// A script is its lines, each with its LF, and then a last one without LF, if that has a byte.
 pub fn scripts_are_lines()

@@ -128,7 +128,8 @@ pub fn run_lines<A: Answerer, R: Input, W: Output>(
     run_reads(alloc, answerer, reader, writer, limits, &mut buf)
 }
 
-/// Runs a script from the opening world, within these limits. `Memory` comes too where the system gives no random words.
+/// Runs a script from the opening world, within these limits. `Memory` comes too where the system gives no random
+/// words.
 pub fn run_with<S: RandomSource + AllocGlobal, R: Input, W: Output>(
     rt: &S,
     reader: &mut R,

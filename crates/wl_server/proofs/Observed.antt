@@ -1,5 +1,6 @@
 -- Looks at the requests of a map, one after another.
-use Rattle.std.proofs.Common.{◌≡◌, ◌≢◌, ◌∙◌, All, Contains, ap₂, arith, get_or, length, ℕ, zero, suc, ◌+◌, ◌<◌, ◌≤◌, List, [], ◌∷◌, ◌++◌, sym, Less}
+use Rattle.std.proofs.Common.{◌≡◌, ◌≢◌, ◌∙◌, All, Contains, ap₂, arith, get_or, length, ℕ, zero, suc, ◌+◌, ◌<◌, ◌≤◌}
+use Rattle.std.proofs.Common.{List, [], ◌∷◌, ◌++◌, sym, Less}
 use Rattle.std.specs.Cmp.{ranked}
 use Rattle.std.specs.List.{AllByRecursion}
 use Rattle.std.specs.List.Sorted.{IsStrictlySortedBy}
@@ -29,25 +30,39 @@ below_higher : (ls : List RequestPhase) (low high : ℕ) → low ≤ high → Ar
 below_higher [] low high le h = tt
 below_higher (l ∷ ls) low high le h = (omega (arith, h.0, le), below_higher ls low high le h.1)
 
-below_more : (ls : List RequestPhase) (x : RequestPhase) (top : ℕ) → AreBelow top ls → x.0 < top → AreBelow top (ls ++ x ∷ [])
+below_more : (ls : List RequestPhase) (x : RequestPhase) (top : ℕ) → AreBelow top ls → x.0 < top
+    → AreBelow top (ls ++ x ∷ [])
 below_more [] x top h lt = (lt, tt)
 below_more (l ∷ ls) x top h lt = (h.0, below_more ls x top h.1 lt)
 
-from_more : (ls : List RequestPhase) (x : RequestPhase) (low : ℕ) → IsFrom low ls → AreBelow x.0 ls → low ≤ x.0 → IsFrom low (ls ++ x ∷ [])
+from_more : (ls : List RequestPhase) (x : RequestPhase) (low : ℕ) → IsFrom low ls → AreBelow x.0 ls → low ≤ x.0
+    → IsFrom low (ls ++ x ∷ [])
 from_more [] x low h below le = (le, tt)
 from_more (l ∷ ls) x low h below le = (h.0, from_more ls x (l.0 + 1) h.1 below.1 (omega (arith, below.0)))
 
 -- an entry is passed over
-pub passed : {X : Type 0} (observed : List RequestPhase) (e : ℕ × X) (rest : List (ℕ × X)) → AreToCome observed (e ∷ rest) → AreToCome observed rest
-passed observed e rest (low, below, rises) = (e.0 + 1, below_higher observed low (e.0 + 1) (omega (arith, rises.0)) below, rises.1)
+pub passed : {X : Type 0} (observed : List RequestPhase) (e : ℕ × X) (rest : List (ℕ × X))
+    → AreToCome observed (e ∷ rest) → AreToCome observed rest
+passed observed e rest (low, below, rises) = (
+  e.0 + 1,
+  below_higher observed low (e.0 + 1) (omega (arith, rises.0))
+      below,
+  rises.1,
+)
 
 -- an entry is looked at
-pub observed_more : {X : Type 0} (observed : List RequestPhase) (p : Phase) (e : ℕ × X) (rest : List (ℕ × X)) → IsByNumber observed → AreToCome observed (e ∷ rest)
+pub observed_more : {X : Type 0} (observed : List RequestPhase) (p : Phase) (e : ℕ × X) (rest : List (ℕ × X))
+    → IsByNumber observed → AreToCome observed (e ∷ rest)
     → IsByNumber (observed ++ (e.0, p) ∷ []) × AreToCome (observed ++ (e.0, p) ∷ []) rest
 observed_more observed p e rest by_number (low, below, rises) =
     let under : AreBelow e.0 observed = below_higher observed low e.0 rises.0 below in (
       from_more observed (e.0, p) 0 by_number under (omega arith),
-      (e.0 + 1, below_more observed (e.0, p) (e.0 + 1) (below_higher observed e.0 (e.0 + 1) (omega arith) under) (omega arith), rises.1),
+      (
+        e.0 + 1,
+        below_more observed (e.0, p) (e.0 + 1) (below_higher observed e.0 (e.0 + 1) (omega arith) under)
+            (omega arith),
+        rises.1,
+      ),
     )
 
 above : (k : ℕ) (ks : List ℕ) → AllByRecursion (λ y. nat_cmp k y ≡ Less) ks → AllByRecursion (λ y. k + 1 ≤ y) ks
@@ -58,7 +73,8 @@ any : (ks : List ℕ) → AllByRecursion (λ y. 0 ≤ y) ks
 any [] = tt
 any (y ∷ ks) = (omega arith, any ks)
 
-rises_from : {X : Type 0} (es : List (ℕ × X)) (low : ℕ) → AllByRecursion (λ y. low ≤ y) (keys_of es) → IsStrictlySortedBy nat_cmp (keys_of es) → Rises low es
+rises_from : {X : Type 0} (es : List (ℕ × X)) (low : ℕ) → AllByRecursion (λ y. low ≤ y) (keys_of es)
+    → IsStrictlySortedBy nat_cmp (keys_of es) → Rises low es
 unfolding IsStrictlySortedBy
 rises_from [] low h sorted = tt
 rises_from (e ∷ es) low h sorted = (h.0, rises_from es (e.0 + 1) (above e.0 (keys_of es) sorted.0) sorted.1)
@@ -68,29 +84,38 @@ pub at_first : {X : Type 0} (es : List (ℕ × X)) → IsStrictlySortedBy nat_cm
 at_first es sorted = (0, tt, rises_from es 0 (any (keys_of es)) sorted)
 
 -- an observation of a number that none has yet, and none above it
-pub one_more : (observed : List RequestPhase) (least number : ℕ) (p : Phase) → IsByNumber observed → AreBelow least observed → least ≤ number
+pub one_more : (observed : List RequestPhase) (least number : ℕ) (p : Phase) → IsByNumber observed
+    → AreBelow least observed → least ≤ number
     → IsByNumber (observed ++ (number, p) ∷ []) × AreBelow (number + 1) (observed ++ (number, p) ∷ [])
 one_more observed least number p by_number below le =
     let under : AreBelow number observed = below_higher observed least number le below in (
       from_more observed (number, p) 0 by_number under (omega arith),
-      below_more observed (number, p) (number + 1) (below_higher observed number (number + 1) (omega arith) under) (omega arith),
+      below_more observed (number, p) (number + 1) (below_higher observed number (number + 1) (omega arith) under)
+          (omega arith),
     )
 
-pub none_more : (observed : List RequestPhase) (least number : ℕ) → AreBelow least observed → least ≤ number → AreBelow (number + 1) observed
+pub none_more : (observed : List RequestPhase) (least number : ℕ) → AreBelow least observed → least ≤ number
+    → AreBelow (number + 1) observed
 none_more observed least number below le = below_higher observed least (number + 1) (omega (arith, le)) below
 
 -- and one that was taken, where it was granted
-pub taken_more : (observed : List RequestPhase) (number : ℕ) (p : Phase) → All (λ observation. observation.1 ≢ Granted) observed → p ≢ Granted → All (λ observation. observation.1 ≢ Granted) (observed ++ (number, p) ∷ [])
-taken_more observed number p all is = All-append (λ (observation : RequestPhase). observation.1 ≢ Granted) observed ((number, p) ∷ []) all last
+pub taken_more : (observed : List RequestPhase) (number : ℕ) (p : Phase)
+    → All (λ observation. observation.1 ≢ Granted) observed → p ≢ Granted
+    → All (λ observation. observation.1 ≢ Granted) (observed ++ (number, p) ∷ [])
+taken_more observed number p all is = All-append (λ (observation : RequestPhase). observation.1 ≢ Granted) observed
+    ((number, p) ∷ []) all last
   where
     last : All (λ (observation : RequestPhase). observation.1 ≢ Granted) ((number, p) ∷ [])
     last zero d within = is
     last (suc k) d within = absurd (omega (arith, within))
 
 -- one more fence, of an observation that found a lock taken
-pub fenced_more : (observed : List RequestPhase) (fences : List Fence) (i : ℕ) (d : RequestPhase) (f : Fence) → All (λ fence. Contains observed (fence.request, Taken)) fences
-    → i < length observed → f.request ≡ (get_or observed i d).0 → (get_or observed i d).1 ≡ Taken → All (λ fence. Contains observed (fence.request, Taken)) (fences ++ f ∷ [])
-fenced_more observed fences i d f all lt number taken = All-push (λ (fence : Fence). Contains observed (fence.request, Taken)) fences f all (i, lt, at)
+pub fenced_more : (observed : List RequestPhase) (fences : List Fence) (i : ℕ) (d : RequestPhase) (f : Fence)
+    → All (λ fence. Contains observed (fence.request, Taken)) fences
+    → i < length observed → f.request ≡ (get_or observed i d).0 → (get_or observed i d).1 ≡ Taken
+    → All (λ fence. Contains observed (fence.request, Taken)) (fences ++ f ∷ [])
+fenced_more observed fences i d f all lt number taken = All-push
+    (λ (fence : Fence). Contains observed (fence.request, Taken)) fences f all (i, lt, at)
   where
     at : get_or observed i (f.request, Taken) ≡ (f.request, Taken)
     at = get_or_default observed i (f.request, Taken) d lt ∙ ap₂ (λ n p. (n, p)) (sym number) taken

@@ -1,8 +1,10 @@
 -- Exchanges in a row, and how many there are.
-use Rattle.std.proofs.Common.{◌≡◌, subst, refl, arith, ℕ, ◌+◌, ◌-◌, ◌^◌, List, [], ◌∷◌, ◌++◌, length, min, length-append}
+use Rattle.std.proofs.Common.{◌≡◌, subst, refl, arith, ℕ, ◌+◌, ◌-◌, ◌^◌, List, [], ◌∷◌, ◌++◌, length, min}
+use Rattle.std.proofs.Common.{length-append}
 use Rattle.wl_server.specs.Talks.{Exchange, Exchanges, Exchanged}
 
-module _ {L P : Type 0} (hears : L → List ℕ → L → Type 0) (says : L → List ℕ → L → Type 0) (answers : P → List ℕ → List ℕ → P → Type 0) where
+module _ {L P : Type 0} (hears : L → List ℕ → L → Type 0) (says : L → List ℕ → L → Type 0)
+    (answers : P → List ℕ → List ℕ → P → Type 0) where
   -- one exchange more
   pub one_more : (es : List Exchange) (e : Exchange) (old mid new : L × P)
       → Exchanged hears says answers old es mid → Exchanges hears says answers mid e new

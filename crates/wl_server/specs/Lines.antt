@@ -1,4 +1,5 @@
--- The lines of a reader, as far as its bytes are known (own). Each ends with LF, byte 10; what stands after the last LF is a line if it has a byte.
+-- The lines of a reader, as far as its bytes are known (own). Each ends with LF, byte 10; what stands after the last LF
+-- is a line if it has a byte.
 use Rattle.std.specs.Prelude.{◌≡◌, ◌⊎◌, ◌<◌, ◌==◌, ℕ, List, [], ◌∷◌, ◌++◌, Bool, false, All, length, Option}
 use Rattle.std.specs.Io.KnownBytes.{Consumes, IsAtEnd, prepend_known}
 use Rattle.wl_server.specs.declared.lines.Lines.{Lines}
@@ -12,11 +13,13 @@ HasNoLf bytes = All (λ byte. is_lf byte ≡ false) bytes
 
 -- the bytes that were left begin with this line, and lose it
 abbrev pub GivesLine : Option (List ℕ) → List ℕ → Option (List ℕ) → Type 0
-GivesLine old line new = HasNoLf line × (Consumes old new (line ++ 10 ∷ []) ⊎ (Consumes old new line × (0 < length line) × IsAtEnd new))
+GivesLine old line new = HasNoLf line × (Consumes old new (line ++ 10 ∷ [])
+    ⊎ (Consumes old new line × (0 < length line) × IsAtEnd new))
 
 -- the bytes that are left begin with so many of one line, and more
 abbrev pub GivesTooLong : Option (List ℕ) → ℕ → Type 0
-GivesTooLong old limit = (start : List ℕ) × (left : Option (List ℕ)) × HasNoLf start × (limit < length start) × Consumes old left start
+GivesTooLong old limit = (start : List ℕ) × (left : Option (List ℕ)) × HasNoLf start × (limit < length start)
+    × Consumes old left start
 
 -- these bytes of a line that had begun were given, and then those behind it
 pub record GivesPart (old : Option (List ℕ)) (begun line behind : List ℕ) (new : Option (List ℕ)) : Type 0 where

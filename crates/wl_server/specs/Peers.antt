@@ -39,8 +39,8 @@ IsOutcome (Act b) o = IsOutcomeOf b o
 abbrev pub plan_of : State → List ℕ → Plan
 plan_of s message = plan_for s.is_open (message_reading message)
 
--- The text is the session's reply to the message, by its id, an outcome of its own, and what was found of the requests, which fits
--- what they were told of: grants were taken first.
+-- The text is the session's reply to the message, by its id, an outcome of its own, and what was found of the requests,
+-- which fits what they were told of: grants were taken first.
 pub record Answers (old : State) (message text : List ℕ) (new : State) : Type 0 where
   pub outcome : Outcome
   pub observed : List RequestPhase
@@ -51,8 +51,8 @@ pub record Answers (old : State) (message text : List ℕ) (new : State) : Type 
   pub text_is : text ≡ reply_text (reply old (plan_of old message).id outcome observed)
   pub left : new ≡ after old outcome observed
 
--- The text is the reply to a poll that nobody sent, without an id, and of what was found of the requests, which fits what they were
--- told of, something is due a notice: grants were taken first.
+-- The text is the reply to a poll that nobody sent, without an id, and of what was found of the requests, which fits
+-- what they were told of, something is due a notice: grants were taken first.
 pub record PushesText (old : State) (text : List ℕ) (new : State) : Type 0 where
   pub observed : List RequestPhase
   pub by_number : IsByNumber observed

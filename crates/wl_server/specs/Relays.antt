@@ -26,8 +26,10 @@ module _ {A : Type 0} (asks : A → List ℕ → List ℕ → A → Type 0) wher
   Stops n last Handshake held = ⊥
   Stops n last (Read m) held = (m ≡ n) × Keeps last.0.1 held
   Stops n last (LineTooLong m) held = (m ≡ n) × GivesTooLong last.0.0 65536 × Keeps last.0.1 held
-  Stops n last (Ended m) held = (m ≡ n) × ((line : List ℕ) × (came : Ports) × Takes last.0 line came) × Keeps last.0.1 held
-  Stops n last (Write m) held = (m ≡ n) × ((line reply part more : List ℕ) × (came : Ports) × (asked : A) × Takes last.0 line came
+  Stops n last (Ended m) held = (m ≡ n) × ((line : List ℕ) × (came : Ports) × Takes last.0 line came)
+      × Keeps last.0.1 held
+  Stops n last (Write m) held = (m ≡ n) × ((line reply part more : List ℕ) × (came : Ports) × (asked : A)
+      × Takes last.0 line came
       × asks last.1 line reply asked × (reply ++ 10 ∷ [] ≡ part ++ more) × Appends last.0.1 held part)
   Stops n last Memory held = Keeps last.0.1 held
 
@@ -37,13 +39,16 @@ module _ {A : Type 0} (asks : A → List ℕ → List ℕ → A → Type 0) wher
   Finishes n last (Err fault) held = Stops n last fault held
 
   -- The lines were asked in turn, and each reply was written before the next line was taken; then relaying ended.
-  pub record Relayed (given held : Option (List ℕ)) (asker : A) (result : Result ℕ RelayFault) (new : Option (List ℕ)) : Type 0 where
+  pub record Relayed (given held : Option (List ℕ)) (asker : A) (result : Result ℕ RelayFault)
+      (new : Option (List ℕ)) : Type 0 where
     pub exchanges : List Exchange
     pub last : Ports × A
     pub exchanged : Exchanged Takes Puts asks ((given, held), asker) exchanges last
     pub finishes : Finishes (min (length exchanges) (2 ^ 64 - 1)) last result new
 
 -- A connection was taken up, and lines were relayed over it; or it wasn't, and nothing was written.
-abbrev pub RelaysOver : {S : Type 0} → (S → Option (List ℕ)) → (S → Option (List ℕ)) → Option (List ℕ) → Option (List ℕ) → Result ℕ RelayFault → Option (List ℕ) → Type 0
-RelaysOver {S} remaining contents given held result new = ((start : Socket S) × Relayed (Asks remaining contents) given held start result new)
+abbrev pub RelaysOver : {S : Type 0} → (S → Option (List ℕ)) → (S → Option (List ℕ)) → Option (List ℕ) → Option (List ℕ)
+    → Result ℕ RelayFault → Option (List ℕ) → Type 0
+RelaysOver {S} remaining contents given held result new = ((start : Socket S)
+    × Relayed (Asks remaining contents) given held start result new)
     ⊎ (((result ≡ Err Handshake) ⊎ (result ≡ Err Memory)) × Keeps held new)

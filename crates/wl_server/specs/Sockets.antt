@@ -28,5 +28,6 @@ module _ {S : Type 0} (contents : S → Option (List ℕ)) where
 module _ {S : Type 0} (remaining contents : S → Option (List ℕ)) where
   -- a line left as a text, or as bytes, and this text came back
   abbrev pub Asks : Socket S → List ℕ → List ℕ → Socket S → Type 0
-  Asks old line reply new = (asked : Socket S) × (Sends contents old (text line) asked ⊎ Sends contents old (binary line) asked)
+  Asks old line reply new = (asked : Socket S) × (Sends contents old (text line) asked
+      ⊎ Sends contents old (binary line) asked)
       × Receives remaining asked (text reply) new

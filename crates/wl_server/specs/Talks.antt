@@ -16,7 +16,8 @@ data_bytes (Binary bytes) = bytes
 abbrev pub Exchange : Type 0
 Exchange = List ℕ × List ℕ
 
-module _ {L P : Type 0} (hears : L → List ℕ → L → Type 0) (says : L → List ℕ → L → Type 0) (answers : P → List ℕ → List ℕ → P → Type 0) where
+module _ {L P : Type 0} (hears : L → List ℕ → L → Type 0) (says : L → List ℕ → L → Type 0)
+    (answers : P → List ℕ → List ℕ → P → Type 0) where
   -- a message came, was answered, and its reply was sent
   abbrev pub Exchanges : L × P → Exchange → L × P → Type 0
   Exchanges old e new = (came : L) × hears old.0 e.0 came × answers old.1 e.0 e.1 new.1 × says came e.1 new.0
@@ -26,20 +27,23 @@ module _ {L P : Type 0} (hears : L → List ℕ → L → Type 0) (says : L → 
   Exchanged old [] new = new ≡ old
   Exchanged old (e ∷ es) new = (next : L × P) × Exchanges old e next × Exchanged next es new
 
-module _ {L P : Type 0} (hears : L → List ℕ → L → Type 0) (closes : L → L → Type 0) (says : L → List ℕ → L → Type 0) (fails : L → ServeFault → L → Type 0) (answers : P → List ℕ → List ℕ → P → Type 0) where
-  -- The peer closed, before its next message or before the reply to it; or the transport failed, where the next message was due
-  -- or its reply; or there was no memory for the reply.
+module _ {L P : Type 0} (hears : L → List ℕ → L → Type 0) (closes : L → L → Type 0) (says : L → List ℕ → L → Type 0)
+    (fails : L → ServeFault → L → Type 0) (answers : P → List ℕ → List ℕ → P → Type 0) where
+  -- The peer closed, before its next message or before the reply to it; or the transport failed, where the next message
+  -- was due or its reply; or there was no memory for the reply.
   abbrev pub Ends : L → Option ServeFault → L → Type 0
   Ends old None new = closes old new ⊎ ((message : List ℕ) × (came : L) × hears old message came × closes came new)
   Ends old (Some fault) new = fails old fault new
-      ⊎ ((message : List ℕ) × (came : L) × hears old message came × (((fault ≡ Memory) × (new ≡ came)) ⊎ fails came fault new))
+      ⊎ ((message : List ℕ) × (came : L) × hears old message came
+      × (((fault ≡ Memory) × (new ≡ came)) ⊎ fails came fault new))
 
   -- A message was answered, or the conversation ended.
   abbrev pub Turns : L × P → Turn P → L → Type 0
   Turns old (Went speaker) new = (e : Exchange) × Exchanges hears says answers old e (new, speaker)
   Turns old (Ended fault) new = Ends old.0 fault new
 
-  -- The messages were answered in turn, and each reply was sent before the next message was taken; then the conversation ended.
+  -- The messages were answered in turn, and each reply was sent before the next message was taken; then the
+  -- conversation ended.
   pub record Talked (transport : L) (speaker : P) (end : ServeEnd) (new : L) : Type 0 where
     pub exchanges : List Exchange
     pub last : L × P

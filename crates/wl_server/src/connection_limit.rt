@@ -43,7 +43,8 @@ impl ConnectionLimit {
     /// A connection ended. The number of those that failed stays at its greatest value.
     pub fn end(&mut self, has_failed: bool)
         ensures running { self.new.running ≡ self.old.running - 1 }
-        ensures failed { self.new.failed ≡ (if has_failed then min (self.old.failed + 1) (2 ^ 64 - 1) else self.old.failed) }
+        ensures failed { self.new.failed ≡ (if has_failed then min (self.old.failed + 1) (2 ^ 64 - 1)
+            else self.old.failed) }
     {
         self.running = self.running.saturating_sub(1);
         if has_failed {

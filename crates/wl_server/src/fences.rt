@@ -2,7 +2,8 @@
 
 ghost use Rattle.std.specs.Prelude.{◌≡◌, ◌<◌, ◌++◌, false, codes, IfOk, OnOk, string_bytes};
 ghost use Rattle.std.specs.Fmt.{digit_glyph};
-ghost use Rattle.wl_server.specs.Fences.{hexadecimal, fence_word, fence_object, fences_member, fenced, WordsCompareAsTokens};
+ghost use Rattle.wl_server.specs.Fences.{hexadecimal, fence_word, fence_object, fences_member, fenced};
+ghost use Rattle.wl_server.specs.Fences.{WordsCompareAsTokens};
 
 use std::alloc::{AllocError, Global};
 use std::sync::Arc;

@@ -1,6 +1,7 @@
 //! The lines of a reader.
 
-ghost use Rattle.std.specs.Prelude.{◌≡◌, ◌≤◌, ◌<◌, ◌∷◌, ◌++◌, [], length, true, false, Ok, Err, None, Option, ℕ, List, IfSome, OnOk};
+ghost use Rattle.std.specs.Prelude.{◌≡◌, ◌≤◌, ◌<◌, ◌∷◌, ◌++◌, [], length, true, false, Ok, Err, None, Option, ℕ, List};
+ghost use Rattle.std.specs.Prelude.{IfSome, OnOk};
 ghost use Rattle.std.specs.Io.KnownBytes.{IsAtEnd};
 ghost use Rattle.wl_server.specs.Lines.{HasNoLf, GivesLine, GivesTooLong, GivesPart, to_come};
 
@@ -36,7 +37,8 @@ fn split_line(bytes: &[u8]) -> Option<(&[u8], &[u8])>
 fn add(line: &mut Vec<u8>, part: &[u8]) -> Result<(), NoLine>
     ensures added { OnOk result (line.new.items ≡ line.old.items ++ part.now) }
     ensures short { OnOk result (length line.new.items ≤ 65536) }
-    ensures long { result ≡ Err NoLine.TooLong → (line.new.items ≡ line.old.items ++ part.now) × (65536 < length line.new.items) }
+    ensures long { result ≡ Err NoLine.TooLong → (line.new.items ≡ line.old.items ++ part.now)
+        × (65536 < length line.new.items) }
 {
     if line.extend_from_slice(part).is_err() {
         return Err(NoLine::Memory);
@@ -66,11 +68,14 @@ impl<R: Read + Drop> Lines<R> {
 
     /// Adds to a line what the piece has of it, and answers whether it ended.
     fn take_part(&mut self, line: &mut Vec<u8>) -> Result<bool, NoLine>
-        ensures ended { result ≡ Ok true → GivesPart (to_come R.remaining self.old) line.old.items line.new.items (10 ∷ []) (to_come R.remaining self.new) }
-        ensures open { result ≡ Ok false → GivesPart (to_come R.remaining self.old) line.old.items line.new.items [] (to_come R.remaining self.new) }
+        ensures ended { result ≡ Ok true → GivesPart (to_come R.remaining self.old) line.old.items line.new.items
+            (10 ∷ []) (to_come R.remaining self.new) }
+        ensures open { result ≡ Ok false → GivesPart (to_come R.remaining self.old) line.old.items line.new.items []
+            (to_come R.remaining self.new) }
         ensures used { result ≡ Ok false → self.new.piece ≡ [] }
         ensures short { OnOk result (length line.new.items ≤ 65536) }
-        ensures long { result ≡ Err NoLine.TooLong → ((left : Option (List ℕ)) × GivesPart (to_come R.remaining self.old) line.old.items line.new.items [] left
+        ensures long { result ≡ Err NoLine.TooLong → ((left : Option (List ℕ))
+            × GivesPart (to_come R.remaining self.old) line.old.items line.new.items [] left
             × (65536 < length line.new.items)) }
     {
         let rest = self.piece.rest();
@@ -101,7 +106,8 @@ impl<R: Read + Drop> Lines<R> {
     /// Puts the next line without its LF in place of what `line` has, and answers true, or false at the end. A last
     /// line without LF is one if it has a byte.
     pub fn next_line<W: Wait>(&mut self, rt: &W, line: &mut Vec<u8>) -> Result<bool, NoLine>
-        ensures given { result ≡ Ok true → GivesLine (to_come R.remaining self.old) line.new.items (to_come R.remaining self.new) }
+        ensures given { result ≡ Ok true → GivesLine (to_come R.remaining self.old) line.new.items
+            (to_come R.remaining self.new) }
         ensures short { result ≡ Ok true → length line.new.items ≤ 65536 }
         ensures end { result ≡ Ok false → IsAtEnd (to_come R.remaining self.old) }
         ensures long { result ≡ Err NoLine.TooLong → GivesTooLong (to_come R.remaining self.old) 65536 }

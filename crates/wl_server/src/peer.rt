@@ -20,8 +20,8 @@ use wl_types::Memory;
 /// The agent of a connection: the session with it, and once it opened its client and its requests. Contracts see the
 /// session.
 ///
-/// A peer can't be dropped: it ends by `end_by`, by `end` where its service keeps each manager, or where it can't answer or
-/// tell.
+/// A peer can't be dropped: it ends by `end_by`, by `end` where its service keeps each manager, or where it can't
+/// answer or tell.
 pub struct Peer {
     alloc: Global,
     session: Session,
@@ -68,8 +68,8 @@ impl Peer {
         self.requests.fences()
     }
 
-    /// `answer_by` the service itself, which keeps each manager and opens any URL. The room in which the message is read
-    /// is made for it alone: who reads many keeps one, and lends it to `answer_by`.
+    /// `answer_by` the service itself, which keeps each manager and opens any URL. The room in which the message is
+    /// read is made for it alone: who reads many keeps one, and lends it to `answer_by`.
     pub fn answer<R: Wait>(
         self,
         rt: &R,

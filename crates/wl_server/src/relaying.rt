@@ -16,7 +16,8 @@ use std::io::{Read, Write};
 use std::random::RandomSource;
 use std::sync::Wait;
 
-/// Takes a line, asks it, and writes its reply and LF, after so many replies. Answers false where there is no line. What
+/// Takes a line, asks it, and writes its reply and LF, after so many replies. Answers false where there is no line.
+/// What
 /// `line` and `reply` have plays no part.
 fn relay_line<R: Wait, A: Asker, I: Read + Drop, O: Write>(
     rt: &R,
@@ -30,7 +31,8 @@ fn relay_line<R: Wait, A: Asker, I: Read + Drop, O: Write>(
     ensures went { result ≡ Ok true → ((e : Exchange) × Exchanges Takes Puts A.asks
         ((to_come I.remaining lines.old, O.contents writer.old), asker.old) e
         ((to_come I.remaining lines.new, O.contents writer.new), asker.new)) }
-    ensures ended { result ≡ Ok false → IsAtEnd (to_come I.remaining lines.old) × Keeps (O.contents writer.old) (O.contents writer.new) }
+    ensures ended { result ≡ Ok false → IsAtEnd (to_come I.remaining lines.old)
+        × Keeps (O.contents writer.old) (O.contents writer.new) }
     ensures stopped { IfErr result (λ fault. Stops A.asks written
         ((to_come I.remaining lines.old, O.contents writer.old), asker.old) fault (O.contents writer.new)) }
 {
@@ -95,7 +97,8 @@ pub fn relay<R: Wait + RandomSource, S: Read + Write + Drop, I: Read + Drop, O: 
     reader: I,
     writer: &mut O,
 ) -> Result<u64, RelayFault>
-    ensures { RelaysOver S.remaining S.contents (I.remaining reader) (O.contents writer.old) result (O.contents writer.new) }
+    ensures { RelaysOver S.remaining S.contents (I.remaining reader) (O.contents writer.old) result
+        (O.contents writer.new) }
 {
     let mut caller = match connect(rt, alloc, stream) {
         Ok(caller) => caller,

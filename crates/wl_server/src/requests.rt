@@ -34,7 +34,8 @@ impl Request {
         outcome: &Outcome,
         number: u64,
     ) -> Option<Phase>
-        ensures { IfSome result (λ phase. Fits outcome.now session.now.last_reported (number, phase) × (phase ≢ Granted)) }
+        ensures { IfSome result (λ phase. Fits outcome.now session.now.last_reported (number, phase)
+            × (phase ≢ Granted)) }
     {
         let phase = observe_phase(&mut self.ticket, counter, &mut self.token);
         let is_reported = self.last_reported == Some(phase);
@@ -187,7 +188,8 @@ impl Requests {
         ensures by_number { IfOk result (λ observed. IsByNumber observed.items) }
         ensures fit { IfOk result (λ observed. All (Fits outcome.now session.now.last_reported) observed.items) }
         ensures taken { IfOk result (λ observed. All (λ observation. observation.1 ≢ Granted) observed.items) }
-        ensures fenced { IfOk result (λ observed. All (λ fence. Contains observed.items (fence.request, Taken)) self.new.fences.items) }
+        ensures fenced { IfOk result (λ observed. All (λ fence. Contains observed.items (fence.request, Taken))
+            self.new.fences.items) }
     {
         let observed = match open_client {
             Some(open_client) if carries_notices(outcome) => self.changed_requests(

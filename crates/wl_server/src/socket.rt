@@ -101,7 +101,8 @@ pub fn accept<S: Read + Write + Drop>(alloc: Global, stream: S) -> Result<Socket
 
 /// What a text or a binary message has; none of a ping, a pong or a close frame.
 fn data_of(message: Message) -> Option<Data>
-    ensures given { IfSome result (λ given. (content_of message ≡ text (data_bytes given)) ⊎ (content_of message ≡ binary (data_bytes given))) }
+    ensures given { IfSome result (λ given. (content_of message ≡ text (data_bytes given))
+        ⊎ (content_of message ≡ binary (data_bytes given))) }
     ensures idle { IfNone result (2 ≤ kind_of message) }
 {
     match message {
@@ -150,11 +151,13 @@ impl<S: Read + Write + Drop> Transport for Socket<S> {
     ghost use Rattle.tungstenite.specs.Content.{text};
     ghost use Rattle.wl_server.specs.Sockets.{Hears, Sends};
 
-    ghost hears = { λ old message new. Hears (λ peer_stream. S.remaining peer_stream.stream) old.inner message new.inner };
+    ghost hears = { λ old message new. Hears (λ peer_stream. S.remaining peer_stream.stream) old.inner message
+        new.inner };
 
     ghost closes = { λ old new. Unit {0} };
 
-    ghost says = { λ old words new. Sends (λ peer_stream. if peer_stream.is_left then None else S.contents peer_stream.stream) old.inner (text words) new.inner };
+    ghost says = { λ old words new. Sends (λ peer_stream. if peer_stream.is_left then None
+        else S.contents peer_stream.stream) old.inner (text words) new.inner };
 
     ghost fails = { λ old fault new. Unit {0} };
 

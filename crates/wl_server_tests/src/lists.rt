@@ -1,7 +1,7 @@
 //! Lists of calls, each with what it is to answer.
 //!
-//! A line is a call, an arrow and its answer: `release 1 2 -> Released`. A line without an arrow goes on with the answer
-//! above it. The calls of a service and its clients are told in `scene`. The others are:
+//! A line is a call, an arrow and its answer: `release 1 2 -> Released`. A line without an arrow goes on with the
+//! answer above it. The calls of a service and its clients are told in `scene`. The others are:
 //!
 //! - `visit_and_ask` and `open_pairs`: what threads do to a service at once (`service::threads`);
 //! - `serve STREAM FRAME ..`: a connection over a stream in memory (`server::streams`);

@@ -6,9 +6,10 @@
 //! that many workers and answers the last one's; `request CLIENT NAME SIGNAL`, which answers the request's number, and
 //! `look TICKET`; `release CLIENT TICKET`; `signal CLIENT` and `abort CLIENT SIGNAL REASON`; `set CLIENT active`;
 //! `query CLIENT`, which answers how many entries were seen and how many locks are held; `terminate CLIENT` and
-//! `close CLIENT`, which answer whether it left something; and `visit URL BUCKET`, which answers whether the visitor was
-//! called, and how many entries it was shown. One that names no bucket visits that of `default`. `keep COUNT` puts a new
-//! service in the place of the one that keeps each manager, which has so many at most, and `managers` answers how many.
+//! `close CLIENT`, which answer whether it left something; and `visit URL BUCKET`, which answers whether the visitor
+//! was called, and how many entries it was shown. One that names no bucket visits that of `default`. `keep COUNT` puts
+//! a new service in the place of the one that keeps each manager, which has so many at most, and `managers` answers how
+//! many.
 //! `locks URL` lists the locks of that URL's origin, or without it all: each manager with the numbers of the requests
 //! that hold and, behind a bar, of those that wait, and how many were left out.
 

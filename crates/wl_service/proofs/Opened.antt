@@ -1,6 +1,7 @@
 -- Which client is opened, from what was found of its URL and its bucket.
 use Rattle.std.proofs.Common.{◌≡◌, refl, sym, subst}
-use Rattle.std.specs.Prelude.{◌≢◌, ℕ, List, Bool, true, false, Option, Some, None, Result, Ok, Err, IfErr, if◌then◌else◌}
+use Rattle.std.specs.Prelude.{◌≢◌, ℕ, List, Bool, true, false, Option, Some, None, Result, Ok, Err, IfErr}
+use Rattle.std.specs.Prelude.{if◌then◌else◌}
 use Rattle.wl_types.specs.declared.words.Kind.{Kind}
 use Rattle.wl_origin.specs.Bucket.{default_bucket, is_bucket}
 use Rattle.wl_origin.specs.Opening.{AnswersManager, in_bucket, manager_of, with_bucket}
@@ -13,10 +14,12 @@ use Rattle.wl_origin.specs.declared.standing.KeyFault.{KeyFault}
 use Rattle.wl_service.specs.Clients.{Who, Managed, Opaque}
 use Rattle.wl_service.specs.Opening.{Opens}
 use Rattle.wl_service.specs.declared.fault.OpenFault.{OpenFault}
-use Rattle.wl_service.specs.declared.fault.OpenFault.TheVariants.{BadUrl, BadBucket, TooManyAgents, NumbersSpent, TooManyManagers, Memory}
+use Rattle.wl_service.specs.declared.fault.OpenFault.TheVariants.{BadUrl, BadBucket, TooManyAgents, NumbersSpent}
+use Rattle.wl_service.specs.declared.fault.OpenFault.TheVariants.{TooManyManagers, Memory}
 
 -- what was found is what there was to find, or memory was wanting
-pub opens_found : (expected found : Result (Option ManagerKey) ManagerFault) (kind : Kind) (result : Result Who OpenFault)
+pub opens_found : (expected found : Result (Option ManagerKey) ManagerFault) (kind : Kind)
+    (result : Result Who OpenFault)
     → AnswersManager expected found → Opens found kind result → Opens expected kind result
 opens_found expected (Ok manager) kind result is opens = subst (λ r. Opens r kind result) (sym is) opens
 opens_found expected (Err key.BadUrl) kind result is opens = subst (λ r. Opens r kind result) (sym is) opens
@@ -36,11 +39,13 @@ default_is_one (Err fault) e = absurd cc
 default_is_one (Ok origin) e = go (is_bucket default_bucket) refl e
   where
     go : (c : Bool) → c ≡ true
-        → (let found : Result (Option ManagerKey) ManagerFault = if c then Ok (with_bucket origin default_bucket) else Err key.BadBucket in found) ≡ Err key.BadBucket → ⊥
+        → (let found : Result (Option ManagerKey) ManagerFault = if c then Ok (with_bucket origin default_bucket)
+        else Err key.BadBucket in found) ≡ Err key.BadBucket → ⊥
     go true is e = absurd cc
     go false is e = absurd cc
 
-pub never_bad : (url : List ℕ) (kind : Kind) (result : Result Who OpenFault) → Opens (manager_of url default_bucket) kind result
+pub never_bad : (url : List ℕ) (kind : Kind) (result : Result Who OpenFault)
+    → Opens (manager_of url default_bucket) kind result
     → IfErr result (λ fault. fault ≢ BadBucket)
 never_bad url kind (Ok who) opens = tt
 never_bad url kind (Err BadUrl) opens = λ e. absurd cc

@@ -1,5 +1,5 @@
--- What a client is, and what the client of an opaque origin is answered (own); what its requests and queries are refused is the
--- machine's `no_storage`.
+-- What a client is, and what the client of an opaque origin is answered (own); what its requests and queries are
+-- refused is the machine's `no_storage`.
 use Rattle.std.specs.Prelude.{ℕ, Bool, Option, Some, None, Result, Ok, Err, if◌then◌else◌}
 use Rattle.wl_types.specs.declared.words.Kind.{Kind}
 use Rattle.wl_types.specs.declared.refusal.Refusal.{Refusal}

@@ -15,4 +15,5 @@ Adds {X} old new key = (kept : X) × (new ≡ insert_entry manager_cmp old key k
 
 -- what is kept for each other key is what was
 abbrev pub KeepsOthers : {X : Type 0} → List (ManagerKey × X) → List (ManagerKey × X) → ManagerKey → Type 0
-KeepsOthers old new key = (other : ManagerKey) → is_at (manager_cmp key) other ≡ false → kept_for new other ≡ kept_for old other
+KeepsOthers old new key = (other : ManagerKey) → is_at (manager_cmp key) other ≡ false
+    → kept_for new other ≡ kept_for old other

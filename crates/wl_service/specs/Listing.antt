@@ -26,7 +26,8 @@ bound_after (Some last) = Excluded last
 
 -- the entries that are still to be listed behind a key, or at the beginning
 abbrev pub left_after : {X : Type 0} → Option ManagerKey → Option Tuple → List (ManagerKey × X) → List (ManagerKey × X)
-left_after after only entries = filter (λ e. is_asked only e.0) (entries_between manager_cmp (bound_after after) Unbounded entries)
+left_after after only entries = filter (λ e. is_asked only e.0)
+    (entries_between manager_cmp (bound_after after) Unbounded entries)
 
 abbrev pub first_of : {X : Type 0} → List X → Option X
 first_of [] = None
@@ -47,10 +48,11 @@ pub record MayFollow (after : Option ManagerKey) (only : Option Tuple) (key : Ma
 -- each manager's key may be listed behind the one before, and none has too many rows
 abbrev pub AreInTurn : Option ManagerKey → Option Tuple → List ManagerLocks → Type 0
 AreInTurn after only [] = Unit {0}
-AreInTurn after only (one ∷ rest) = MayFollow after only one.key × (rows_of one ≤ 1000) × AreInTurn (Some one.key) only rest
+AreInTurn after only (one ∷ rest) = MayFollow after only one.key × (rows_of one ≤ 1000)
+    × AreInTurn (Some one.key) only rest
 
--- Each manager is listed once, in the order of their keys, and those that were asked for alone; with no more rows than may be, of one
--- manager and, where no origin is named, in all
+-- Each manager is listed once, in the order of their keys, and those that were asked for alone; with no more rows than
+-- may be, of one manager and, where no origin is named, in all
 pub record IsListing (only : Option Tuple) (all : ServiceLocks) : Type 0 where
   pub managers : AreInTurn None only all.managers.items
   pub in_all : only ≡ None → rows_in all.managers.items ≤ 10000

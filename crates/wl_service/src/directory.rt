@@ -1,6 +1,7 @@
 //! The managers by their keys.
 
-ghost use Rattle.std.specs.Prelude.{◌≡◌, ◌≢◌, ◌<◌, [], length, None, IfErr, IfNone, IfOk, IfSome, OnErr, OnOk, option_map};
+ghost use Rattle.std.specs.Prelude.{◌≡◌, ◌≢◌, ◌<◌, [], length, None, IfErr, IfNone, IfOk, IfSome, OnErr, OnOk};
+ghost use Rattle.std.specs.Prelude.{option_map};
 ghost use Rattle.std.specs.Arc.{arc_value};
 ghost use Rattle.std.specs.Option.{option_copied};
 ghost use Rattle.std.specs.Range.Bound.{bound_map};
@@ -134,9 +135,14 @@ impl Directory {
         after: Option<&ManagerKey>,
         only: Option<&OriginKey>,
     ) -> Result<Option<(ManagerKey, Shared)>, Memory>
-        ensures first { IfOk result (λ found. option_map (λ one. one.0) found ≡ option_map (λ one. one.0) (first_of (left_after (option_copied after.entry) (option_copied only.entry) self.now.managers.entries))) }
-        ensures manager { IfOk result (λ found. option_map (λ one. arc_value one.1) found ≡ option_map (λ one. arc_value one.1) (first_of (left_after (option_copied after.entry) (option_copied only.entry) self.now.managers.entries))) }
-        ensures may { IfOk result (λ found. IfSome found (λ one. MayFollow (option_copied after.entry) (option_copied only.entry) one.0)) }
+        ensures first { IfOk result (λ found. option_map (λ one. one.0) found
+            ≡ option_map (λ one. one.0) (first_of (left_after (option_copied after.entry) (option_copied only.entry)
+            self.now.managers.entries))) }
+        ensures manager { IfOk result (λ found. option_map (λ one. arc_value one.1) found
+            ≡ option_map (λ one. arc_value one.1) (first_of
+            (left_after (option_copied after.entry) (option_copied only.entry) self.now.managers.entries))) }
+        ensures may { IfOk result (λ found. IfSome found (λ one. MayFollow (option_copied after.entry)
+            (option_copied only.entry) one.0)) }
     {
         for (key, manager) in self.managers.range((bound_after(after), Bound::Unbounded)) {
             if is_asked(only, key) {
@@ -148,7 +154,8 @@ impl Directory {
 
     /// How many of those that are asked for stand behind this key.
     pub(crate) fn count_left(&self, after: Option<&ManagerKey>, only: Option<&OriginKey>) -> u64
-        ensures { result ≡ length (left_after (option_copied after.entry) (option_copied only.entry) self.now.managers.entries) }
+        ensures { result ≡ length (left_after (option_copied after.entry) (option_copied only.entry)
+            self.now.managers.entries) }
     {
         let mut count = 0;
         for (key, _) in self.managers.range((bound_after(after), Bound::Unbounded)) {

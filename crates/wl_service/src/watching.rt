@@ -32,8 +32,8 @@ fn room_of(only: Option<&OriginKey>, rows: usize) -> usize
 }
 
 impl Service {
-    /// What is held and what waits, manager after manager, of all or of one origin's: at most 10,000 managers, 1,000 rows
-    /// of each, and 10,000 in all unless an origin is named. `now` is a time of the service's clock.
+    /// What is held and what waits, manager after manager, of all or of one origin's: at most 10,000 managers, 1,000
+    /// rows of each, and 10,000 in all unless an origin is named. `now` is a time of the service's clock.
     ///
     /// Each manager is looked at under its own lock, while the directory's is free. One that loses its last client
     /// meanwhile is dropped afterwards.
@@ -103,7 +103,8 @@ impl Service {
         after: Option<&ManagerKey>,
         only: Option<&OriginKey>,
     ) -> Result<Option<(ManagerKey, Shared)>, Memory>
-        ensures { IfOk result (λ found. IfSome found (λ one. MayFollow (option_copied after.entry) (option_copied only.entry) one.0)) }
+        ensures { IfOk result (λ found. IfSome found (λ one. MayFollow (option_copied after.entry)
+            (option_copied only.entry) one.0)) }
     {
         self.directory.lock(rt).next(self.alloc, after, only)
     }

@@ -1,5 +1,6 @@
 -- What a search by halves finds.
-use Rattle.std.proofs.Common.{◌≡◌, ℕ, zero, suc, ◌+◌, ◌<◌, ◌≤◌, List, [], ◌∷◌, true, false, length, get_or, ltb, eqb, Result, Ok, Err, IfOk, IfErr, refl, sym, ap, arith}
+use Rattle.std.proofs.Common.{◌≡◌, ℕ, zero, suc, ◌+◌, ◌<◌, ◌≤◌, List, [], ◌∷◌, true, false, length, get_or, ltb, eqb}
+use Rattle.std.proofs.Common.{Result, Ok, Err, IfOk, IfErr, refl, sym, ap, arith}
 use Rattle.std.specs.List.Sorted.{IsSearchInRange, IsBinarySearchResult, IsNonDecreasingBy}
 use Rattle.std.specs.Ordering.{nat_cmp, ordering_index}
 use Rattle.std.proofs.lemmas.Cmp.{ranked}
@@ -31,7 +32,8 @@ at_behind l ls n at lt p =
       phase = λ d. rw is.2 (p.phase d);
     }
 
-pub found_at : (ls : List RequestPhase) (low n at : ℕ) → IsFrom low ls → at < length ls → (get_or ls at none).0 ≡ n → IsAt ls n at
+pub found_at : (ls : List RequestPhase) (low n at : ℕ) → IsFrom low ls → at < length ls → (get_or ls at none).0 ≡ n
+    → IsAt ls n at
 found_at [] low n at h lt same = absurd (omega arith)
 found_at (l ∷ ls) low n zero h lt same =
     let b = below ls (l.0 + 1) n (omega arith) h.1 in
@@ -50,7 +52,8 @@ found_at (l ∷ ls) low n (suc at) h lt same =
     at_behind l ls n at (omega arith) (found_at ls (l.0 + 1) n at h.1 (omega arith) same)
 
 -- the gap for a number, one behind an observation of a lower one
-gap_behind : (l : RequestPhase) (ls : List RequestPhase) (n at : ℕ) → l.0 < n → IsGapFor ls n at → IsGapFor (l ∷ ls) n (suc at)
+gap_behind : (l : RequestPhase) (ls : List RequestPhase) (n at : ℕ) → l.0 < n → IsGapFor ls n at
+    → IsGapFor (l ∷ ls) n (suc at)
 gap_behind l ls n at lt p =
     let is = tests_behind l.0 n lt in
     record {
@@ -60,7 +63,8 @@ gap_behind l ls n at lt p =
       phase = rw is.2 p.phase;
     }
 
-pub gap_at : (ls : List RequestPhase) (low n at : ℕ) → IsFrom low ls → at ≤ length ls → ((j : ℕ) → j < at → (get_or ls j none).0 < n)
+pub gap_at : (ls : List RequestPhase) (low n at : ℕ) → IsFrom low ls → at ≤ length ls
+    → ((j : ℕ) → j < at → (get_or ls j none).0 < n)
     → ((j : ℕ) → at ≤ j → j < length ls → n < (get_or ls j none).0) → IsGapFor ls n at
 gap_at [] low n zero h le smaller greater = record { in_range = le; lower = refl; higher = refl; phase = refl }
 gap_at [] low n (suc at) h le smaller greater = absurd (omega arith)
@@ -70,18 +74,33 @@ gap_at (l ∷ ls) low n zero h le smaller greater =
     let b = below (l ∷ ls) l.0 n less all in
     record { in_range = le; lower = sym b.none_before; higher = sym b.all_beyond; phase = b.not_reported }
 gap_at (l ∷ ls) low n (suc at) h le smaller greater =
-    gap_behind l ls n at (smaller 0 (omega arith)) (gap_at ls (l.0 + 1) n at h.1 (omega arith) (λ j lt. smaller (suc j) (omega arith)) (λ j from lt. greater (suc j) (omega arith) (omega arith)))
+    gap_behind l ls n at (smaller 0 (omega arith)) (gap_at ls (l.0 + 1) n at h.1 (omega arith)
+    (λ j lt. smaller (suc j) (omega arith)) (λ j from lt. greater (suc j) (omega arith) (omega arith)))
 
 module _ (ls : List RequestPhase) (h : IsByNumber ls) (n : ℕ) where
   -- the comparisons with n rise along the list, as a search by halves asks
   comparisons_rise : IsNonDecreasingBy (λ (l : RequestPhase). ordering_index (nat_cmp l.0 n)) ls
-  comparisons_rise = IsNonDecreasingBy-from_default (λ (l : RequestPhase). ordering_index (nat_cmp l.0 n)) ls none (λ i j le in_range.
-      let up : (get_or ls i none).0 ≤ (get_or ls j none).0 = grind (arith, rises ls 0 i j none, λ (lt : i < j). rises ls 0 i j none lt in_range h, λ (same : i ≡ j). ap (λ k. (get_or ls k none).0) same) in
+  comparisons_rise = IsNonDecreasingBy-from_default (λ (l : RequestPhase). ordering_index (nat_cmp l.0 n)) ls none
+      (λ i j le in_range.
+      let up : (get_or ls i none).0 ≤ (get_or ls j none).0 =
+      grind (
+        arith,
+        rises ls 0 i j none,
+        λ (lt : i < j). rises ls 0 i j none lt in_range h,
+        λ (same : i ≡ j). ap (λ k. (get_or ls k none).0) same,
+      ) in
       grind (arith, nat_tests))
 
-  pub searched : (r : Result ℕ ℕ) → IsSearchInRange r (length ls) → IsBinarySearchResult (λ (l : RequestPhase). nat_cmp l.0 n) ls r → record { found : IfOk r (IsAt ls n); absent : IfErr r (IsGapFor ls n) }
-  searched (Ok at) in_range equal = record { found = found_at ls 0 n at h in_range (ranked _ n _ (sym (equal none))); absent = tt }
+  pub searched : (r : Result ℕ ℕ) → IsSearchInRange r (length ls)
+      → IsBinarySearchResult (λ (l : RequestPhase). nat_cmp l.0 n) ls r
+      → record { found : IfOk r (IsAt ls n); absent : IfErr r (IsGapFor ls n) }
+  searched (Ok at) in_range equal = record {
+    found = found_at ls 0 n at h in_range (ranked _ n _ (sym (equal none)));
+    absent = tt;
+  }
   searched (Err at) in_range parted = record {
     found = tt;
-    absent = gap_at ls 0 n at h in_range (λ j lt. ranked _ n _ (sym ((parted comparisons_rise).0 j none (omega arith) lt))) (λ j le lt. ranked _ n _ (sym ((parted comparisons_rise).1 j none le lt)));
+    absent = gap_at ls 0 n at h in_range (λ j lt. ranked _ n _
+        (sym ((parted comparisons_rise).0 j none (omega arith) lt)))
+        (λ j le lt. ranked _ n _ (sym ((parted comparisons_rise).1 j none le lt)));
   }

@@ -41,7 +41,8 @@ AreEntries o es = IsByNumber (map last_reported_of es) × All (Stands o) es
 
 -- a notice of each request whose phase found is due one
 abbrev pub entry_notices : List Entry → List Notice
-entry_notices es = map (λ e. record { request = e.request; phase = e.found }) (filter (λ e. is_notice_due e.last_reported e.found) es)
+entry_notices es = map (λ e. record { request = e.request; phase = e.found })
+    (filter (λ e. is_notice_due e.last_reported e.found) es)
 
 -- told becomes found, and ends leave
 abbrev pub entries_left : List Entry → List RequestPhase

@@ -1,8 +1,11 @@
--- What was last reported of requests, and which notices are due (own; Web Locks runs a callback and settles its promise).
-use Rattle.std.specs.Prelude.{◌≡◌, ◌⊎◌, ℕ, ◌+◌, ◌≤◌, List, [], ◌∷◌, ◌++◌, ◌==◌, nat_lt, Bool, true, false, not, map, filter, fold, Any, if◌then◌else◌}
+-- What was last reported of requests, and which notices are due (own; Web Locks runs a callback and settles its
+-- promise).
+use Rattle.std.specs.Prelude.{◌≡◌, ◌⊎◌, ℕ, ◌+◌, ◌≤◌, List, [], ◌∷◌, ◌++◌, ◌==◌, nat_lt, Bool, true, false, not, map}
+use Rattle.std.specs.Prelude.{filter, fold, Any, if◌then◌else◌}
 use Rattle.std.specs.List.{list_any}
 use Rattle.wl_types.specs.declared.phases.Phase.{Phase}
-use Rattle.wl_types.specs.declared.phases.Phase.TheVariants.{Pending, Granted, Taken, Unavailable, Aborted, Released, Stolen}
+use Rattle.wl_types.specs.declared.phases.Phase.TheVariants.{Pending, Granted, Taken, Unavailable, Aborted, Released}
+use Rattle.wl_types.specs.declared.phases.Phase.TheVariants.{Stolen}
 use Rattle.wl_types.specs.Phases.{is_end, Reaches}
 use Rattle.wl_codec.specs.declared.reply.Notice.{Notice}
 use Rattle.wl_codec.specs.declared.reply.Outcome.{Outcome}
@@ -52,8 +55,8 @@ is_new o n = false
 abbrev pub reported_phase : Outcome → List RequestPhase → ℕ → Phase
 reported_phase o last_reported n = if is_new o n then Pending else phase_in last_reported n
 
--- What was found of a request fits what was last reported: it is of the reported list, or the one that the reply answers, and
--- moves, or none, lead from the phase last reported to the one found
+-- What was found of a request fits what was last reported: it is of the reported list, or the one that the reply
+-- answers, and moves, or none, lead from the phase last reported to the one found
 pub record Fits (o : Outcome) (last_reported : List RequestPhase) (observation : RequestPhase) : Type 0 where
   pub known : (is_new o observation.0 ≡ true) ⊎ Any (λ l. l.0 ≡ observation.0) last_reported
   pub reached : Reaches (reported_phase o last_reported observation.0) observation.1
@@ -76,7 +79,8 @@ notice l = record { request = l.0; phase = l.1 }
 
 -- a notice of each observation that is due one
 abbrev pub due_notices : Outcome → List RequestPhase → List RequestPhase → List Notice
-due_notices o last_reported observed = map notice (filter (λ l. is_notice_due (reported_phase o last_reported l.0) l.1) observed)
+due_notices o last_reported observed = map notice (filter (λ l. is_notice_due (reported_phase o last_reported l.0) l.1)
+    observed)
 
 -- What was found is reported, a request that no observation names stays as it is, and an end leaves.
 abbrev pub with_observed : List RequestPhase → List RequestPhase → List RequestPhase
@@ -93,4 +97,5 @@ with_released last_reported observed = fold put (map as_released last_reported) 
 
 -- whether there is such a notice
 abbrev pub has_due_notices : Outcome → List RequestPhase → List RequestPhase → Bool
-has_due_notices o last_reported observed = list_any (λ l. is_notice_due (reported_phase o last_reported l.0) l.1) observed
+has_due_notices o last_reported observed = list_any (λ l. is_notice_due (reported_phase o last_reported l.0) l.1)
+    observed

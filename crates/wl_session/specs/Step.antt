@@ -42,7 +42,8 @@ reply s id o observed = record { id = id; notices = notices s.last_reported o ob
 abbrev pub last_reported_after : List RequestPhase → Outcome → List RequestPhase → List RequestPhase
 last_reported_after last_reported (outcome.Client c) observed = []
 last_reported_after last_reported outcome.Closed observed = []
-last_reported_after last_reported o observed = if carries_notices o then with_observed last_reported observed else last_reported
+last_reported_after last_reported o observed = if carries_notices o then with_observed last_reported observed
+    else last_reported
 
 abbrev pub opens : Bool → Outcome → Bool
 opens was (outcome.Client c) = true
@@ -50,4 +51,8 @@ opens was outcome.Closed = false
 opens was o = was
 
 abbrev pub after : State → Outcome → List RequestPhase → State
-after s o observed = record { is_open = opens s.is_open o; last_reported = last_reported_after s.last_reported o observed }
+after s o observed = record {
+  is_open = opens s.is_open o;
+  last_reported =
+      last_reported_after s.last_reported o observed;
+}

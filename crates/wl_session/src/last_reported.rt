@@ -4,10 +4,13 @@
 //! that leaves from the middle moves those behind it. So a list may also keep ends in their places (`Upkeep` says
 //! which does): the reported list is what is live in it.
 
-ghost use Rattle.std.specs.Prelude.{◌≡◌, ◌+◌, ◌<◌, ◌≤◌, length, filter, fold, map, vec_len, vec_capacity, IfOk, IfErr, IsTrue};
+ghost use Rattle.std.specs.Prelude.{◌≡◌, ◌+◌, ◌<◌, ◌≤◌, length, filter, fold, map, vec_len, vec_capacity, IfOk, IfErr};
+ghost use Rattle.std.specs.Prelude.{IsTrue};
 ghost use Rattle.wl_types.specs.Phases.{Reaches};
 ghost use Rattle.wl_session.specs.inner.Places.{IsAt, IsGapFor};
-ghost use Rattle.wl_session.specs.LastReported.{Fits, IsByNumber, is_live, put, phase_in, reported_phase, is_notice_due, has_due_notices, due_notices, as_released, with_released, with_observed};
+ghost use Rattle.wl_session.specs.LastReported.{Fits, IsByNumber, is_live, put, phase_in, reported_phase};
+ghost use Rattle.wl_session.specs.LastReported.{is_notice_due, has_due_notices, due_notices, as_released};
+ghost use Rattle.wl_session.specs.LastReported.{with_released, with_observed};
 ghost use Rattle.wl_session.specs.inner.LastReported.{IsReportedList};
 
 use crate::outcomes::is_new;
@@ -263,7 +266,8 @@ pub(crate) fn with_released(
     observed: &[(u64, Phase)],
 ) -> Result<Vec<(u64, Phase)>, Memory>
     requires { IsByNumber last_reported.now }
-    ensures observed { IfOk result (λ list. list.items ≡ with_released (filter is_live last_reported.now) observed.now) }
+    ensures observed { IfOk result (λ list. list.items ≡ with_released (filter is_live last_reported.now)
+        observed.now) }
     ensures by_number { IfOk result (λ list. IsByNumber list.items) }
 {
     let mut list = list_as_released(alloc, last_reported)?;

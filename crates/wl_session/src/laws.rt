@@ -1,6 +1,7 @@
 //! Laws of what is reported. Each is the contract of a function without a body.
 
-ghost use Rattle.wl_session.specs.Laws.{ReportsWherePhasesDiffer, NoticesAreByRequest, LeftIsByRequest, ObservedAreLeft, ObservedDecideNotices};
+ghost use Rattle.wl_session.specs.Laws.{ReportsWherePhasesDiffer, NoticesAreByRequest, LeftIsByRequest};
+ghost use Rattle.wl_session.specs.Laws.{ObservedAreLeft, ObservedDecideNotices};
 
 /// A notice is due exactly where the phase found is another than the one last reported, and isn't the agent's own
 /// release.

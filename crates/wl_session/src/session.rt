@@ -1,6 +1,7 @@
 //! A session of an agent.
 
-ghost use Rattle.std.specs.Prelude.{◌≡◌, ◌+◌, ◌≤◌, ◌&&◌, All, IfOk, OnOk, OnErr, IsTrue, filter, length, true, vec_len, vec_capacity, string_bytes};
+ghost use Rattle.std.specs.Prelude.{◌≡◌, ◌+◌, ◌≤◌, ◌&&◌, All, IfOk, OnOk, OnErr, IsTrue, filter, length, true, vec_len};
+ghost use Rattle.std.specs.Prelude.{vec_capacity, string_bytes};
 ghost use Rattle.wl_codec.specs.Replies.{reply_text};
 ghost use Rattle.wl_session.specs.Planned.{plan_for};
 ghost use Rattle.wl_session.specs.Step.{reply, after, carries_notices, last_reported_after, notices, closed};
@@ -37,7 +38,10 @@ impl<U: Upkeep> Model for SessionOf<U> {
 
     ghost Value = { State };
 
-    ghost view = { λ session. record { is_open = session.is_open; last_reported = filter is_live session.last_reported.items } };
+    ghost view = { λ session. record {
+      is_open = session.is_open;
+      last_reported = filter is_live session.last_reported.items;
+    } };
 
     ghost invariant = { λ session. IsKept U.AT_ONCE session.last_reported.items };
 }
@@ -67,7 +71,8 @@ fn report_after<U: Upkeep>(
 )
     requires kept { IsKept U.AT_ONCE last_reported.old.items }
     requires room { vec_len last_reported.old + length observed.now ≤ vec_capacity last_reported.old }
-    ensures last_reported { filter is_live last_reported.new.items ≡ last_reported_after (filter is_live last_reported.old.items) outcome.now observed.now }
+    ensures last_reported { filter is_live last_reported.new.items
+        ≡ last_reported_after (filter is_live last_reported.old.items) outcome.now observed.now }
     ensures kept { IsKept U.AT_ONCE last_reported.new.items }
 {
     match outcome {
@@ -103,7 +108,8 @@ impl Session {
 impl<U: Upkeep> SessionOf<U> {
     /// Whether a reply of this outcome would have notices, after these observations.
     pub fn has_notices(&self, outcome: &Outcome, observed: &[(u64, Phase)]) -> bool
-        ensures { result ≡ (carries_notices outcome.now && has_due_notices outcome.now self.now.last_reported observed.now) }
+        ensures { result ≡ (carries_notices outcome.now && has_due_notices outcome.now self.now.last_reported
+            observed.now) }
     {
         carries_notices(outcome)
             && has_due_notices(outcome, self.last_reported.as_slice(), observed)

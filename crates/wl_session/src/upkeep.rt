@@ -59,7 +59,8 @@ pub(crate) fn make_room<U: Upkeep>(
 pub(crate) fn report<U: Upkeep>(last_reported: &mut Vec<(u64, Phase)>, observed: &[(u64, Phase)])
     requires kept { IsKept U.AT_ONCE last_reported.old.items }
     requires room { vec_len last_reported.old + length observed.now ≤ vec_capacity last_reported.old }
-    ensures last_reported { filter is_live last_reported.new.items ≡ with_observed (filter is_live last_reported.old.items) observed.now }
+    ensures last_reported { filter is_live last_reported.new.items
+        ≡ with_observed (filter is_live last_reported.old.items) observed.now }
     ensures kept { IsKept U.AT_ONCE last_reported.new.items }
 {
     if U::AT_ONCE {

@@ -1,5 +1,6 @@
 -- Who may read the status, where a token is wanted (own).
-use Rattle.std.specs.Prelude.{ℕ, nat_lt, ◌+◌, List, [], ◌∷◌, map, take, drop, length, ◌==◌, not, Option, Some, None, option_and_then, codes, if◌then◌else◌}
+use Rattle.std.specs.Prelude.{ℕ, nat_lt, ◌+◌, List, [], ◌∷◌, map, take, drop, length, ◌==◌, not, Option, Some, None}
+use Rattle.std.specs.Prelude.{option_and_then, codes, if◌then◌else◌}
 use Rattle.std.specs.Char.{to_ascii_lowercase}
 use Rattle.std.specs.List.{prefix_len}
 use Rattle.std.specs.Option.{option_or}
@@ -24,7 +25,8 @@ password_in pair = if nat_lt (user_len pair) (length pair) then Some (drop (user
 -- RFC 7617, section 2; RFC 9110, section 11.1: the scheme's letters in any case
 abbrev pub basic_pair_of : List ℕ → Option (List ℕ)
 basic_pair_of header =
-    if bytes_eq (map to_ascii_lowercase (take 6 header)) (codes "basic ") then result_ok (decode_of standard (drop 6 header)) else None
+    if bytes_eq (map to_ascii_lowercase (take 6 header)) (codes "basic ")
+    then result_ok (decode_of standard (drop 6 header)) else None
 
 -- the token of an `Authorization` header: a bearer's, or a password
 abbrev pub token_of : List ℕ → Option (List ℕ)

@@ -1,5 +1,6 @@
 -- Which `Host` a request may name (own): no page of a stranger reads the status by a name that it controls.
-use Rattle.std.specs.Prelude.{ℕ, List, [], ◌∷◌, map, take, drop, length, nat_eq, ◌&&◌, ◌||◌, Bool, true, false, codes, string_bytes}
+use Rattle.std.specs.Prelude.{ℕ, List, [], ◌∷◌, map, take, drop, length, nat_eq, ◌&&◌, ◌||◌, Bool, true, false, codes}
+use Rattle.std.specs.Prelude.{string_bytes}
 use Rattle.std.specs.Char.{to_ascii_lowercase}
 use Rattle.std.specs.List.{list_any, starts_with}
 use Rattle.std.specs.Str.{bytes_eq}

@@ -1,5 +1,6 @@
 -- Which request is answered by what (own).
-use Rattle.std.specs.Prelude.{◌≡◌, ◌≢◌, ℕ, List, map, take, drop, option_map, not, ◌==◌, ◌&&◌, ◌||◌, Bool, Option, Some, None, Ok, Err, Result, codes, if◌then◌else◌}
+use Rattle.std.specs.Prelude.{◌≡◌, ◌≢◌, ℕ, List, map, take, drop, option_map, not, ◌==◌, ◌&&◌, ◌||◌, Bool, Option, Some}
+use Rattle.std.specs.Prelude.{None, Ok, Err, Result, codes, if◌then◌else◌}
 use Rattle.std.specs.List.{list_any}
 use Rattle.std.specs.Str.{bytes_eq}
 use Rattle.std.specs.Str.Lossy.{utf8_lossy}
@@ -42,7 +43,8 @@ form_text part = utf8_lossy (decode part)
 -- what stands behind the key of a query that has this one field
 abbrev pub origin_part : List ℕ → Option (List ℕ)
 origin_part query =
-    if bytes_eq (take 7 query) (codes "origin=") && not (list_any (λ byte. byte == 38) (drop 7 query)) then Some (drop 7 query) else None
+    if bytes_eq (take 7 query) (codes "origin=") && not (list_any (λ byte. byte == 38) (drop 7 query))
+    then Some (drop 7 query) else None
 
 abbrev pub known_origin : Option Tuple → Result Route Refusal
 known_origin None = Err refusal.BadRequest
@@ -83,7 +85,8 @@ abbrev pub route_unless : Option Refusal → Result Route Refusal → Result Rou
 route_unless (Some why) found = Err why
 route_unless None found = found
 
--- Of several reasons to refuse the first counts: the target and its host, the credentials, the path, the method, the query.
+-- Of several reasons to refuse the first counts: the target and its host, the credentials, the path, the method, the
+-- query.
 abbrev pub route_of : Hosts → Option (List Rule) → Head → Result Route Refusal
 route_of hosts rules head =
     if head.is_origin_form && is_one_known hosts (map (λ h. h.now) head.hosts.now)

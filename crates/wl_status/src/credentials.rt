@@ -4,7 +4,8 @@ ghost use Rattle.std.specs.Prelude.{◌≡◌, ◌≤◌, length, IfOk, map, opt
 ghost use Rattle.std.specs.Option.{option_copied};
 ghost use Rattle.wl_admission.specs.Scopes.{reach_of};
 ghost use Rattle.wl_admission.specs.Tokens.{reach_by, rules_of};
-ghost use Rattle.wl_status.specs.Credentials.{access_fault, basic_pair_of, fault_by, headers_fault, password_in, token_of, user_len};
+ghost use Rattle.wl_status.specs.Credentials.{access_fault, basic_pair_of, fault_by, headers_fault, password_in};
+ghost use Rattle.wl_status.specs.Credentials.{token_of, user_len};
 ghost use Rattle.wl_status.specs.inner.Credentials.{AnswersFault};
 
 use crate::routing::Refusal;
@@ -16,14 +17,15 @@ use wl_admission::{Scope, Tokens, bearer_in_header};
 /// What an `Authorization` header with a password begins with, in any case of its letters (RFC 7617, section 2).
 const SCHEME: &[u8] = b"Basic ";
 
-/// Why these `Authorization` headers don't let the status be read, if they don't. Where no token is wanted none is looked
-/// at.
+/// Why these `Authorization` headers don't let the status be read, if they don't. Where no token is wanted none is
+/// looked at.
 pub(crate) fn access_fault(
     alloc: Global,
     known: Option<&Tokens>,
     headers: &[&[u8]],
 ) -> Option<Refusal>
-    ensures { AnswersFault (access_fault (option_map rules_of (option_copied known.entry)) (map (λ h. h.now) headers.now)) result }
+    ensures { AnswersFault (access_fault (option_map rules_of (option_copied known.entry))
+        (map (λ h. h.now) headers.now)) result }
 {
     headers_fault(alloc, known?, headers)
 }

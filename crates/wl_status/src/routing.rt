@@ -4,7 +4,8 @@ ghost use Rattle.std.specs.Prelude.{◌≡◌, map, option_map};
 ghost use Rattle.std.specs.Option.{option_copied};
 ghost use Rattle.wl_admission.specs.Scopes.{tuple_in};
 ghost use Rattle.wl_admission.specs.Tokens.{rules_of};
-ghost use Rattle.wl_status.specs.Routes.{form_text, health_status, is_read, known_origin, locks_for, origin_part, resource_at, route_of, route_to, status_of, Answers};
+ghost use Rattle.wl_status.specs.Routes.{form_text, health_status, is_read, known_origin, locks_for, origin_part};
+ghost use Rattle.wl_status.specs.Routes.{resource_at, route_of, route_to, status_of, Answers};
 
 use crate::credentials::access_fault;
 use crate::hosts::Hosts;

@@ -124,7 +124,8 @@ impl StatusServer {
         Ok(())
     }
 
-    /// Waits until something is ready, or it is time to look at all connections. It doesn't wait where one has more to do.
+    /// Waits until something is ready, or it is time to look at all connections. It doesn't wait where one has more to
+    /// do.
     fn wait(&mut self, events: &mut Events, is_busy: bool) -> io::Result<()> {
         let timeout = if is_busy {
             Duration::ZERO

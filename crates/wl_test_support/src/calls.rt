@@ -6,8 +6,8 @@ use std::alloc::Global;
 use wl_core::{Command, LockCore, apply};
 use wl_types::{Ask, Kind, Memory, Mode, Reason, Refusal};
 
-/// Does the calls of a list on the core, a call a line, and gives the list as it came out. A line is a call, an arrow and
-/// its answer: `release 1 1 -> Released(Released), 2 Granted`. The answer is the reply, and then each change.
+/// Does the calls of a list on the core, a call a line, and gives the list as it came out. A line is a call, an arrow
+/// and its answer: `release 1 1 -> Released(Released), 2 Granted`. The answer is the reply, and then each change.
 ///
 /// The calls are `open KIND`, `set AGENT active`, `signal AGENT`, `request AGENT NAME OPTION ..`, `take REQUEST`,
 /// `release AGENT REQUEST`, `abort AGENT SIGNAL REASON`, `terminate AGENT` and `query AGENT`; with `may` before one of

@@ -12,7 +12,8 @@ use Rattle.wl_timeline.specs.Timelines.{LeavesTimeline}
 use Rattle.wl_timeline.specs.inner.Timelines.{IsUnwritten}
 
 -- all lines are the first lines
-all_done : (limit n : ℕ) (all : List (List ℕ)) → n ≡ length all → All (λ line. length line ≤ limit) all → DoneFirst limit all n
+all_done : (limit n : ℕ) (all : List (List ℕ)) → n ≡ length all → All (λ line. length line ≤ limit) all
+    → DoneFirst limit all n
 all_done limit n all is within = (omega (arith, is), All-take (λ line. length line ≤ limit) n all within)
 
 left_by : (limit done : ℕ) (all : List (List ℕ)) (fault : ScriptFault) (old new : Option (List ℕ)) → done ≡ length all
@@ -26,20 +27,24 @@ left_by limit done all (TooManyTurns n) old new count within wrong = absurd wron
 pub drawn : (rest : Option (List ℕ)) (start : World) (done : ℕ) (result : Result ℕ ScriptFault)
     → IfSome rest (λ input. (done ≡ length (lines input)) × Answered 65536 start (lines input) None None)
     → IfOk result (λ n. n ≡ done)
-    → IfOk result (λ n. IfSome rest (λ input. (n ≡ length (lines input)) × All (λ line. length line ≤ 65536) (lines input)))
+    → IfOk result (λ n. IfSome rest (λ input. (n ≡ length (lines input))
+    × All (λ line. length line ≤ 65536) (lines input)))
 drawn None start done (Ok n) answered is = tt
 drawn (Some input) start done (Ok n) (count, answered) is = (is ∙ count, answered.within)
 drawn rest start done (Err fault) answered is = tt
 
-pub undrawn : (rest : Option (List ℕ)) (start : World) (done : ℕ) (result : Result ℕ ScriptFault) (old new : Option (List ℕ))
+pub undrawn : (rest : Option (List ℕ)) (start : World) (done : ℕ) (result : Result ℕ ScriptFault)
+    (old new : Option (List ℕ))
     → IfSome rest (λ input. (done ≡ length (lines input)) × Answered 65536 start (lines input) None None)
     → IfErr result (λ fault. IsUnwritten done fault old new)
     → IfErr result (λ fault. IfSome rest (λ input. LeavesTimeline 65536 (lines input) fault old new))
 undrawn rest start done (Ok n) old new answered wrong = tt
 undrawn None start done (Err fault) old new answered wrong = tt
-undrawn (Some input) start done (Err fault) old new (count, answered) wrong = left_by 65536 done (lines input) fault old new count answered.within wrong
+undrawn (Some input) start done (Err fault) old new (count, answered) wrong =
+    left_by 65536 done (lines input) fault old new count answered.within wrong
 
-counts_behind : (all : List (List ℕ)) (done : ℕ) (fault : ScriptFault) (held_old held_new old new : Option (List ℕ)) → done ≡ length all
+counts_behind : (all : List (List ℕ)) (done : ℕ) (fault : ScriptFault) (held_old held_new old new : Option (List ℕ))
+    → done ≡ length all
     → IsUnwritten done fault held_old held_new → CountsDone all fault old new
 counts_behind all done (Memory n) held_old held_new old new count (same, kept) = inl (same ∙ count)
 counts_behind all done (Write n) held_old held_new old new count same = tt
@@ -47,7 +52,8 @@ counts_behind all done (Read n) held_old held_new old new count wrong = absurd w
 counts_behind all done (LineTooLong n) held_old held_new old new count wrong = absurd wrong
 counts_behind all done (TooManyTurns n) held_old held_new old new count wrong = absurd wrong
 
-pub counted : (rest : Option (List ℕ)) (start : World) (done : ℕ) (result : Result ℕ ScriptFault) (held_old held_new new : Option (List ℕ))
+pub counted : (rest : Option (List ℕ)) (start : World) (done : ℕ) (result : Result ℕ ScriptFault)
+    (held_old held_new new : Option (List ℕ))
     → IfSome rest (λ input. (done ≡ length (lines input)) × Answered 65536 start (lines input) None None)
     → IfErr result (λ fault. IsUnwritten done fault held_old held_new)
     → IfErr result (λ fault. IfSome rest (λ input. CountsDone (lines input) fault rest new))

@@ -2,7 +2,8 @@
 use Rattle.std.proofs.Common.{◌≡◌, arith, true, inl, refl, List, [], ◌∷◌, ⊎_elim}
 use Rattle.std.specs.Prelude.{IsTrue}
 use Rattle.wl_types.specs.declared.phases.Phase.{Phase}
-use Rattle.wl_types.specs.declared.phases.Phase.TheVariants.{Pending, Granted, Taken, Unavailable, Aborted, Released, Stolen}
+use Rattle.wl_types.specs.declared.phases.Phase.TheVariants.{Pending, Granted, Taken, Unavailable, Aborted, Released}
+use Rattle.wl_types.specs.declared.phases.Phase.TheVariants.{Stolen}
 use Rattle.wl_types.specs.Phases.{is_move, leads, Reaches, IsPath}
 
 pub leads-trans : (s t u : Phase) → IsTrue (leads s t) → IsTrue (leads t u) → IsTrue (leads s u)

@@ -4,7 +4,8 @@ use Rattle.wl_types.specs.declared.words.Mode.{Mode}
 use Rattle.wl_types.specs.declared.words.Mode.TheVariants.{Exclusive, Shared}
 use Rattle.wl_types.specs.declared.ask.Ask.{Ask}
 use Rattle.wl_types.specs.declared.refusal.Refusal.{Refusal}
-use Rattle.wl_types.specs.declared.refusal.Refusal.TheVariants.{ReservedName, StealIfAvailable, StealShared, SignalCombined}
+use Rattle.wl_types.specs.declared.refusal.Refusal.TheVariants.{ReservedName, StealIfAvailable, StealShared}
+use Rattle.wl_types.specs.declared.refusal.Refusal.TheVariants.{SignalCombined}
 use Rattle.wl_types.specs.Names.{is_reserved}
 use Rattle.wl_types.specs.Refusals.{refuse_if, first_refusal}
 

@@ -15,4 +15,5 @@ is_long text = nat_lt 1024 (length text)
 
 -- why a text is no name
 abbrev pub name_refusal : List ℕ → Option Refusal
-name_refusal text = first_refusal (refuse_if (is_reserved text) ReservedName ∷ refuse_if (is_long text) NameTooLong ∷ [])
+name_refusal text = first_refusal (refuse_if (is_reserved text) ReservedName ∷ refuse_if (is_long text) NameTooLong
+    ∷ [])

@@ -1,7 +1,9 @@
--- The phases of a request, and the moves from one to the next (own; Web Locks speaks of a request's place and of its promise).
+-- The phases of a request, and the moves from one to the next (own; Web Locks speaks of a request's place and of its
+-- promise).
 use Rattle.std.specs.Prelude.{◌≡◌, ◌⊎◌, ◌↔◌, Bool, true, false, IsTrue, List, [], ◌∷◌}
 use Rattle.wl_types.specs.declared.phases.Phase.{Phase}
-use Rattle.wl_types.specs.declared.phases.Phase.TheVariants.{Pending, Granted, Taken, Unavailable, Aborted, Released, Stolen}
+use Rattle.wl_types.specs.declared.phases.Phase.TheVariants.{Pending, Granted, Taken, Unavailable, Aborted, Released}
+use Rattle.wl_types.specs.declared.phases.Phase.TheVariants.{Stolen}
 
 -- whether nothing comes after it
 abbrev pub is_end : Phase → Bool
@@ -53,7 +55,8 @@ IsPath from (next ∷ rest) to = (is_move from next ≡ true) × IsPath next res
 
 -- of two phases that reach a third, one reaches the other
 abbrev pub PhasesAreAChain : Type 0
-PhasesAreAChain = (one other third : Phase) → Reaches one third → Reaches other third → Reaches one other ⊎ Reaches other one
+PhasesAreAChain = (one other third : Phase) → Reaches one third → Reaches other third
+    → Reaches one other ⊎ Reaches other one
 
 -- a phase reaches another just where moves, or none, lead to it
 abbrev pub ReachingIsByMoves : Type 0

@@ -39,8 +39,8 @@ impl Mode {
 }
 
 impl Reason {
-    /// The name of an error for this reason: that of the DOM exception which stands for it, or `AbortCode`, beside which
-    /// the code is told too.
+    /// The name of an error for this reason: that of the DOM exception which stands for it, or `AbortCode`, beside
+    /// which the code is told too.
     pub fn name(&self) -> &'static str
         ensures { result.now ≡ reason_name self.now }
     {

@@ -3,7 +3,8 @@ use Rattle.std.specs.Prelude.{ℕ, Option, None, Some}
 use Rattle.tungstenite.specs.declared.error.Error.{Error}
 use Rattle.tungstenite.specs.declared.error.Error.TheVariants as error
 use Rattle.wl_wire.specs.declared.ending.Ending.{Ending}
-use Rattle.wl_wire.specs.declared.ending.Ending.TheVariants.{Closed, TooLong, Protocol, NotText, Forbidden, Busy, Away, Memory, Broken}
+use Rattle.wl_wire.specs.declared.ending.Ending.TheVariants.{Closed, TooLong, Protocol, NotText, Forbidden, Busy, Away}
+use Rattle.wl_wire.specs.declared.ending.Ending.TheVariants.{Memory, Broken}
 
 -- what an error of the WebSocket means
 abbrev pub ending_for : Error → Ending

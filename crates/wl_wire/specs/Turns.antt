@@ -59,11 +59,14 @@ pub data Last : Type 0 where
   -- this message came, and this text, which answers it, won't leave whole
   Answering : List ℕ → List ℕ → Last
 
-module _ {S P : Type 0} (remaining contents : S → Option (List ℕ)) (answers : P → List ℕ → List ℕ → P → Type 0) (pushes : P → List ℕ → P → Type 0) (rests : P → P → Type 0) where
-  -- A step from a socket and a speaker to the next. Nothing waits where a message is read or a text is put: so each text leaves whole before the next is made.
+module _ {S P : Type 0} (remaining contents : S → Option (List ℕ)) (answers : P → List ℕ → List ℕ → P → Type 0)
+    (pushes : P → List ℕ → P → Type 0) (rests : P → P → Type 0) where
+  -- A step from a socket and a speaker to the next. Nothing waits where a message is read or a text is put: so each
+  -- text leaves whole before the next is made.
   abbrev pub Goes : Socket (Counted S) × P → Step → Socket (Counted S) × P → Type 0
   Goes old (Exchange message words) new =
-      (old.0.output ≡ []) × ((came : Socket (Counted S)) × Hears remaining old.0 message came × Puts contents came words new.0) × answers old.1 message words new.1
+      (old.0.output ≡ []) × ((came : Socket (Counted S)) × Hears remaining old.0 message came
+      × Puts contents came words new.0) × answers old.1 message words new.1
   Goes old (Push words) new = (old.0.output ≡ []) × Puts contents old.0 words new.0 × pushes old.1 words new.1
   Goes old Look new = (new.0 ≡ old.0) × rests old.1 new.1
   Goes old Idle new = (old.0.output ≡ []) × Idles remaining old.0 new.0 × (new.1 ≡ old.1)
@@ -77,13 +80,17 @@ module _ {S P : Type 0} (remaining contents : S → Option (List ℕ)) (answers 
   -- what came last, from a socket and a speaker, with this ending
   abbrev pub Ends : Socket (Counted S) × P → Last → Ending → Socket (Counted S) → Type 0
   Ends old Leaving ending new = Sends contents old.0 new
-  Ends old Reading ending new = (old.0.output ≡ []) × ((e : Error) × Yields remaining old.0 (Err e) new × (ending ≡ ending_for e))
-  Ends old Parting ending new = (old.0.output ≡ []) × ((m : Message) × Yields remaining old.0 (Ok m) new × (has_kind 4 m ≡ true)) × (ending ≡ Closed)
+  Ends old Reading ending new = (old.0.output ≡ []) × ((e : Error) × Yields remaining old.0 (Err e) new
+      × (ending ≡ ending_for e))
+  Ends old Parting ending new = (old.0.output ≡ []) × ((m : Message) × Yields remaining old.0 (Ok m) new
+      × (has_kind 4 m ≡ true)) × (ending ≡ Closed)
   Ends old Telling ending new = new ≡ old.0
-  Ends old (Pushing words) ending new = (old.0.output ≡ []) × Falls contents old.0 words new × ((next : P) × pushes old.1 words next)
+  Ends old (Pushing words) ending new = (old.0.output ≡ []) × Falls contents old.0 words new
+      × ((next : P) × pushes old.1 words next)
   Ends old (Hearing message) ending new = (old.0.output ≡ []) × Hears remaining old.0 message new
   Ends old (Answering message words) ending new =
-      (old.0.output ≡ []) × ((came : Socket (Counted S)) × Hears remaining old.0 message came × Falls contents came words new)
+      (old.0.output ≡ []) × ((came : Socket (Counted S)) × Hears remaining old.0 message came
+      × Falls contents came words new)
       × ((next : P) × answers old.1 message words next)
 
   -- steps with at most so many reads
@@ -92,7 +99,8 @@ module _ {S P : Type 0} (remaining contents : S → Option (List ℕ)) (answers 
 
   -- steps with at most so many reads, and then the last of all
   abbrev pub Finishes : ℕ → Socket (Counted S) × P → Ending → Socket (Counted S) → Type 0
-  Finishes most old ending new = (middle : Socket (Counted S) × P) × (last : Last) × Advances most old middle × Ends middle last ending new
+  Finishes most old ending new = (middle : Socket (Counted S) × P) × (last : Last) × Advances most old middle
+      × Ends middle last ending new
 
   -- where a step lets another follow, nothing waits
   abbrev pub Steps : ℕ → Socket (Counted S) × P → Stepped P → Socket (Counted S) → Type 0
@@ -106,10 +114,13 @@ module _ {S P : Type 0} (remaining contents : S → Option (List ℕ)) (answers 
   Turns old (turn.Ended ending) new = Finishes 16 old ending new
 
 module _ {S P : Type 0} (contents : S → Option (List ℕ)) (answers : P → List ℕ → List ℕ → P → Type 0) where
-  -- A message that came was answered by a text, which left whole or waits; or there is no answer, or it won't leave whole.
+  -- A message that came was answered by a text, which left whole or waits; or there is no answer, or it won't leave
+  -- whole.
   abbrev pub Answered : Socket (Counted S) × P → List ℕ → Stepped P → Socket (Counted S) → Type 0
-  Answered old message (stepped.Went speaker) new = ((words : List ℕ) × answers old.1 message words speaker × Puts contents old.0 words new) × (new.output ≡ [])
-  Answered old message (stepped.Stops speaker) new = (words : List ℕ) × answers old.1 message words speaker × Puts contents old.0 words new
+  Answered old message (stepped.Went speaker) new = ((words : List ℕ) × answers old.1 message words speaker
+      × Puts contents old.0 words new) × (new.output ≡ [])
+  Answered old message (stepped.Stops speaker) new = (words : List ℕ) × answers old.1 message words speaker
+      × Puts contents old.0 words new
   Answered old message (stepped.Ended ending) new = (new ≡ old.0)
       ⊎ ((words : List ℕ) × (next : P) × answers old.1 message words next × Falls contents old.0 words new)
 

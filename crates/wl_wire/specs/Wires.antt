@@ -20,11 +20,13 @@ module _ {S : Type 0} (remaining : S → Option (List ℕ)) where
 
   -- this message came, as a text or as bytes
   abbrev pub Hears : Socket (Counted S) → List ℕ → Socket (Counted S) → Type 0
-  Hears old message new = (m : Message) × Yields old (Ok m) new × ((content_of m ≡ text message) ⊎ (content_of m ≡ binary message))
+  Hears old message new = (m : Message) × Yields old (Ok m) new
+      × ((content_of m ≡ text message) ⊎ (content_of m ≡ binary message))
 
   -- a ping or a pong came, or no frame that is whole
   abbrev pub Idles : Socket (Counted S) → Socket (Counted S) → Type 0
-  Idles old new = ((m : Message) × Yields old (Ok m) new × (2 ≤ kind_of m) × (has_kind 4 m ≡ false)) ⊎ ((e : Error) × Yields old (Err e) new × IsIo e)
+  Idles old new = ((m : Message) × Yields old (Ok m) new × (2 ≤ kind_of m) × (has_kind 4 m ≡ false))
+      ⊎ ((e : Error) × Yields old (Err e) new × IsIo e)
 
 -- what an error says of what was to leave: it waits just where the stream blocks
 abbrev pub Unsent : Error → Sending → Type 0
@@ -54,7 +56,8 @@ module _ {S : Type 0} (contents : S → Option (List ℕ)) where
   -- nothing was done, or nothing waited and a ping was sent
   abbrev pub Pings : Sending → Socket (Counted S) → Socket (Counted S) → Type 0
   Pings (Failed ending) old new = ⊤
-  Pings sending old new = (new ≡ old) ⊎ ((old.output ≡ []) × Writes (λ counted. contents counted.stream) old new (write_step old.conn (ping [])))
+  Pings sending old new = (new ≡ old) ⊎ ((old.output ≡ []) × Writes (λ counted. contents counted.stream) old new
+      (write_step old.conn (ping [])))
 
   -- a close frame of this number joined what waits; where there is none for the ending, some of what waited left
   abbrev pub Closes : Sending → Option ℕ → Socket (Counted S) → Socket (Counted S) → Type 0

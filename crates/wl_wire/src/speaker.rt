@@ -32,7 +32,8 @@ pub trait Speaker: Sized {
     fn answer<R: Wait>(self, rt: &R, message: &[u8]) -> Result<(Self, Answer), Memory>
         ensures { IfOk result (λ said. IfText said.1 (λ text. answers self message.now text said.0)) };
 
-    /// What changed since the last answer or push; none where nothing did. Where memory is refused, the speaker has ended.
+    /// What changed since the last answer or push; none where nothing did. Where memory is refused, the speaker has
+    /// ended.
     fn push<R: Wait>(self, rt: &R) -> Result<(Self, Option<String>), Memory>
         ensures text { IfOk result (λ said. IfSome said.1 (λ text. pushes self (string_bytes text) said.0)) }
         ensures none { IfOk result (λ said. IfNone said.1 (rests self said.0)) };

@@ -51,7 +51,8 @@ pub fn take_turn<R: Wait, S: Read + Write + Drop, P: Speaker>(
     speaker: P,
     may_push: &mut bool,
 ) -> Turn<P>
-    ensures { Turns S.remaining S.contents P.answers P.pushes P.rests (wire.old.socket, speaker) result wire.new.socket }
+    ensures { Turns S.remaining S.contents P.answers P.pushes P.rests (wire.old.socket, speaker) result
+        wire.new.socket }
 {
     match send_waiting(rt, wire, speaker) {
         Stepped::Went(next) => take_steps(rt, wire, next, may_push),
@@ -68,7 +69,8 @@ fn take_steps<R: Wait, S: Read + Write + Drop, P: Speaker>(
     may_push: &mut bool,
 ) -> Turn<P>
     requires { wire.old.socket.output ≡ [] }
-    ensures { Turns S.remaining S.contents P.answers P.pushes P.rests (wire.old.socket, speaker) result wire.new.socket }
+    ensures { Turns S.remaining S.contents P.answers P.pushes P.rests (wire.old.socket, speaker) result
+        wire.new.socket }
 {
     let mut speaker = speaker;
     for taken in 0..BUDGET {
@@ -101,7 +103,8 @@ fn send_waiting<R: Wait, S: Read + Write + Drop, P: Speaker>(
     wire: &mut Wire<S>,
     speaker: P,
 ) -> Stepped<P>
-    ensures { Steps S.remaining S.contents P.answers P.pushes P.rests 0 (wire.old.socket, speaker) result wire.new.socket }
+    ensures { Steps S.remaining S.contents P.answers P.pushes P.rests 0 (wire.old.socket, speaker) result
+        wire.new.socket }
 {
     if !wire.is_blocked() {
         return Stepped::Went(speaker);
@@ -118,7 +121,8 @@ fn take_step<R: Wait, S: Read + Write + Drop, P: Speaker>(
     may_push: &mut bool,
 ) -> Stepped<P>
     requires { wire.old.socket.output ≡ [] }
-    ensures { Steps S.remaining S.contents P.answers P.pushes P.rests 1 (wire.old.socket, speaker) result wire.new.socket }
+    ensures { Steps S.remaining S.contents P.answers P.pushes P.rests 1 (wire.old.socket, speaker) result
+        wire.new.socket }
 {
     match push_changes(rt, wire, speaker, may_push) {
         Stepped::Went(next) => take_message(rt, wire, next),
@@ -134,7 +138,8 @@ fn push_changes<R: Wait, S: Read + Write + Drop, P: Speaker>(
     may_push: &mut bool,
 ) -> Stepped<P>
     requires { wire.old.socket.output ≡ [] }
-    ensures { Steps S.remaining S.contents P.answers P.pushes P.rests 0 (wire.old.socket, speaker) result wire.new.socket }
+    ensures { Steps S.remaining S.contents P.answers P.pushes P.rests 0 (wire.old.socket, speaker) result
+        wire.new.socket }
 {
     if !*may_push {
         return Stepped::Went(speaker);
@@ -159,7 +164,8 @@ fn take_message<R: Wait, S: Read + Write + Drop, P: Speaker>(
     speaker: P,
 ) -> Stepped<P>
     requires { wire.old.socket.output ≡ [] }
-    ensures { Steps S.remaining S.contents P.answers P.pushes P.rests 1 (wire.old.socket, speaker) result wire.new.socket }
+    ensures { Steps S.remaining S.contents P.answers P.pushes P.rests 1 (wire.old.socket, speaker) result
+        wire.new.socket }
 {
     if !wire.may_read {
         return Stepped::Stops(speaker);
@@ -195,7 +201,8 @@ fn stop<R: Wait, S: Read + Write + Drop, P: Speaker>(
     wire: &mut Wire<S>,
     speaker: P,
 ) -> Stepped<P>
-    ensures { Steps S.remaining S.contents P.answers P.pushes P.rests 0 (wire.old.socket, speaker) result wire.new.socket }
+    ensures { Steps S.remaining S.contents P.answers P.pushes P.rests 0 (wire.old.socket, speaker) result
+        wire.new.socket }
 {
     match send_waiting(rt, wire, speaker) {
         Stepped::Went(next) => Stepped::Stops(next),
@@ -222,7 +229,8 @@ impl Data {
 }
 
 fn data_of(message: Message) -> Option<Data>
-    ensures given { IfSome result (λ given. (content_of message ≡ text (data_bytes given)) ⊎ (content_of message ≡ binary (data_bytes given))) }
+    ensures given { IfSome result (λ given. (content_of message ≡ text (data_bytes given))
+        ⊎ (content_of message ≡ binary (data_bytes given))) }
     ensures idle { IfNone result (2 ≤ kind_of message) }
 {
     match message {

@@ -1,11 +1,11 @@
-//! Turns of a connection over a stream in memory, by lists of calls: `READ ..; WRITE ..` answers what came of each turn,
-//! how often the speaker ended, and the frames that left whole, by their kinds and texts.
+//! Turns of a connection over a stream in memory, by lists of calls: `READ ..; WRITE ..` answers what came of each
+//! turn, how often the speaker ended, and the frames that left whole, by their kinds and texts.
 //!
 //! - What is read, one read each: `hello` and `pushed`, a handshake without and with pushes; `origins` and `latin`, one
-//!   with two origins and one whose origin is no ASCII; `head=COUNT`, one of so many bytes; `target=TARGET`, one with this
-//!   target; `get=PART` and `tail=PART`, that in two reads; `empty`, an empty line; `ping`, `close`, `long`,
-//!   `bytes`, `unmasked`, frames that are so; `half` and `rest`, a text in two reads; `20`, so many texts; `wait`, nothing
-//!   yet; any other word, as a text. Behind them nothing comes.
+//!   with two origins and one whose origin is no ASCII; `head=COUNT`, one of so many bytes; `target=TARGET`, one with
+//!   this target; `get=PART` and `tail=PART`, that in two reads; `empty`, an empty line; `ping`, `close`, `long`,
+//!   `bytes`, `unmasked`, frames that are so; `half` and `rest`, a text in two reads; `20`, so many texts; `wait`,
+//!   nothing yet; any other word, as a text. Behind them nothing comes.
 //! - What a write takes: a number of bytes, 0 where it would wait. Behind them all is taken.
 //!
 //! The speaker answers a text by itself, has `news` to push after `mark`, and ends the connection at `leave`.

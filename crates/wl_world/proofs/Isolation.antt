@@ -1,5 +1,6 @@
 -- A world in which only one origin's lines were said follows any other as far as that origin goes.
-use Rattle.std.proofs.Common.{◌≡◌, ℕ, List, [], ◌∷◌, refl, ap, ap₂, sym, subst, ◌∙◌, Option, Some, None, Bool, true, false}
+use Rattle.std.proofs.Common.{◌≡◌, ℕ, List, [], ◌∷◌, refl, ap, ap₂, sym, subst, ◌∙◌, Option, Some, None, Bool, true}
+use Rattle.std.proofs.Common.{false}
 use Rattle.std.specs.Prelude.{Result, Ok, Err, if◌then◌else◌}
 use Rattle.std.specs.Ordering.{is_eq}
 use Rattle.std.specs.Str.{bytes_eq}
@@ -26,7 +27,8 @@ use Rattle.wl_world.specs.declared.label.Label.{Label}
 use Rattle.wl_world.specs.declared.label.Label.TheVariants.{Agent, Opaque}
 use Rattle.wl_world.specs.Origins.{Origin, admitted}
 use Rattle.wl_world.specs.Agents.{serve_result}
-use Rattle.wl_world.specs.Labels.{Realm, Stepped, closes, with_origin, after_closing, label_of, opened, from_label, from_unopened}
+use Rattle.wl_world.specs.Labels.{Realm, Stepped, closes, with_origin, after_closing, label_of, opened, from_label}
+use Rattle.wl_world.specs.Labels.{from_unopened}
 use Rattle.wl_world.specs.World.{World, answered, next, opening, reply, stepping}
 use Rattle.wl_world.specs.Isolation.{is_key, is_manager, opens_at, is_at, says_at, is_of, lines_of, replies_to, replies}
 
@@ -56,17 +58,21 @@ record Apart (k : ManagerKey) (realm : Realm) (label : Option Label) (x : Steppe
   after : kept k x.label ≡ None
   origin : x.realm k ≡ realm k
 
-no_agent : (k key : ManagerKey) (n : ℕ) (s : session.State) → is_key k key ≡ false → kept k (Some (Agent key n s)) ≡ None
+no_agent : (k key : ManagerKey) (n : ℕ) (s : session.State) → is_key k key ≡ false
+    → kept k (Some (Agent key n s)) ≡ None
 no_agent k key n s e = ap (λ c. if c then Some (Agent key n s) else None) e
 
-other_realm : (k key : ManagerKey) (realm : Realm) (o : Origin) → is_key k key ≡ false → with_origin realm key o k ≡ realm k
+other_realm : (k key : ManagerKey) (realm : Realm) (o : Origin) → is_key k key ≡ false
+    → with_origin realm key o k ≡ realm k
 other_realm k key realm o e = ap (λ c. if c then o else realm k) e
 
-closing_agent : (k key : ManagerKey) (n : ℕ) (s : session.State) (c : Bool) → is_key k key ≡ false → kept k (if c then None else Some (Agent key n s)) ≡ None
+closing_agent : (k key : ManagerKey) (n : ℕ) (s : session.State) (c : Bool) → is_key k key ≡ false
+    → kept k (if c then None else Some (Agent key n s)) ≡ None
 closing_agent k key n s true e = refl
 closing_agent k key n s false e = no_agent k key n s e
 
-closing_opaque : (k : ManagerKey) (kind : Kind) (active : Bool) (c : Bool) → kept k (if c then None else Some (Opaque kind active)) ≡ None
+closing_opaque : (k : ManagerKey) (kind : Kind) (active : Bool) (c : Bool)
+    → kept k (if c then None else Some (Opaque kind active)) ≡ None
 closing_opaque k kind active true = refl
 closing_opaque k kind active false = refl
 
@@ -92,9 +98,14 @@ opened_apart : (k : ManagerKey) (realm : Realm) (id : ℕ) (kind : Kind) (st : R
     → is_manager k st ≡ false → Apart k realm None (opened realm id kind st)
 opened_apart k realm id kind (Err fault) e = record { before = refl; after = refl; origin = refl }
 opened_apart k realm id kind (Ok None) e = record { before = refl; after = refl; origin = refl }
-opened_apart k realm id kind (Ok (Some key)) e = record { before = refl; after = no_entry k key _ e; origin = other_realm k key realm _ e }
+opened_apart k realm id kind (Ok (Some key)) e = record {
+  before = refl;
+  after = no_entry k key _ e;
+  origin = other_realm k key realm _ e;
+}
 
-unopened_apart : (k : ManagerKey) (realm : Realm) (id : ℕ) (b : Body) → opens_at k b ≡ false → Apart k realm None (from_unopened realm id b)
+unopened_apart : (k : ManagerKey) (realm : Realm) (id : ℕ) (b : Body) → opens_at k b ≡ false
+    → Apart k realm None (from_unopened realm id b)
 unopened_apart k realm id (body.Enter url kind bucket) e = opened_apart k realm id kind (manager_of url bucket) e
 unopened_apart k realm id body.Signal e = record { before = refl; after = refl; origin = refl }
 unopened_apart k realm id (body.Request ask) e = record { before = refl; after = refl; origin = refl }
@@ -105,20 +116,31 @@ unopened_apart k realm id body.Query e = record { before = refl; after = refl; o
 unopened_apart k realm id body.Poll e = record { before = refl; after = refl; origin = refl }
 unopened_apart k realm id body.Close e = record { before = refl; after = refl; origin = refl }
 
-label_apart : (k : ManagerKey) (realm : Realm) (label : Option Label) (id : ℕ) (b : Body) → is_at k label b ≡ false → Apart k realm label (from_label realm label id b)
+label_apart : (k : ManagerKey) (realm : Realm) (label : Option Label) (id : ℕ) (b : Body) → is_at k label b ≡ false
+    → Apart k realm label (from_label realm label id b)
 label_apart k realm None id b e = unopened_apart k realm id b e
 label_apart k realm (Some (Agent key n s)) id b e = record {
   before = no_agent k key n s e;
-  after = closing_agent k key n (serve_result (realm key) n s id b).session (closes (serve_result (realm key) n s id b).outcome) e;
+  after = closing_agent k key n (serve_result (realm key) n s id b).session
+      (closes (serve_result (realm key) n s id b).outcome) e;
   origin = other_realm k key realm (serve_result (realm key) n s id b).origin e;
 }
-label_apart k realm (Some (Opaque kind active)) id b e = record { before = refl; after = closing_opaque k kind _ _; origin = refl }
+label_apart k realm (Some (Opaque kind active)) id b e = record {
+  before = refl;
+  after = closing_opaque k kind _ _;
+  origin = refl;
+}
 
-stays_followed : (k : ManagerKey) (w v : World) (name : List ℕ) (x : Stepped) → Follows k w v → Apart k w.realm (w.labels name) x → Follows k (stepping w name x).world v
-stays_followed k w v name x f apart = record { origin = f.origin ∙ sym apart.origin; labels = λ q. go q (bytes_eq name q) refl }
+stays_followed : (k : ManagerKey) (w v : World) (name : List ℕ) (x : Stepped) → Follows k w v
+    → Apart k w.realm (w.labels name) x → Follows k (stepping w name x).world v
+stays_followed k w v name x f apart = record {
+  origin = f.origin ∙ sym apart.origin;
+  labels = λ q. go q (bytes_eq name q) refl;
+}
   where
     go : (q : List ℕ) (c : Bool) → bytes_eq name q ≡ c → v.labels q ≡ kept k (if c then x.label else w.labels q)
-    go q true e = f.labels q ∙ ap (λ n. kept k (w.labels n)) (sym ((bytes_eq-Decides name q).0 e)) ∙ apart.before ∙ sym apart.after
+    go q true e = f.labels q ∙ ap (λ n. kept k (w.labels n)) (sym ((bytes_eq-Decides name q).0 e)) ∙ apart.before
+        ∙ sym apart.after
     go q false e = f.labels q
 
 -- ---- lines of the origin
@@ -132,7 +154,8 @@ record Alike (k : ManagerKey) (x y : Stepped) : Type 0 where
 at_key : (k key : ManagerKey) (w v : Realm) → is_key k key ≡ true → v k ≡ w k → v key ≡ w key
 at_key k key w v e same = ap v (same_key k key e) ∙ same ∙ ap w (sym (same_key k key e))
 
-own_realm : (k key : ManagerKey) (w v : Realm) (o p : Origin) → is_key k key ≡ true → p ≡ o → with_origin v key p k ≡ with_origin w key o k
+own_realm : (k key : ManagerKey) (w v : Realm) (o p : Origin) → is_key k key ≡ true → p ≡ o
+    → with_origin v key p k ≡ with_origin w key o k
 own_realm k key w v o p e same = ap (λ c. if c then p else v k) e ∙ same ∙ sym (ap (λ c. if c then o else w k) e)
 
 own_agent : (k key : ManagerKey) (n : ℕ) (s : session.State) (c : Bool) → is_key k key ≡ true
@@ -165,12 +188,14 @@ opened_alike k w v id kind (Ok None) same e = absurd cc
 opened_alike k w v id kind (Ok (Some key)) same e =
     let here = at_key k key w v e same in
     record {
-      reply = ap (λ o. let r : WireReply = record { id = Some id; notices = []; outcome = (admitted o kind).outcome } in r) here;
+      reply = ap (λ o. let r : WireReply = record { id = Some id; notices = []; outcome = (admitted o kind).outcome }
+          in r) here;
       label = ap (λ o. label_of key (admitted o kind).outcome) here ∙ own_entry k key (admitted (w key) kind).outcome e;
       realm = own_realm k key w v _ _ e (ap (λ o. (admitted o kind).origin) here);
     }
 
-unopened_alike : (k : ManagerKey) (w v : Realm) (id : ℕ) (b : Body) → v k ≡ w k → opens_at k b ≡ true → Alike k (from_unopened w id b) (from_unopened v id b)
+unopened_alike : (k : ManagerKey) (w v : Realm) (id : ℕ) (b : Body) → v k ≡ w k → opens_at k b ≡ true
+    → Alike k (from_unopened w id b) (from_unopened v id b)
 unopened_alike k w v id (body.Enter url kind bucket) same e = opened_alike k w v id kind (manager_of url bucket) same e
 unopened_alike k w v id body.Signal same e = absurd cc
 unopened_alike k w v id (body.Request ask) same e = absurd cc
@@ -181,21 +206,26 @@ unopened_alike k w v id body.Query same e = absurd cc
 unopened_alike k w v id body.Poll same e = absurd cc
 unopened_alike k w v id body.Close same e = absurd cc
 
-label_alike : (k : ManagerKey) (w v : Realm) (label : Option Label) (id : ℕ) (b : Body) → v k ≡ w k → is_at k label b ≡ true
+label_alike : (k : ManagerKey) (w v : Realm) (label : Option Label) (id : ℕ) (b : Body) → v k ≡ w k
+    → is_at k label b ≡ true
     → Alike k (from_label w label id b) (from_label v (kept k label) id b)
 label_alike k w v None id b same e = unopened_alike k w v id b same e
 label_alike k w v (Some (Opaque kind active)) id b same e = absurd cc
 label_alike k w v (Some (Agent key n s)) id b same e =
     let here = at_key k key w v e same in
-    subst (λ label. Alike k (from_label w (Some (Agent key n s)) id b) (from_label v label id b)) (own_agent k key n s false e)
+    subst (λ label. Alike k (from_label w (Some (Agent key n s)) id b) (from_label v label id b))
+    (own_agent k key n s false e)
     (record {
       reply = ap (λ o. (serve_result o n s id b).reply) here;
-      label = ap (λ o. after_closing (serve_result o n s id b).outcome (Agent key n (serve_result o n s id b).session)) here
-          ∙ own_agent k key n (serve_result (w key) n s id b).session (closes (serve_result (w key) n s id b).outcome) e;
+      label = ap (λ o. after_closing (serve_result o n s id b).outcome (Agent key n (serve_result o n s id b).session))
+          here
+          ∙ own_agent k key n (serve_result (w key) n s id b).session (closes (serve_result (w key) n s id b).outcome)
+          e;
       realm = own_realm k key w v _ _ e (ap (λ o. (serve_result o n s id b).origin) here);
     })
 
-both_followed : (k : ManagerKey) (w v : World) (name : List ℕ) (x y : Stepped) → Follows k w v → Alike k x y → Follows k (stepping w name x).world (stepping v name y).world
+both_followed : (k : ManagerKey) (w v : World) (name : List ℕ) (x y : Stepped) → Follows k w v → Alike k x y
+    → Follows k (stepping w name x).world (stepping v name y).world
 both_followed k w v name x y f alike = record { origin = alike.realm; labels = λ q. go q (bytes_eq name q) }
   where
     go : (q : List ℕ) (c : Bool) → (if c then y.label else v.labels q) ≡ kept k (if c then x.label else w.labels q)
@@ -204,26 +234,34 @@ both_followed k w v name x y f alike = record { origin = alike.realm; labels = �
 
 -- ---- lines
 
-other_line : (k : ManagerKey) (w v : World) (line : Line) → Follows k w v → says_at k w line ≡ false → Follows k (answered w line).world v
+other_line : (k : ManagerKey) (w v : World) (line : Line) → Follows k w v → says_at k w line ≡ false
+    → Follows k (answered w line).world v
 other_line k w v (Bad id fault) f e = unfold answered in f
-other_line k w v (Good name m) f e = unfold answered in stays_followed k w v name _ f (label_apart k w.realm (w.labels name) m.id m.body e)
+other_line k w v (Good name m) f e = unfold answered in stays_followed k w v name _ f
+    (label_apart k w.realm (w.labels name) m.id m.body e)
 
-own_good : (k : ManagerKey) (w v : World) (name : List ℕ) (m : Message) → Follows k w v → is_at k (w.labels name) m.body ≡ true
+own_good : (k : ManagerKey) (w v : World) (name : List ℕ) (m : Message) → Follows k w v
+    → is_at k (w.labels name) m.body ≡ true
     → Alike k (from_label w.realm (w.labels name) m.id m.body) (from_label v.realm (v.labels name) m.id m.body)
 own_good k w v name m f e =
-    subst (λ label. Alike k (from_label w.realm (w.labels name) m.id m.body) (from_label v.realm label m.id m.body)) (sym (f.labels name))
+    subst (λ label. Alike k (from_label w.realm (w.labels name) m.id m.body) (from_label v.realm label m.id m.body))
+    (sym (f.labels name))
     (label_alike k w.realm v.realm (w.labels name) m.id m.body f.origin e)
 
-own_reply : (k : ManagerKey) (w v : World) (line : Line) → Follows k w v → says_at k w line ≡ true → (answered v line).reply ≡ (answered w line).reply
+own_reply : (k : ManagerKey) (w v : World) (line : Line) → Follows k w v → says_at k w line ≡ true
+    → (answered v line).reply ≡ (answered w line).reply
 own_reply k w v (Bad id fault) f e = absurd cc
 own_reply k w v (Good name m) f e = unfold answered in (own_good k w v name m f e).reply
 
-own_follows : (k : ManagerKey) (w v : World) (line : Line) → Follows k w v → says_at k w line ≡ true → Follows k (answered w line).world (answered v line).world
+own_follows : (k : ManagerKey) (w v : World) (line : Line) → Follows k w v → says_at k w line ≡ true
+    → Follows k (answered w line).world (answered v line).world
 own_follows k w v (Bad id fault) f e = absurd cc
 own_follows k w v (Good name m) f e =
-    unfold answered in both_followed k w v name (from_label w.realm (w.labels name) m.id m.body) (from_label v.realm (v.labels name) m.id m.body) f (own_good k w v name m f e)
+    unfold answered in both_followed k w v name (from_label w.realm (w.labels name) m.id m.body)
+    (from_label v.realm (v.labels name) m.id m.body) f (own_good k w v name m f e)
 
-run_alone : (k : ManagerKey) (w v : World) (script : List (List ℕ)) → Follows k w v → replies_to k w script ≡ replies v (lines_of k w script)
+run_alone : (k : ManagerKey) (w v : World) (script : List (List ℕ)) → Follows k w v
+    → replies_to k w script ≡ replies v (lines_of k w script)
 run_alone k w v [] f = refl
 run_alone k w v (line ∷ lines) f = go (is_of k w line) refl (λ w v f. run_alone k w v lines f)
   where
@@ -232,11 +270,15 @@ run_alone k w v (line ∷ lines) f = go (is_of k w line) refl (λ w v f. run_alo
         → (if c then reply w line ∷ replies_to k (next w line) lines else replies_to k (next w line) lines)
         ≡ replies v (if c then line ∷ lines_of k (next w line) lines else lines_of k (next w line) lines)
     go true e rest =
-        ap₂ (λ (r : List ℕ) (rs : List (List ℕ)). r ∷ rs) (unfold reply in ap reply_text (sym (own_reply k w v (line_reading line) f e))) (rest (next w line) (next v line) (unfold next in own_follows k w v (line_reading line) f e))
+        ap₂ (λ (r : List ℕ) (rs : List (List ℕ)). r ∷ rs) (unfold reply
+        in ap reply_text (sym (own_reply k w v (line_reading line) f e)))
+        (rest (next w line) (next v line) (unfold next in own_follows k w v (line_reading line) f e))
     go false e rest = rest (next w line) v (unfold next in other_line k w v (line_reading line) f e)
 
-pub alone : (k : ManagerKey) (script : List (List ℕ)) → replies_to k opening script ≡ replies opening (lines_of k opening script)
+pub alone : (k : ManagerKey) (script : List (List ℕ)) → replies_to k opening script
+    ≡ replies opening (lines_of k opening script)
 alone k script = run_alone k opening opening script (record { origin = refl; labels = λ name. refl })
 
-pub isolated : (k : ManagerKey) (one other : List (List ℕ)) → lines_of k opening one ≡ lines_of k opening other → replies_to k opening one ≡ replies_to k opening other
+pub isolated : (k : ManagerKey) (one other : List (List ℕ)) → lines_of k opening one ≡ lines_of k opening other
+    → replies_to k opening one ≡ replies_to k opening other
 isolated k one other same = alone k one ∙ ap (replies opening) same ∙ sym (alone k other)

@@ -26,72 +26,97 @@ use Rattle.wl_types.specs.declared.infos.Snapshot.{Snapshot}
 use Rattle.wl_types.specs.declared.memory.Memory as memory
 
 -- what is not recorded leaves the number of entries
-pub unrecorded : (answer : Reply) (entries : Option ℕ) → is_recorded answer ≡ false → with_entry answer entries ≡ entries
+pub unrecorded : (answer : Reply) (entries : Option ℕ) → is_recorded answer ≡ false
+    → with_entry answer entries ≡ entries
 unrecorded answer None quiet = refl
 unrecorded answer (Some count) quiet = ap (λ recorded. Some (if recorded then count + 1 else count)) quiet
 
 -- what was accepted, where the outcome is that of the machine's reply
-pub accepted : (old : State) (before : Option ℕ) (agent : ℕ) (b : Body) (c : Command) (new : State) (entries : Option ℕ) (answer : Reply) (changes : List Change)
+pub accepted : (old : State) (before : Option ℕ) (agent : ℕ) (b : Body) (c : Command) (new : State) (entries : Option ℕ)
+    (answer : Reply) (changes : List Change)
     → machine.Gives old c new answer changes → entries ≡ with_entry answer before → (requests : List Request)
-    → act_result (core new entries) (with_changes changes (after_answer agent (outcome_of b answer) requests)) (outcome_of b answer) ≡ stepped (origin (core old before) requests) agent b c
+    → act_result (core new entries) (with_changes changes (after_answer agent (outcome_of b answer) requests))
+    (outcome_of b answer) ≡ stepped (origin (core old before) requests) agent b c
 accepted old before agent b c new entries answer changes gives recorded requests =
-    ap (λ e. act_result (core new e) (with_changes changes (after_answer agent (outcome_of b answer) requests)) (outcome_of b answer)) recorded
+    ap (λ e. act_result (core new e) (with_changes changes (after_answer agent (outcome_of b answer) requests))
+    (outcome_of b answer)) recorded
     ∙ unfold stepped in ap (noting (origin (core old before) requests) agent b) (sym gives)
 
 -- what was refused
-pub refused : (old : State) (before : Option ℕ) (agent : ℕ) (b : Body) (c : Command) (new : State) (entries : Option ℕ) (r : Refusal)
+pub refused : (old : State) (before : Option ℕ) (agent : ℕ) (b : Body) (c : Command) (new : State) (entries : Option ℕ)
+    (r : Refusal)
     → r ≡ refused_or_memory (refusal old c) → new ≡ old → entries ≡ before
-    → IsRefused (λ requests. stepped (origin (core old before) requests) agent b c) (core old before) (core new entries) r
+    → IsRefused (λ requests. stepped (origin (core old before) requests) agent b c) (core old before) (core new entries)
+    r
 refused old before agent b c new entries r first same kept = record {
   same = ap₂ core same kept;
-  done = λ not_memory requests. unfold stepped in ap (λ s. act_result (core s entries) requests (outcome.Refused r)) same
-      ∙ ap (λ e. act_result (core old e) requests (outcome.Refused r)) (kept ∙ sym (unrecorded (reply.Refused r) before refl))
+  done = λ not_memory requests. unfold stepped in ap (λ s. act_result (core s entries) requests (outcome.Refused r))
+      same
+      ∙ ap (λ e. act_result (core old e) requests (outcome.Refused r))
+      (kept ∙ sym (unrecorded (reply.Refused r) before refl))
       ∙ ap (noting (origin (core old before) requests) agent b) (sym (by_refusal not_memory (refusal old c) first));
 }
   where
-    by_refusal : (r ≡ Memory → ⊥) → (found : Option Refusal) → r ≡ refused_or_memory found → machine.unless_refused found old c ≡ machine.no_changes old (reply.Refused r)
+    by_refusal : (r ≡ Memory → ⊥) → (found : Option Refusal) → r ≡ refused_or_memory found
+        → machine.unless_refused found old c ≡ machine.no_changes old (reply.Refused r)
     by_refusal not_memory (Some other) e = ap (λ r. machine.no_changes old (reply.Refused r)) (sym e)
     by_refusal not_memory None e = absurd (not_memory e)
 
 -- a refusal that is handed on
-pub handed_on : (old new : Core) (agent : ℕ) (b : Body) (changes : List Change) (result : Result Outcome Refusal) (r : Refusal)
-    → IsErrAnd result (λ e. e ≡ r) → IsRefused (λ requests. act (origin old requests) agent b) old new r → Operates old agent b new changes result
+pub handed_on : (old new : Core) (agent : ℕ) (b : Body) (changes : List Change) (result : Result Outcome Refusal)
+    (r : Refusal)
+    → IsErrAnd result (λ e. e ≡ r) → IsRefused (λ requests. act (origin old requests) agent b) old new r
+    → Operates old agent b new changes result
 handed_on old new agent b changes (Ok o) r is refusal = absurd is
-handed_on old new agent b changes (Err e) r is refusal = subst (IsRefused (λ requests. act (origin old requests) agent b) old new) (sym is) refusal
+handed_on old new agent b changes (Err e) r is refusal = subst
+    (IsRefused (λ requests. act (origin old requests) agent b) old new) (sym is) refusal
 
 -- the outcome of what was refused
-pub refusal_is : (acts : List Request → Acted) (old new : Core) (r : Refusal) (result : Result Outcome memory.Memory) (requests : List Request)
+pub refusal_is : (acts : List Request → Acted) (old new : Core) (r : Refusal) (result : Result Outcome memory.Memory)
+    (requests : List Request)
     → IsRefused acts old new r → AnswersRefusal r result → IfOk result (λ o. act_result new requests o ≡ acts requests)
 refusal_is acts old new r (Err e) requests refusal told = tt
-refusal_is acts old new r (Ok o) requests refusal told = ap (act_result new requests) told.is ∙ refusal.done told.not_memory requests
+refusal_is acts old new r (Ok o) requests refusal told = ap (act_result new requests) told.is
+    ∙ refusal.done told.not_memory requests
 
 pub or_memory : (found : Option Refusal) (r : Refusal) → found ≡ Some r → r ≡ refused_or_memory found
 or_memory found r e = sym (ap refused_or_memory e)
 
 -- the outcome of what was done, with the requests that its changes found
-pub done_is : (acts : List Request → Acted) (new : Core) (changes : List Change) (agent : ℕ) (o : Outcome) (was requests : List Request)
-    → ((requests : List Request) → act_result new (with_changes changes (after_answer agent o requests)) o ≡ acts requests) → requests ≡ with_changes changes (after_answer agent o was)
+pub done_is : (acts : List Request → Acted) (new : Core) (changes : List Change) (agent : ℕ) (o : Outcome)
+    (was requests : List Request)
+    → ((requests : List Request) → act_result new (with_changes changes (after_answer agent o requests)) o
+    ≡ acts requests) → requests ≡ with_changes changes (after_answer agent o was)
     → act_result new requests o ≡ acts was
 done_is acts new changes agent o was requests done is = ap (λ requests. act_result new requests o) is ∙ done was
 
 -- a query changes nothing
-pub queried : (old : State) (before : Option ℕ) (agent : ℕ) (seen : Snapshot) → machine.Gives old (command.Query agent) old (reply.Seen seen) [] → (requests : List Request)
-    → act_result (core old before) requests (outcome.Seen seen) ≡ stepped (origin (core old before) requests) agent body.Query (command.Query agent)
-queried old before agent seen gives = accepted old before agent body.Query (command.Query agent) old before (reply.Seen seen) [] gives (sym (unrecorded (reply.Seen seen) before refl))
+pub queried : (old : State) (before : Option ℕ) (agent : ℕ) (seen : Snapshot)
+    → machine.Gives old (command.Query agent) old (reply.Seen seen) [] → (requests : List Request)
+    → act_result (core old before) requests (outcome.Seen seen)
+    ≡ stepped (origin (core old before) requests) agent body.Query (command.Query agent)
+queried old before agent seen gives = accepted old before agent body.Query (command.Query agent) old before
+    (reply.Seen seen) [] gives (sym (unrecorded (reply.Seen seen) before refl))
 
 -- an agent that enters changes no request
-pub label_of : (old : State) (before : Option ℕ) (kind : Kind) (new : State) (entries : Option ℕ) (agent : ℕ) (changes : List Change)
-    → machine.Gives old (command.Enter kind) new (reply.Agent agent) changes → entries ≡ with_entry (reply.Agent agent) before → (requests : List Request)
-    → act_result (core new entries) requests (outcome.Client (Some agent)) ≡ admitted (origin (core old before) requests) kind
+pub label_of : (old : State) (before : Option ℕ) (kind : Kind) (new : State) (entries : Option ℕ) (agent : ℕ)
+    (changes : List Change)
+    → machine.Gives old (command.Enter kind) new (reply.Agent agent) changes
+    → entries ≡ with_entry (reply.Agent agent) before → (requests : List Request)
+    → act_result (core new entries) requests (outcome.Client (Some agent))
+    ≡ admitted (origin (core old before) requests) kind
 label_of old before kind new entries agent changes gives recorded requests =
-    ap (λ changes. act_result (core new entries) (with_changes changes requests) (outcome.Client (Some agent))) (sym (by_refusal (refusal old (command.Enter kind))) ∙ ap (λ (o : machine.StepResult). o.changes) gives)
-    ∙ accepted old before 0 (body.Enter [] kind []) (command.Enter kind) new entries (reply.Agent agent) changes gives recorded requests
+    ap (λ changes. act_result (core new entries) (with_changes changes requests) (outcome.Client (Some agent)))
+    (sym (by_refusal (refusal old (command.Enter kind))) ∙ ap (λ (o : machine.StepResult). o.changes) gives)
+    ∙ accepted old before 0 (body.Enter [] kind []) (command.Enter kind) new entries (reply.Agent agent) changes gives
+    recorded requests
   where
     by_refusal : (found : Option Refusal) → (machine.unless_refused found old (command.Enter kind)).changes ≡ []
     by_refusal (Some r) = refl
     by_refusal None = refl
 
 -- the manager that was left
-pub origin_in : (result : Result Outcome memory.Memory) (origin : Origin) (a : Acted) → IfOk result (λ o. act_result_of origin o ≡ a) → IfOk result (λ o. origin ≡ a.origin)
+pub origin_in : (result : Result Outcome memory.Memory) (origin : Origin) (a : Acted)
+    → IfOk result (λ o. act_result_of origin o ≡ a) → IfOk result (λ o. origin ≡ a.origin)
 origin_in (Ok o) origin a is = ap (λ (x : Acted). x.origin) is
 origin_in (Err e) origin a is = tt

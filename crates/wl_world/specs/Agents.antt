@@ -16,13 +16,19 @@ pub record Served : Type 0 where
   pub reply : WireReply
 
 abbrev pub answering : Origin → session.State → ℕ → Outcome → List RequestPhase → Served
-answering o s id outcome observed = record { origin = o; session = session.after s outcome observed; outcome = outcome; reply = session.reply s (Some id) outcome observed }
+answering o s id outcome observed = record {
+  origin = o;
+  session = session.after s outcome observed;
+  outcome = outcome;
+  reply = session.reply s (Some id) outcome observed;
+}
 
 -- A reply with notices reports the agent's changed requests. Any other takes and reports nothing.
 abbrev pub after_reply : Origin → ℕ → session.State → ℕ → Outcome → Served
 after_reply o agent s id outcome =
     if session.carries_notices outcome
-    then answering (origin_after_collect agent (changed_requests agent o.requests) o) s id outcome (map as_taken (changed_requests agent o.requests))
+    then answering (origin_after_collect agent (changed_requests agent o.requests) o) s id outcome
+    (map as_taken (changed_requests agent o.requests))
     else answering o s id outcome []
 
 -- the operation, and then the reply

@@ -25,4 +25,5 @@ pub record AreCoresOf (entries : Option ℕ) (world : World) (cores : List (Mana
 
 -- what is seen of the listed cores
 abbrev pub core_list : {C : Type 0} → (C → State) → (C → Option ℕ) → List (ManagerKey × C) → List (ManagerKey × Core)
-core_list state entries cores = map (λ entry. (entry.0, record { state = state entry.1; entries = entries entry.1 })) cores
+core_list state entries cores = map (λ entry. (entry.0, record { state = state entry.1; entries = entries entry.1 }))
+    cores

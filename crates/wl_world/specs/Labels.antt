@@ -70,7 +70,11 @@ label_of key (outcome.Client (Some n)) = Some (Agent key n (record { is_open = t
 label_of key o = None
 
 abbrev pub at_new_agent : Realm → ℕ → ManagerKey → Acted → Stepped
-at_new_agent realm id key a = record { realm = with_origin realm key a.origin; label = label_of key a.outcome; reply = plain (Some id) a.outcome }
+at_new_agent realm id key a = record {
+  realm = with_origin realm key a.origin;
+  label = label_of key a.outcome;
+  reply = plain (Some id) a.outcome;
+}
 
 -- a text gives no third fault
 abbrev pub fault_outcome : ManagerFault → Outcome
@@ -80,7 +84,11 @@ fault_outcome fault.Memory = outcome.BadUrl
 
 abbrev pub opened : Realm → ℕ → Kind → Result (Option ManagerKey) ManagerFault → Stepped
 opened realm id kind (Err wrong) = stays_unopened realm id (fault_outcome wrong)
-opened realm id kind (Ok None) = record { realm = realm; label = Some (Opaque kind true); reply = plain (Some id) (outcome.Client None) }
+opened realm id kind (Ok None) = record {
+  realm = realm;
+  label = Some (Opaque kind true);
+  reply = plain (Some id) (outcome.Client None);
+}
 opened realm id kind (Ok (Some key)) = at_new_agent realm id key (admitted (realm key) kind)
 
 abbrev pub from_unopened : Realm → ℕ → Body → Stepped
@@ -90,7 +98,11 @@ from_unopened realm id b = stays_unopened realm id outcome.NotOpen
 -- ---- agents of managers
 
 abbrev pub at_key : Realm → ManagerKey → ℕ → Served → Stepped
-at_key realm key n x = record { realm = with_origin realm key x.origin; label = after_closing x.outcome (Agent key n x.session); reply = x.reply }
+at_key realm key n x = record {
+  realm = with_origin realm key x.origin;
+  label = after_closing x.outcome (Agent key n x.session);
+  reply = x.reply;
+}
 
 abbrev pub from_agent : Realm → ManagerKey → ℕ → session.State → ℕ → Body → Stepped
 from_agent realm key n s id b = at_key realm key n (serve_result (realm key) n s id b)
@@ -103,7 +115,8 @@ opaque_outcome kind active body.Signal = outcome.Refused refusal.Security
 opaque_outcome kind active (body.Request ask) = outcome.Refused (no_storage kind active)
 opaque_outcome kind active (body.Release n) = outcome.Release NotHeld
 opaque_outcome kind active (body.Abort n reason) = outcome.Refused refusal.NoSuchSignal
-opaque_outcome kind active (body.Active b) = if is_window kind then outcome.Active b else outcome.Refused refusal.NotAWindow
+opaque_outcome kind active (body.Active b) = if is_window kind then outcome.Active b
+    else outcome.Refused refusal.NotAWindow
 opaque_outcome kind active body.Query = outcome.Refused (no_storage kind active)
 opaque_outcome kind active body.Poll = outcome.Polled
 opaque_outcome kind active body.Close = outcome.Closed

@@ -1,10 +1,12 @@
--- The manager of one bucket of an origin, and what an agent's operation makes of it (own; the operations are Web Locks').
+-- The manager of one bucket of an origin, and what an agent's operation makes of it (own; the operations are Web
+-- Locks').
 use Rattle.std.specs.Prelude.{ℕ, List, [], Option, Some, if◌then◌else◌, Bool, true, false}
 use Rattle.std.specs.List.{fold}
 use Rattle.wl_types.specs.declared.phases.Numbers.{Numbers}
 use Rattle.wl_types.specs.declared.words.Kind.{Kind}
 use Rattle.wl_types.specs.declared.phases.Phase.{Phase}
-use Rattle.wl_types.specs.declared.phases.Phase.TheVariants.{Pending, Granted, Taken, Unavailable, Aborted, Released, Stolen}
+use Rattle.wl_types.specs.declared.phases.Phase.TheVariants.{Pending, Granted, Taken, Unavailable, Aborted, Released}
+use Rattle.wl_types.specs.declared.phases.Phase.TheVariants.{Stolen}
 use Rattle.wl_machine.specs.State.{State, opening}
 use Rattle.wl_machine.specs.Recorded.{with_entry}
 use Rattle.wl_machine.specs.Step as machine
@@ -65,7 +67,11 @@ after core gives = record { state = gives.state; entries = with_entry gives.repl
 -- what the machine gave is noted
 abbrev pub noting : Origin → ℕ → Body → machine.StepResult → Acted
 noting o agent b gives = record {
-  origin = record { core = after o.core gives; requests = with_changes gives.changes (after_answer agent (outcome_of b gives.reply) o.requests) };
+  origin = record {
+    core = after o.core gives;
+    requests = with_changes gives.changes
+        (after_answer agent (outcome_of b gives.reply) o.requests);
+  };
   outcome = outcome_of b gives.reply;
 }
 
@@ -73,8 +79,8 @@ noting o agent b gives = record {
 unfoldable pub stepped : Origin → ℕ → Body → Command → Acted
 stepped o agent b c = noting o agent b (machine.step o.core.state c)
 
--- A new agent. The machine numbers it, so 0 stands in for its number, and sees nothing of what it opened, so empty texts stand
--- in for that.
+-- A new agent. The machine numbers it, so 0 stands in for its number, and sees nothing of what it opened, so empty
+-- texts stand in for that.
 abbrev pub admitted : Origin → Kind → Acted
 admitted o kind = stepped o 0 (body.Enter [] kind []) (command.Enter kind)
 
@@ -101,11 +107,15 @@ is_granted Stolen = false
 
 -- a lock that is granted is taken, as its agent is told of it now
 abbrev pub take_observed : Core → RequestPhase → Core
-take_observed core observation = if is_granted observation.1 then after core (machine.step core.state (command.Take observation.0)) else core
+take_observed core observation = if is_granted observation.1
+    then after core (machine.step core.state (command.Take observation.0)) else core
 
 abbrev pub as_taken : RequestPhase → RequestPhase
 as_taken observation = (observation.0, (if is_granted observation.1 then Taken else observation.1))
 
 -- The agent's changed requests are collected: each granted lock among them is taken, in order of number.
 unfoldable pub origin_after_collect : ℕ → List RequestPhase → Origin → Origin
-origin_after_collect agent changed o = record { core = fold take_observed o.core changed; requests = after_collect agent o.requests }
+origin_after_collect agent changed o = record {
+  core = fold take_observed o.core changed;
+  requests = after_collect agent o.requests;
+}

@@ -1,5 +1,7 @@
--- The requests of a manager whose ends were not reported to their agents, each with what its agent is to learn of it (own).
-use Rattle.std.specs.Prelude.{ℕ, Bool, false, not, ◌&&◌, ◌==◌, ◌+◌, List, [], ◌∷◌, ◌++◌, map, filter, Option, Some, None, if◌then◌else◌}
+-- The requests of a manager whose ends were not reported to their agents, each with what its agent is to learn of it
+-- (own).
+use Rattle.std.specs.Prelude.{ℕ, Bool, false, not, ◌&&◌, ◌==◌, ◌+◌, List, [], ◌∷◌, ◌++◌, map, filter, Option, Some}
+use Rattle.std.specs.Prelude.{None, if◌then◌else◌}
 use Rattle.std.specs.List.{fold, flat_map}
 use Rattle.wl_types.specs.declared.phases.Phase.{Phase}
 use Rattle.wl_types.specs.declared.phases.Phase.TheVariants.{Pending}
@@ -12,7 +14,8 @@ use Rattle.wl_world.specs.declared.requests.Request.{Request}
 
 -- a change comes to the request that it names
 abbrev pub with_change : Change → Request → Request
-with_change change request = if request.number == change.id then record request { changed = Some change.phase } else request
+with_change change request = if request.number == change.id then record request { changed = Some change.phase }
+    else request
 
 -- each change finds its request, one after another
 abbrev pub with_changes : List Change → List Request → List Request
@@ -51,7 +54,8 @@ observation_of number (Some phase) = (number, phase) ∷ []
 
 -- the changed requests of an agent, in order of number
 abbrev pub changed_requests : ℕ → List Request → List RequestPhase
-changed_requests agent requests = flat_map (λ request. observation_of request.number request.changed) (filter (λ request. request.agent == agent) requests)
+changed_requests agent requests = flat_map (λ request. observation_of request.number request.changed)
+    (filter (λ request. request.agent == agent) requests)
 
 abbrev pub is_over : Option Phase → Bool
 is_over None = false

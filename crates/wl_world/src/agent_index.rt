@@ -7,7 +7,8 @@ ghost use Rattle.std.specs.Map.{keys_of, values_of};
 ghost use Rattle.std.specs.Ordering.{nat_cmp};
 ghost use Rattle.wl_world.specs.Requests.{changed_requests, with_changes, after_collect, waiting, with_change, without};
 ghost use Rattle.wl_world.specs.inner.Requests.{IsRising};
-ghost use Rattle.wl_world.specs.inner.AgentIndex.{AreObserved, IsCovered, IsEach, IsEachAt, IsEnrolled, IsIndex, coming, found, close_one, observed_of, collect_one};
+ghost use Rattle.wl_world.specs.inner.AgentIndex.{AreObserved, IsCovered, IsEach, IsEachAt, IsEnrolled, IsIndex};
+ghost use Rattle.wl_world.specs.inner.AgentIndex.{coming, found, close_one, observed_of, collect_one};
 
 use crate::requests::Request;
 use std::alloc::Global;
@@ -38,7 +39,8 @@ fn retain_live(live: &NumberMap<Request>, own: &mut Vec<u64>)
 /// Numbers that have left are taken off the list once they are most of it. So its length follows what is live, and a
 /// request costs two look-ups here at most, on average.
 fn clean(live: &NumberMap<Request>, agent_requests: &mut AgentRequests)
-    ensures own { (number : ℕ) → IsSome (found number live.now.entries) → Contains agent_requests.old.own.items number → Contains agent_requests.new.own.items number }
+    ensures own { (number : ℕ) → IsSome (found number live.now.entries) → Contains agent_requests.old.own.items number
+        → Contains agent_requests.new.own.items number }
     ensures inbox { agent_requests.new.inbox.items ≡ agent_requests.old.inbox.items }
 {
     if agent_requests.own.len() / 2 > agent_requests.count.saturating_add(SPARE) {
@@ -70,8 +72,10 @@ fn enlist(
     agent: u64,
     number: u64,
 ) -> Result<(), Memory>
-    ensures mine { OnOk result (IsEnrolled live.now.entries (found agent agent_index.old.entries) (found agent agent_index.new.entries) number) }
-    ensures others { OnOk result ((other : ℕ) → (other ≡ agent → ⊥) → found other agent_index.new.entries ≡ found other agent_index.old.entries) }
+    ensures mine { OnOk result (IsEnrolled live.now.entries (found agent agent_index.old.entries)
+        (found agent agent_index.new.entries) number) }
+    ensures others { OnOk result ((other : ℕ) → (other ≡ agent → ⊥)
+        → found other agent_index.new.entries ≡ found other agent_index.old.entries) }
 {
     if let Some(agent_requests) = agent_index.get_mut(agent) {
         return enroll(live, agent_requests, number);
@@ -94,7 +98,8 @@ fn note(
 ) -> Result<(), Memory>
     requires { IsIndex live.old.entries agent_index.old.entries }
     ensures index { OnOk result (IsIndex live.new.entries agent_index.new.entries) }
-    ensures with_changes { OnOk result (values_of live.new.entries ≡ map (with_change change) (values_of live.old.entries)) }
+    ensures with_changes { OnOk result (values_of live.new.entries
+        ≡ map (with_change change) (values_of live.old.entries)) }
 {
     let Some(request) = live.get_mut(change.id) else {
         return Ok(());
@@ -122,7 +127,8 @@ pub(crate) fn note_all(
 ) -> Result<(), Memory>
     requires { IsIndex live.old.entries agent_index.old.entries }
     ensures index { OnOk result (IsIndex live.new.entries agent_index.new.entries) }
-    ensures with_changes { OnOk result (values_of live.new.entries ≡ with_changes changes.now (values_of live.old.entries)) }
+    ensures with_changes { OnOk result (values_of live.new.entries
+        ≡ with_changes changes.now (values_of live.old.entries)) }
 {
     for change in changes {
         note(live, agent_index, *change)?;
@@ -141,7 +147,8 @@ fn note_others(
     requires greatest { IsRising 0 number (values_of live.old.entries) }
     ensures index { OnOk result (IsIndex live.new.entries agent_index.new.entries) }
     ensures greatest { OnOk result (IsRising 0 number (values_of live.new.entries)) }
-    ensures with_changes { IfOk result (λ phase. (agent : ℕ) → values_of live.new.entries ++ coming agent number phase ∷ []
+    ensures with_changes { IfOk result (λ phase. (agent : ℕ)
+        → values_of live.new.entries ++ coming agent number phase ∷ []
         ≡ with_changes changes.now (values_of live.old.entries ++ waiting agent number ∷ [])) }
 {
     let mut phase = Phase::Pending;
@@ -167,7 +174,8 @@ pub(crate) fn add(
     requires index { IsIndex live.old.entries agent_index.old.entries }
     requires greatest { IsRising 0 number (values_of live.old.entries) }
     ensures index { OnOk result (IsIndex live.new.entries agent_index.new.entries) }
-    ensures added { OnOk result (values_of live.new.entries ≡ with_changes changes.now (values_of live.old.entries ++ waiting agent number ∷ [])) }
+    ensures added { OnOk result (values_of live.new.entries
+        ≡ with_changes changes.now (values_of live.old.entries ++ waiting agent number ∷ [])) }
 {
     let phase = note_others(live, agent_index, number, changes)?;
     enlist(alloc, live, agent_index, agent, number)?;
@@ -213,7 +221,8 @@ fn collect_at(
 ) -> Result<(), Memory>
     ensures ordered { OnOk result (IsStrictlySortedBy nat_cmp (keys_of live.new.entries)) }
     ensures each { OnOk result (IsEachAt (collect_one agent) number live.old.entries live.new.entries) }
-    ensures observed { OnOk result (observed.new.items ≡ observed.old.items ++ observed_of agent (found number live.old.entries)) }
+    ensures observed { OnOk result (observed.new.items ≡ observed.old.items
+        ++ observed_of agent (found number live.old.entries)) }
 {
     if let Some(request) = live.get_mut(number)
         && request.agent == agent
@@ -241,7 +250,8 @@ fn collect_all(
     requires covered { IsCovered (collect_one agent) live.old.entries numbers.now }
     ensures ordered { OnOk result (IsStrictlySortedBy nat_cmp (keys_of live.new.entries)) }
     ensures each { OnOk result (IsEach (collect_one agent) live.old.entries live.new.entries) }
-    ensures observed { IfOk result (λ observed. observed.items ≡ flat_map (λ number. observed_of agent (found number live.old.entries)) numbers.now) }
+    ensures observed { IfOk result (λ observed. observed.items
+        ≡ flat_map (λ number. observed_of agent (found number live.old.entries)) numbers.now) }
 {
     let mut observed = Vec::new(alloc);
     for number in numbers {
@@ -262,7 +272,8 @@ fn collect_inbox(
     ensures ordered { OnOk result (IsStrictlySortedBy nat_cmp (keys_of live.new.entries)) }
     ensures each { OnOk result (IsEach (collect_one agent) live.old.entries live.new.entries) }
     ensures own { OnOk result (agent_requests.new.own.items ≡ agent_requests.old.own.items) }
-    ensures observed { IfOk result (λ observed. AreObserved agent live.old.entries agent_requests.old.inbox.items observed.items) }
+    ensures observed { IfOk result (λ observed. AreObserved agent live.old.entries agent_requests.old.inbox.items
+        observed.items) }
 {
     arrange(&mut agent_requests.inbox);
     let before = live.len();
@@ -283,7 +294,8 @@ pub(crate) fn collect(
     requires { IsIndex live.old.entries agent_index.old.entries }
     ensures index { OnOk result (IsIndex live.new.entries agent_index.new.entries) }
     ensures changed { IfOk result (λ changed. changed.items ≡ changed_requests agent (values_of live.old.entries)) }
-    ensures after_collect { OnOk result (values_of live.new.entries ≡ after_collect agent (values_of live.old.entries)) }
+    ensures after_collect { OnOk result (values_of live.new.entries
+        ≡ after_collect agent (values_of live.old.entries)) }
 {
     let Some(agent_requests) = agent_index.get_mut(agent) else {
         return Ok(Vec::new(alloc));

@@ -21,7 +21,8 @@ fn list_cores<C: LockCore>(
     realm: HashMap<ManagerKey, Origin<C>>,
 ) -> Result<Vec<(ManagerKey, C)>, Memory>
     ensures distinct { OnOk result (IsDistinct (eq_by_cmp manager_cmp) (keys_of realm.entries)) }
-    ensures cores { IfOk result (λ cores. core_list C.state C.entries cores.items ≡ map (λ entry. (entry.0, entry.1.core)) realm.entries) }
+    ensures cores { IfOk result (λ cores. core_list C.state C.entries cores.items
+        ≡ map (λ entry. (entry.0, entry.1.core)) realm.entries) }
 {
     let mut cores = Vec::with_capacity(alloc, realm.len())?;
     for (key, origin) in realm {
@@ -44,8 +45,10 @@ pub(crate) fn take_cores<C: LockCore>(
     realm: HashMap<ManagerKey, Origin<C>>,
 ) -> Result<Vec<(ManagerKey, C)>, Memory>
     ensures distinct { OnOk result (IsDistinct (eq_by_cmp manager_cmp) (keys_of realm.entries)) }
-    ensures in_order { IfOk result (λ cores. IsStrictlySortedBy manager_cmp (keys_of (core_list C.state C.entries cores.items))) }
-    ensures cores { IfOk result (λ cores. IsPermutation (map (λ entry. (entry.0, entry.1.core)) realm.entries) (core_list C.state C.entries cores.items)) }
+    ensures in_order { IfOk result (λ cores. IsStrictlySortedBy manager_cmp
+        (keys_of (core_list C.state C.entries cores.items))) }
+    ensures cores { IfOk result (λ cores. IsPermutation (map (λ entry. (entry.0, entry.1.core)) realm.entries)
+        (core_list C.state C.entries cores.items)) }
 {
     let mut cores = list_cores(alloc, realm)?;
     sort_cores(&mut cores);

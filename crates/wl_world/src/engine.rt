@@ -68,7 +68,8 @@ impl<S: Copy + Drop, C: LockCore<Seed = S>> Engine<C> {
 
     /// The cores of the managers in which agents opened, in the order of their keys.
     pub fn into_cores(self) -> Result<Vec<(ManagerKey, C)>, Memory>
-        ensures { IfOk result (λ cores. AreCoresOf C.no_entries (world_of C.no_entries self) (core_list C.state C.entries cores.items)) }
+        ensures { IfOk result (λ cores. AreCoresOf C.no_entries (world_of C.no_entries self)
+            (core_list C.state C.entries cores.items)) }
     {
         take_cores(self.supplies.alloc, self.realm)
     }

@@ -3,7 +3,8 @@
 ghost use Rattle.std.specs.Prelude.{◌≡◌, IfOk, OnOk, map};
 ghost use Rattle.std.specs.List.{fold};
 ghost use Rattle.wl_session.specs.LastReported.{IsByNumber};
-ghost use Rattle.wl_world.specs.Origins.{act, admitted, as_taken, is_granted, take_observed, origin_after_collect, unused};
+ghost use Rattle.wl_world.specs.Origins.{act, admitted, as_taken, is_granted, take_observed, origin_after_collect};
+ghost use Rattle.wl_world.specs.Origins.{unused};
 ghost use Rattle.wl_world.specs.Requests.{changed_requests};
 ghost use Rattle.wl_world.specs.inner.Views.{core as seen, act_result_of};
 
@@ -29,7 +30,10 @@ impl<C: LockCore> Model for Origin<C> {
 
     ghost Value = { origins.Origin };
 
-    ghost view = { λ o. record { core = record { state = C.state o.core; entries = C.entries o.core }; requests = o.requests } };
+    ghost view = { λ o. record {
+      core = record { state = C.state o.core; entries = C.entries o.core };
+      requests = o.requests;
+    } };
 
     // Each request is older than the next, and all are older than the one to come.
     ghost invariant = { λ o. IsRising 0 (C.state o.core).next.request o.requests };
@@ -85,8 +89,10 @@ impl<C: LockCore> Origin<C> {
     /// Collects the agent's changed requests, by number: takes each granted lock among them.
     #[tactic(auto, unfolding(crate::specs::Origins::origin_after_collect))]
     pub(crate) fn collect(&mut self, alloc: Global, agent: u64) -> Result<Vec<(u64, Phase)>, Memory>
-        ensures after_collect { OnOk result (self.new ≡ origin_after_collect agent (changed_requests agent self.old.requests) self.old) }
-        ensures taken { IfOk result (λ changed. changed.items ≡ map as_taken (changed_requests agent self.old.requests)) }
+        ensures after_collect { OnOk result (self.new ≡ origin_after_collect agent
+            (changed_requests agent self.old.requests) self.old) }
+        ensures taken { IfOk result (λ changed. changed.items
+            ≡ map as_taken (changed_requests agent self.old.requests)) }
         ensures by_number { IfOk result (λ changed. IsByNumber changed.items) }
     {
         let mut changed = self.requests.collect(alloc, agent)?;
@@ -97,7 +103,8 @@ impl<C: LockCore> Origin<C> {
 
 /// Takes each lock that is granted, in order.
 fn take_all<C: LockCore>(core: &mut C, changed: &mut [(u64, Phase)])
-    ensures core { seen (C.state core.new) (C.entries core.new) ≡ fold take_observed (seen (C.state core.old) (C.entries core.old)) changed.old }
+    ensures core { seen (C.state core.new) (C.entries core.new)
+        ≡ fold take_observed (seen (C.state core.old) (C.entries core.old)) changed.old }
     ensures taken { changed.new ≡ map as_taken changed.old }
 {
     for observation in changed.iter_mut() {
@@ -106,7 +113,8 @@ fn take_all<C: LockCore>(core: &mut C, changed: &mut [(u64, Phase)])
 }
 
 fn take_one<C: LockCore>(core: &mut C, observation: &mut (u64, Phase))
-    ensures core { seen (C.state core.new) (C.entries core.new) ≡ take_observed (seen (C.state core.old) (C.entries core.old)) observation.old }
+    ensures core { seen (C.state core.new) (C.entries core.new)
+        ≡ take_observed (seen (C.state core.old) (C.entries core.old)) observation.old }
     ensures taken { observation.new ≡ as_taken observation.old }
 {
     if is_granted(observation.1) {

@@ -81,7 +81,8 @@ pub(crate) fn open_agent_at<S: Copy + Drop, C: LockCore<Seed = S>>(
     key: &ManagerKey,
     kind: Kind,
 ) -> Result<Outcome, Memory>
-    ensures outcome { IfOk result (λ outcome. outcome ≡ (admitted (realm_of C.no_entries realm.old key.now) kind).outcome) }
+    ensures outcome { IfOk result (λ outcome. outcome ≡ (admitted (realm_of C.no_entries realm.old key.now)
+        kind).outcome) }
     ensures realm { OnOk result (realm_of C.no_entries realm.new ≡ with_origin (realm_of C.no_entries realm.old) key.now
         (admitted (realm_of C.no_entries realm.old key.now) kind).origin) }
 {

@@ -8,7 +8,9 @@ use Rattle.wl_c.specs.Handles.{Asking, Auditing, handle}
 
 abbrev pub has_asked : Ptr → Ptr → ℕ → Ptr → Ptr → Asking → Fml
 has_asked world line n reply reply_length g =
-    fsep (handle g.alloc world g.world) (fsep (lies_at (Array u8 n) g.share line g.line) (fsep (room_at RawPtr reply) (room_at usize reply_length)))
+    fsep (handle g.alloc world g.world) (fsep (lies_at (Array u8 n) g.share line g.line)
+    (fsep (room_at RawPtr reply) (room_at usize reply_length)))
 
 abbrev pub has_audit : Ptr → Ptr → Ptr → Auditing → Fml
-has_audit world reply reply_length g = fsep (handle g.alloc world g.world) (fsep (room_at RawPtr reply) (room_at usize reply_length))
+has_audit world reply reply_length g = fsep (handle g.alloc world g.world)
+    (fsep (room_at RawPtr reply) (room_at usize reply_length))

@@ -29,7 +29,8 @@ seeing view word = view
 -- a load found the word of a phase that all that was seen reaches
 abbrev pub Looked : Step (Unit {0}) → Mine → ℕ → Mine → Type 0
 Looked step before found after =
-    (word : Phase) × (word_of word < word_count) × (found ≡ word_of word) × Precedes before.0 word × (after ≡ (seeing before.0 word, before.1))
+    (word : Phase) × (word_of word < word_count) × (found ≡ word_of word) × Precedes before.0 word
+    × (after ≡ (seeing before.0 word, before.1))
 
 -- the keeper's phase is the one stored
 abbrev pub Settled : Step (Unit {0}) → Mine → ℕ → Mine → Type 0
@@ -44,13 +45,15 @@ taking view word = view
 -- the owner's exchange found the word of a phase; where that is Granted, the owner hadn't taken the lock before
 abbrev pub Exchanged : Step (Unit {0}) → Mine → ℕ → Mine → Type 0
 Exchanged step before found after =
-    (word : Phase) × (word_of word < word_count) × (found ≡ word_of word) × Precedes before.0 word × (word ≡ Granted → took before.0 ≡ false)
+    (word : Phase) × (word_of word < word_count) × (found ≡ word_of word) × Precedes before.0 word
+    × (word ≡ Granted → took before.0 ≡ false)
     × (after ≡ (taking before.0 word, before.1))
 
 -- the keeper's exchange found Granted, and the phase is now the abort that it wrote; or it found Taken, which stays
 abbrev pub TriedAbort : Step (Unit {0}) → Mine → ℕ → Mine → Type 0
 TriedAbort step before found after =
-    ((found ≡ word_of Granted) × ((reason : Reason) × (step.second ≡ word_of (Aborted reason)) × (after ≡ (Keeper (Aborted reason), before.1))))
+    ((found ≡ word_of Granted) × ((reason : Reason) × (step.second ≡ word_of (Aborted reason))
+    × (after ≡ (Keeper (Aborted reason), before.1))))
     ⊎ ((found ≡ word_of Taken) × (after ≡ (Keeper Taken, before.1)))
 
 -- the first seat is the owner's once the keeper's is split off it

@@ -6,4 +6,5 @@ use Rattle.wl_codec.specs.declared.reply.WireReply.{WireReply}
 
 -- the members `id` and `notices`
 abbrev pub id_and_notices : WireReply → List ℕ
-id_and_notices r = codes "\"id\":" ++ (compact_text (whole_value r.id) ++ (codes ",\"notices\":" ++ compact_text (notices_value r.notices)))
+id_and_notices r = codes "\"id\":" ++ (compact_text (whole_value r.id)
+    ++ (codes ",\"notices\":" ++ compact_text (notices_value r.notices)))

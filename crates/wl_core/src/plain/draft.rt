@@ -26,7 +26,14 @@ impl Model for PlainDraft {
 
     ghost Value = { State };
 
-    ghost view = { λ d. record { agents = d.agents.items; signals = d.signals.items; names = d.names.items; held = d.held.items; pending = d.pending.items; next = d.next } };
+    ghost view = { λ d. record {
+      agents = d.agents.items;
+      signals = d.signals.items;
+      names = d.names.items;
+      held = d.held.items;
+      pending = d.pending.items;
+      next = d.next;
+    } };
 }
 
 impl PlainDraft {

@@ -34,13 +34,14 @@ abbrev pub made_by : ℕ → List (ℕ × Signal) → List ℕ
 made_by agent signals = map (λ row. row.number) (signals_of agent (map signal_row signals))
 
 -- numbers rise, and are below the next ones; each agent has the list of its signals
-pub record IsAgentIndex (members : List (ℕ × Agent)) (signals : List (ℕ × Signal)) (next_agent next_signal : ℕ) : Type 0 where
-  pub members_ordered : IsStrictlySortedBy nat_cmp (keys_of members)
-  pub signals_ordered : IsStrictlySortedBy nat_cmp (keys_of signals)
-  pub members_below : AllByRecursion (λ e. e.0 < next_agent) members
-  pub signals_below : AllByRecursion (λ e. e.0 < next_signal) signals
-  pub owners_below : AllByRecursion (λ e. e.1.agent < next_agent) signals
-  pub listed : AllByRecursion (λ e. keys_of e.1.signals.entries ≡ made_by e.0 signals) members
+pub record IsAgentIndex (members : List (ℕ × Agent)) (signals : List (ℕ × Signal)) (next_agent next_signal : ℕ) : Type 0
+  where
+    pub members_ordered : IsStrictlySortedBy nat_cmp (keys_of members)
+    pub signals_ordered : IsStrictlySortedBy nat_cmp (keys_of signals)
+    pub members_below : AllByRecursion (λ e. e.0 < next_agent) members
+    pub signals_below : AllByRecursion (λ e. e.0 < next_signal) signals
+    pub owners_below : AllByRecursion (λ e. e.1.agent < next_agent) signals
+    pub listed : AllByRecursion (λ e. keys_of e.1.signals.entries ≡ made_by e.0 signals) members
 
 -- what is said of the value, if there is one
 abbrev pub at_some : {X : Type 0} → (X → Bool) → Option X → Bool

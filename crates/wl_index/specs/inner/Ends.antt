@@ -1,5 +1,6 @@
 -- What an abort or a termination ends (own).
-use Rattle.std.specs.Prelude.{◌≡◌, ℕ, Bool, true, false, ◌==◌, not, ◌&&◌, List, [], ◌∷◌, ◌++◌, map, filter, Option, Some, None, if◌then◌else◌}
+use Rattle.std.specs.Prelude.{◌≡◌, ℕ, Bool, true, false, ◌==◌, not, ◌&&◌, List, [], ◌∷◌, ◌++◌, map, filter, Option}
+use Rattle.std.specs.Prelude.{Some, None, if◌then◌else◌}
 use Rattle.std.specs.List.{AllByRecursion, Contains}
 use Rattle.std.specs.Map.{lookup}
 use Rattle.std.specs.BTreeMap.{is_at}
@@ -84,4 +85,5 @@ without_owned owner s = record s {
 
 -- those requests, and then those locks
 abbrev pub owned_ends : Owner → Phase → Phase → State → List Change
-owned_ends owner waiting held s = request_ends waiting (filter (ends_request owner) s.pending) ++ lock_ends held (filter (ends_lock owner) s.held)
+owned_ends owner waiting held s = request_ends waiting (filter (ends_request owner) s.pending)
+    ++ lock_ends held (filter (ends_lock owner) s.held)

@@ -1,5 +1,6 @@
 -- Lists in the order of a grant sequence.
-use Rattle.std.proofs.Common.{⊎_elim, ◌≡◌, ℕ, ◌<◌, ◌≤◌, Bool, true, false, cond, if◌then◌else◌, List, [], ◌∷◌, ◌++◌, refl, sym, ap, ◌∙◌, filter, nat_lt, arith}
+use Rattle.std.proofs.Common.{⊎_elim, ◌≡◌, ℕ, ◌<◌, ◌≤◌, Bool, true, false, cond, if◌then◌else◌, List, [], ◌∷◌, ◌++◌}
+use Rattle.std.proofs.Common.{refl, sym, ap, ◌∙◌, filter, nat_lt, arith}
 use Rattle.std.proofs.lemmas.Bool.{ltb-true, ltb-false, lt-ltb, le-ltb, cases_lt}
 use Rattle.std.specs.List.{AllByRecursion}
 
@@ -29,7 +30,9 @@ module _ {X : Type 0} (f : X → ℕ) where
   place_before x e [] less = rw (lt-ltb (f x) (f e) less) refl
   place_before x e (y ∷ ys) less = by (nat_lt (f x) (f y)) (place_before x e ys less)
     where
-      by : (b : Bool) → place x (ys ++ e ∷ []) ≡ place x ys ++ e ∷ [] → (if b then x ∷ y ∷ (ys ++ e ∷ []) else y ∷ place x (ys ++ e ∷ [])) ≡ (if b then x ∷ y ∷ ys else y ∷ place x ys) ++ e ∷ []
+      by : (b : Bool) → place x (ys ++ e ∷ []) ≡ place x ys ++ e ∷ []
+          → (if b then x ∷ y ∷ (ys ++ e ∷ []) else y ∷ place x (ys ++ e ∷ []))
+          ≡ (if b then x ∷ y ∷ ys else y ∷ place x ys) ++ e ∷ []
       by true rest = refl
       by false rest = ap (λ l. y ∷ l) rest
 
@@ -46,7 +49,8 @@ module _ {X : Type 0} (f : X → ℕ) where
   by_grant_seq_all P (x ∷ xs) all = place_all P x (by_grant_seq xs) all.0 (by_grant_seq_all P xs all.1)
 
   -- one with the greatest grant sequence, wherever it comes in, is last
-  pub by_grant_seq_last : (front back : List X) (e : X) → AllByRecursion (λ y. f y < f e) front → AllByRecursion (λ y. f y < f e) back → by_grant_seq (front ++ e ∷ back) ≡ by_grant_seq (front ++ back) ++ e ∷ []
+  pub by_grant_seq_last : (front back : List X) (e : X) → AllByRecursion (λ y. f y < f e) front
+      → AllByRecursion (λ y. f y < f e) back → by_grant_seq (front ++ e ∷ back) ≡ by_grant_seq (front ++ back) ++ e ∷ []
   by_grant_seq_last [] back e fs bs = place_last e (by_grant_seq back) (by_grant_seq_all (λ y. f y < f e) back bs)
   by_grant_seq_last (x ∷ front) back e fs bs =
       ap (place x) (by_grant_seq_last front back e fs.1 bs) ∙ place_before x e (by_grant_seq (front ++ back)) fs.0
@@ -65,7 +69,10 @@ module _ {X : Type 0} (f : X → ℕ) where
   place_rising x (y ∷ ys) rising = by (nat_lt (f x) (f y)) refl (place_rising x ys rising.1)
     where
       by : (b : Bool) → nat_lt (f x) (f y) ≡ b → Rising (place x ys) → Rising (if b then x ∷ y ∷ ys else y ∷ place x ys)
-      by true h rest = let l = ltb-true (f x) (f y) h in ((omega arith, weaker (f x) (f y) ys (omega arith) rising.0), rising)
+      by true h rest = let l = ltb-true (f x) (f y) h in (
+        (omega arith, weaker (f x) (f y) ys (omega arith) rising.0),
+        rising,
+      )
       by false h rest = (place_all (λ z. f y ≤ f z) x ys (ltb-false (f x) (f y) h) rising.0, rest)
 
   pub by_grant_seq_rising : (l : List X) → Rising (by_grant_seq l)
@@ -89,18 +96,23 @@ module _ {X : Type 0} (f : X → ℕ) where
   above a b [] less all = tt
   above a b (y ∷ ys) less all = let h = all.0 in (omega arith, above a b ys less all.1)
 
-  pub filter_place_in : (p : X → Bool) (x : X) (l : List X) → Rising l → p x ≡ true → filter p (place x l) ≡ place x (filter p l)
+  pub filter_place_in : (p : X → Bool) (x : X) (l : List X) → Rising l → p x ≡ true
+      → filter p (place x l) ≡ place x (filter p l)
   filter_place_in p x [] rising passes = rw passes refl
-  filter_place_in p x (y ∷ ys) rising passes = by (nat_lt (f x) (f y)) (p y) refl (filter_place_in p x ys rising.1 passes)
+  filter_place_in p x (y ∷ ys) rising passes = by (nat_lt (f x) (f y)) (p y) refl
+      (filter_place_in p x ys rising.1 passes)
     where
       first : nat_lt (f x) (f y) ≡ true → AllByRecursion (λ z. f x < f z) (y ∷ ys)
       first h = (ltb-true (f x) (f y) h, above (f x) (f y) ys (ltb-true (f x) (f y) h) rising.0)
 
-      by : (b k : Bool) → nat_lt (f x) (f y) ≡ b → filter p (place x ys) ≡ place x (filter p ys) → filter p (if b then x ∷ y ∷ ys else y ∷ place x ys) ≡ place x (cond (p y) (y ∷ filter p ys) (filter p ys))
-      by true k h rest = rw passes (sym (place_first x (filter p (y ∷ ys)) (filter_all p (λ z. f x < f z) (y ∷ ys) (first h))))
+      by : (b k : Bool) → nat_lt (f x) (f y) ≡ b → filter p (place x ys) ≡ place x (filter p ys)
+          → filter p (if b then x ∷ y ∷ ys else y ∷ place x ys) ≡ place x (cond (p y) (y ∷ filter p ys) (filter p ys))
+      by true k h rest = rw passes (sym (place_first x (filter p (y ∷ ys))
+          (filter_all p (λ z. f x < f z) (y ∷ ys) (first h))))
       by false k h rest = ap (λ l. cond (p y) (y ∷ l) l) rest ∙ after (p y)
         where
-          after : (c : Bool) → cond c (y ∷ place x (filter p ys)) (place x (filter p ys)) ≡ place x (cond c (y ∷ filter p ys) (filter p ys))
+          after : (c : Bool) → cond c (y ∷ place x (filter p ys)) (place x (filter p ys))
+              ≡ place x (cond c (y ∷ filter p ys) (filter p ys))
           after true = rw h refl
           after false = refl
 
@@ -108,7 +120,8 @@ module _ {X : Type 0} (f : X → ℕ) where
   filter_place_out p x [] fails = rw fails refl
   filter_place_out p x (y ∷ ys) fails = by (nat_lt (f x) (f y)) (filter_place_out p x ys fails)
     where
-      by : (b : Bool) → filter p (place x ys) ≡ filter p ys → filter p (if b then x ∷ y ∷ ys else y ∷ place x ys) ≡ filter p (y ∷ ys)
+      by : (b : Bool) → filter p (place x ys) ≡ filter p ys
+          → filter p (if b then x ∷ y ∷ ys else y ∷ place x ys) ≡ filter p (y ∷ ys)
       by true rest = rw fails refl
       by false rest = ap (λ l. cond (p y) (y ∷ l) l) rest
 
@@ -116,7 +129,8 @@ module _ {X : Type 0} (f : X → ℕ) where
   filter_by_grant_seq p [] = refl
   filter_by_grant_seq p (x ∷ xs) = by (p x) refl (filter_by_grant_seq p xs)
     where
-      by : (b : Bool) → p x ≡ b → by_grant_seq (filter p xs) ≡ filter p (by_grant_seq xs) → by_grant_seq (cond b (x ∷ filter p xs) (filter p xs)) ≡ filter p (place x (by_grant_seq xs))
+      by : (b : Bool) → p x ≡ b → by_grant_seq (filter p xs) ≡ filter p (by_grant_seq xs)
+          → by_grant_seq (cond b (x ∷ filter p xs) (filter p xs)) ≡ filter p (place x (by_grant_seq xs))
       by true h rest = ap (place x) rest ∙ sym (filter_place_in p x (by_grant_seq xs) (by_grant_seq_rising xs) h)
       by false h rest = rest ∙ sym (filter_place_out p x (by_grant_seq xs) h)
 
@@ -125,10 +139,12 @@ module _ {X : Type 0} (f : X → ℕ) where
   swap_first : (x y : X) → f x < f y → place x (y ∷ []) ≡ place y (x ∷ [])
   swap_first x y less = rw (lt-ltb (f x) (f y) less, not_below (f y) (f x) less) refl
 
-  swap_above : (x y z : X) (zs : List X) → f x < f y → nat_lt (f x) (f z) ≡ true → place x (place y (z ∷ zs)) ≡ place y (x ∷ z ∷ zs)
+  swap_above : (x y z : X) (zs : List X) → f x < f y → nat_lt (f x) (f z) ≡ true
+      → place x (place y (z ∷ zs)) ≡ place y (x ∷ z ∷ zs)
   swap_above x y z zs less low = by (nat_lt (f y) (f z)) refl
     where
-      by : (b : Bool) → nat_lt (f y) (f z) ≡ b → place x (if b then y ∷ z ∷ zs else z ∷ place y zs) ≡ place y (x ∷ z ∷ zs)
+      by : (b : Bool) → nat_lt (f y) (f z) ≡ b → place x (if b then y ∷ z ∷ zs else z ∷ place y zs)
+          ≡ place y (x ∷ z ∷ zs)
       by true h = simp (lt-ltb (f x) (f y) less, not_below (f y) (f x) less, h) refl
       by false h = simp (low, not_below (f y) (f x) less, h) refl
 
@@ -136,20 +152,24 @@ module _ {X : Type 0} (f : X → ℕ) where
   place_swap x y [] less = swap_first x y less
   place_swap x y (z ∷ zs) less = by (nat_lt (f x) (f z)) refl (place_swap x y zs less)
     where
-      by : (b : Bool) → nat_lt (f x) (f z) ≡ b → place x (place y zs) ≡ place y (place x zs) → place x (place y (z ∷ zs)) ≡ place y (if b then x ∷ z ∷ zs else z ∷ place x zs)
+      by : (b : Bool) → nat_lt (f x) (f z) ≡ b → place x (place y zs) ≡ place y (place x zs)
+          → place x (place y (z ∷ zs)) ≡ place y (if b then x ∷ z ∷ zs else z ∷ place x zs)
       by true h rest = swap_above x y z zs less h
       by false h rest =
-          let high : nat_lt (f y) (f z) ≡ false = not_below (f y) (f z) (let l = ltb-false (f x) (f z) h in omega arith) in
+          let high : nat_lt (f y) (f z) ≡ false = not_below (f y) (f z) (let l = ltb-false (f x) (f z) h in omega arith)
+          in
           simp (high, h) (ap (λ l. z ∷ l) rest)
 
   pub place_apart : (x y : X) (l : List X) → (f x ≡ f y → ⊥) → place x (place y l) ≡ place y (place x l)
-  place_apart x y l apart = ⊎_elim (λ less. place_swap x y l less) (λ more. sym (place_swap y x l (below more))) (cases_lt (f x) (f y))
+  place_apart x y l apart = ⊎_elim (λ less. place_swap x y l less) (λ more. sym (place_swap y x l (below more)))
+      (cases_lt (f x) (f y))
     where
       below : f y ≤ f x → f y < f x
       below h = omega (arith, apart)
 
   -- where one stands plays no part, if its grant sequence is its own
-  pub by_grant_seq_anywhere : (x : X) (front back : List X) → AllByRecursion (λ y. f x ≡ f y → ⊥) front → by_grant_seq (front ++ x ∷ back) ≡ place x (by_grant_seq (front ++ back))
+  pub by_grant_seq_anywhere : (x : X) (front back : List X) → AllByRecursion (λ y. f x ≡ f y → ⊥) front
+      → by_grant_seq (front ++ x ∷ back) ≡ place x (by_grant_seq (front ++ back))
   by_grant_seq_anywhere x [] back apart = refl
   by_grant_seq_anywhere x (y ∷ ys) back apart =
       ap (place y) (by_grant_seq_anywhere x ys back apart.1) ∙ sym (place_apart x y (by_grant_seq (ys ++ back)) apart.0)

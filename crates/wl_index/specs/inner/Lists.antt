@@ -64,7 +64,8 @@ numbers_of_owner (owner.Agent agent) agents = own_of (at agent agents)
 
 -- the lists stay
 abbrev pub SameLists : List (ℕ × Agent) → List (ℕ × Agent) → Type 0
-SameLists before after = (agent : ℕ) → (own_of (at agent after) ≡ own_of (at agent before)) × ((signal : ℕ) → signed_of signal (at agent after) ≡ signed_of signal (at agent before))
+SameLists before after = (agent : ℕ) → (own_of (at agent after) ≡ own_of (at agent before))
+    × ((signal : ℕ) → signed_of signal (at agent after) ≡ signed_of signal (at agent before))
 
 -- whether an entry's number is not among these
 abbrev pub is_spared : {X : Type 0} → List ℕ → ℕ × X → Bool

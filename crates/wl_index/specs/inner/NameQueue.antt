@@ -1,5 +1,6 @@
 -- One name in use, and what it says of the machine's lists (own).
-use Rattle.std.specs.Prelude.{◌≡◌, ℕ, ◌-◌, ◌==◌, Bool, true, false, not, ◌&&◌, List, [], ◌∷◌, ◌++◌, map, filter, length, take, Option, Some, None, is_some, nat_eq, if◌then◌else◌}
+use Rattle.std.specs.Prelude.{◌≡◌, ℕ, ◌-◌, ◌==◌, Bool, true, false, not, ◌&&◌, List, [], ◌∷◌, ◌++◌, map, filter, length}
+use Rattle.std.specs.Prelude.{take, Option, Some, None, is_some, nat_eq, if◌then◌else◌}
 use Rattle.std.specs.Option.{option_eq}
 use Rattle.std.specs.List.{list_any, AllByRecursion}
 use Rattle.std.specs.List.Sorted.{IsStrictlySortedBy}
@@ -52,7 +53,10 @@ other_than number e = not (e.0 == number)
 
 -- without the request or the lock of this number
 abbrev pub without : ℕ → Waiting → Waiting
-without number w = record w { waits = filter (other_than number) w.waits; holders = filter (other_than number) w.holders }
+without number w = record w {
+  waits = filter (other_than number) w.waits;
+  holders = filter (other_than number) w.holders;
+}
 
 -- with one more that waits
 abbrev pub with_one_more : Waiting → ℕ → Mode → Waiting
@@ -92,8 +96,8 @@ abbrev pub holders_of : Option ℕ → List Numbered → List Numbered → List 
 holders_of None live waits = take (length live - length waits) live
 holders_of (Some number) live waits = (number, Exclusive) ∷ []
 
--- the live requests of a queue are its sharers, in front, and those that wait, of which this is the first. An exclusive holder
--- is not among them
+-- the live requests of a queue are its sharers, in front, and those that wait, of which this is the first. An exclusive
+-- holder is not among them
 pub record IsQueue (live waits : List Numbered) (first : Option ℕ) (exclusive : Option ℕ) : Type 0 where
   pub front : List Numbered
   pub whole : live ≡ front ++ waits
@@ -114,7 +118,8 @@ first_or number (Some other) = Some other
 
 -- the first that waits where one leaves
 abbrev pub first_left : ℕ → Option ℕ → List Numbered → Option ℕ
-first_left number first live = if option_eq nat_eq first (Some number) then head_number (live_after number live) else first
+first_left number first live = if option_eq nat_eq first (Some number) then head_number (live_after number live)
+    else first
 
 -- held by a request that took it, which no longer waits
 abbrev pub after_seize : ℕ → Waiting → Waiting

@@ -1,5 +1,6 @@
 -- The names in use: the queue of each, by the number of the request that brought the name into use (own).
-use Rattle.std.specs.Prelude.{◌≡◌, ℕ, ◌<◌, ◌==◌, Bool, false, not, ◌&&◌, List, [], ◌∷◌, ◌++◌, map, filter, Option, Some, None, if◌then◌else◌}
+use Rattle.std.specs.Prelude.{◌≡◌, ℕ, ◌<◌, ◌==◌, Bool, false, not, ◌&&◌, List, [], ◌∷◌, ◌++◌, map, filter, Option, Some}
+use Rattle.std.specs.Prelude.{None, if◌then◌else◌}
 use Rattle.std.specs.Str.{bytes_eq}
 use Rattle.std.specs.List.{AllByRecursion}
 use Rattle.std.specs.List.Sorted.{IsStrictlySortedBy}
@@ -45,7 +46,10 @@ with_updated place f queues = map (changed place f) queues
 
 -- a request of this name comes to the end of its queue; a name that is out of use comes into use behind all others
 abbrev pub with_joined_at : Option ℕ → List ℕ → ℕ → Mode → List Placed → List Placed
-with_joined_at None name number mode queues = queues ++ (number, record { name = name; waits = (number, mode) ∷ []; holders = [] }) ∷ []
+with_joined_at None name number mode queues = queues ++ (
+  number,
+  record { name = name; waits = (number, mode) ∷ []; holders = [] },
+) ∷ []
 with_joined_at (Some place) name number mode queues = with_updated place (λ w. with_one_more w number mode) queues
 
 abbrev pub with_joined : List ℕ → ℕ → Mode → List Placed → List Placed

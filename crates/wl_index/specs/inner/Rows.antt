@@ -1,5 +1,6 @@
 -- What a table of requests by number means: the machine's locks and requests.
-use Rattle.std.specs.Prelude.{◌≡◌, ◌==◌, ℕ, ◌+◌, ◌≤◌, ◌<◌, Bool, true, false, not, Option, Some, List, [], ◌∷◌, map, filter, length}
+use Rattle.std.specs.Prelude.{◌≡◌, ◌==◌, ℕ, ◌+◌, ◌≤◌, ◌<◌, Bool, true, false, not, Option, Some, List, [], ◌∷◌, map}
+use Rattle.std.specs.Prelude.{filter, length}
 use Rattle.std.specs.List.{AllByRecursion}
 use Rattle.std.specs.List.Sorted.{IsStrictlySortedBy}
 use Rattle.std.specs.Map.{keys_of, lookup}
@@ -56,7 +57,14 @@ abbrev pub request_row : Entry → PendingRow
 request_row e = record { number = e.0; agent = e.1.agent; name = e.1.name; mode = e.1.mode; signal = e.1.signal }
 
 abbrev pub lock_row : Entry → HeldRow
-lock_row e = record { number = e.0; agent = e.1.agent; name = e.1.name; mode = e.1.mode; signal = e.1.signal; taken = is_taken e.1.stage }
+lock_row e = record {
+  number = e.0;
+  agent = e.1.agent;
+  name = e.1.name;
+  mode = e.1.mode;
+  signal = e.1.signal;
+  taken = is_taken e.1.stage;
+}
 
 -- those that wait, by number
 abbrev pub pending_of : List Entry → List PendingRow
@@ -89,10 +97,11 @@ other number e = not (e.0 == number)
 -- no two requests have one number
 abbrev pub Apart : List PendingRow → Type 0
 Apart [] = Unit {0}
-Apart (request ∷ requests) = AllByRecursion (λ (other : PendingRow). (other.number == request.number) ≡ false) requests × Apart requests
+Apart (request ∷ requests) = AllByRecursion (λ (other : PendingRow). (other.number == request.number) ≡ false) requests
+    × Apart requests
 
--- numbers rise and are below the next; no two locks have one grant sequence, and grant sequences are below the next, which stays
--- within the numbers after one grant for each that waits
+-- numbers rise and are below the next; no two locks have one grant sequence, and grant sequences are below the next,
+-- which stays within the numbers after one grant for each that waits
 pub record IsTable (es : List Entry) (next_grant_seq next : ℕ) : Type 0 where
   pub ordered : IsStrictlySortedBy nat_cmp (keys_of es)
   pub below : AllByRecursion (λ e. e.0 < next) es

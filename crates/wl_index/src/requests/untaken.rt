@@ -18,7 +18,8 @@ impl Requests {
     /// The number of the `i`-th of them, from 0 in the order of grants. It costs `i` times what the list costs.
     pub(crate) fn nth_untaken(&self, numbers: &[u64], owner: Owner, i: u64) -> Option<u64>
         requires { IsStrictlySortedBy nat_cmp numbers.now × IsOwners owner self.now.entries numbers.now }
-        ensures { result ≡ slice_get (map (λ (lock : HeldRow). lock.number) (filter (ends_lock owner) (held_of self.now.entries))) i }
+        ensures { result ≡ slice_get (map (λ (lock : HeldRow). lock.number)
+            (filter (ends_lock owner) (held_of self.now.entries))) i }
     {
         let _ = &self.requests;
         let mut low = 0;
@@ -31,7 +32,8 @@ impl Requests {
     /// The least number above `after`. It looks at no more of the list than what stands between the two.
     pub(crate) fn least_untaken(&self, numbers: &[u64], owner: Owner, after: u64) -> Option<u64>
         requires { IsStrictlySortedBy nat_cmp numbers.now × IsOwners owner self.now.entries numbers.now }
-        ensures { IsLeast (above after (map (λ (lock : HeldRow). lock.number) (filter (ends_lock owner) (held_of self.now.entries)))) result }
+        ensures { IsLeast (above after (map (λ (lock : HeldRow). lock.number)
+            (filter (ends_lock owner) (held_of self.now.entries)))) result }
     {
         let _ = &self.requests;
         let behind = numbers.partition_point(|number| *number <= after);

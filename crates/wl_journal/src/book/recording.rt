@@ -48,12 +48,15 @@ impl<C: LockCore> LockCore for Book<C> {
     }
 
     fn open(&mut self, kind: Kind) -> Result<u64, Refusal>
-        ensures opened { IfOk result (λ agent. Gives self.old.state (Command.Enter kind) self.new.state (Reply.Agent agent) self.new.recent) }
+        ensures opened { IfOk result (λ agent. Gives self.old.state (Command.Enter kind) self.new.state
+            (Reply.Agent agent) self.new.recent) }
         ensures refused { IfErr result (λ r. r ≡ refused_or_memory (refusal self.old.state (Command.Enter kind))) }
         ensures unchanged { OnErr result (self.new.state ≡ self.old.state) }
         ensures no_changes { OnErr result (self.new.recent ≡ []) }
-        ensures added { IfOk result (λ agent. Appends self.old self.new (recorded (Command.Enter kind) (Reply.Agent agent))) }
-        ensures recorded { IfOk result (λ agent. Some self.new.total ≡ with_entry (Reply.Agent agent) (Some self.old.total)) }
+        ensures added { IfOk result (λ agent. Appends self.old self.new
+            (recorded (Command.Enter kind) (Reply.Agent agent))) }
+        ensures recorded { IfOk result (λ agent. Some self.new.total
+            ≡ with_entry (Reply.Agent agent) (Some self.old.total)) }
         ensures nothing_added { OnErr result (Appends self.old self.new []) }
         ensures not_recorded { OnErr result (Some self.new.total ≡ Some self.old.total) }
     {
@@ -91,7 +94,8 @@ impl<C: LockCore> LockCore for Book<C> {
     }
 
     fn release(&mut self, agent: u64, id: u64) -> ReleaseAnswer
-        ensures released { Gives self.old.state (Command.Release agent id) self.new.state (Reply.Released result) self.new.recent }
+        ensures released { Gives self.old.state (Command.Release agent id) self.new.state (Reply.Released result)
+            self.new.recent }
         ensures added { Appends self.old self.new (recorded (Command.Release agent id) (Reply.Released result)) }
         ensures recorded { Some self.new.total ≡ with_entry (Reply.Released result) (Some self.old.total) }
     {
@@ -111,12 +115,16 @@ impl<C: LockCore> LockCore for Book<C> {
     }
 
     fn request(&mut self, agent: u64, ask: &Ask) -> Result<u64, Refusal>
-        ensures requested { IfOk result (λ id. Gives self.old.state (Command.Request agent ask.now) self.new.state (Reply.Request id) self.new.recent) }
-        ensures refused { IfErr result (λ r. r ≡ refused_or_memory (refusal self.old.state (Command.Request agent ask.now))) }
+        ensures requested { IfOk result (λ id. Gives self.old.state (Command.Request agent ask.now) self.new.state
+            (Reply.Request id) self.new.recent) }
+        ensures refused { IfErr result (λ r. r ≡ refused_or_memory
+            (refusal self.old.state (Command.Request agent ask.now))) }
         ensures unchanged { OnErr result (self.new.state ≡ self.old.state) }
         ensures no_changes { OnErr result (self.new.recent ≡ []) }
-        ensures added { IfOk result (λ id. Appends self.old self.new (recorded (Command.Request agent ask.now) (Reply.Request id))) }
-        ensures recorded { IfOk result (λ id. Some self.new.total ≡ with_entry (Reply.Request id) (Some self.old.total)) }
+        ensures added { IfOk result (λ id. Appends self.old self.new
+            (recorded (Command.Request agent ask.now) (Reply.Request id))) }
+        ensures recorded { IfOk result (λ id. Some self.new.total
+            ≡ with_entry (Reply.Request id) (Some self.old.total)) }
         ensures nothing_added { OnErr result (Appends self.old self.new []) }
         ensures not_recorded { OnErr result (Some self.new.total ≡ Some self.old.total) }
     {
@@ -129,8 +137,10 @@ impl<C: LockCore> LockCore for Book<C> {
     }
 
     fn set_active(&mut self, agent: u64, active: bool) -> Result<(), Refusal>
-        ensures done { OnOk result (Gives self.old.state (Command.SetActive agent active) self.new.state Reply.Done self.new.recent) }
-        ensures refused { IfErr result (λ r. r ≡ refused_or_memory (refusal self.old.state (Command.SetActive agent active))) }
+        ensures done { OnOk result (Gives self.old.state (Command.SetActive agent active) self.new.state Reply.Done
+            self.new.recent) }
+        ensures refused { IfErr result (λ r. r ≡ refused_or_memory
+            (refusal self.old.state (Command.SetActive agent active))) }
         ensures unchanged { OnErr result (self.new.state ≡ self.old.state) }
         ensures no_changes { OnErr result (self.new.recent ≡ []) }
         ensures added { OnOk result (Appends self.old self.new (recorded (Command.SetActive agent active) Reply.Done)) }
@@ -151,12 +161,15 @@ impl<C: LockCore> LockCore for Book<C> {
     }
 
     fn new_signal(&mut self, agent: u64) -> Result<u64, Refusal>
-        ensures made { IfOk result (λ signal. Gives self.old.state (Command.NewSignal agent) self.new.state (Reply.Signal signal) self.new.recent) }
+        ensures made { IfOk result (λ signal. Gives self.old.state (Command.NewSignal agent) self.new.state
+            (Reply.Signal signal) self.new.recent) }
         ensures refused { IfErr result (λ r. r ≡ refused_or_memory (refusal self.old.state (Command.NewSignal agent))) }
         ensures unchanged { OnErr result (self.new.state ≡ self.old.state) }
         ensures no_changes { OnErr result (self.new.recent ≡ []) }
-        ensures added { IfOk result (λ signal. Appends self.old self.new (recorded (Command.NewSignal agent) (Reply.Signal signal))) }
-        ensures recorded { IfOk result (λ signal. Some self.new.total ≡ with_entry (Reply.Signal signal) (Some self.old.total)) }
+        ensures added { IfOk result (λ signal. Appends self.old self.new
+            (recorded (Command.NewSignal agent) (Reply.Signal signal))) }
+        ensures recorded { IfOk result (λ signal. Some self.new.total
+            ≡ with_entry (Reply.Signal signal) (Some self.old.total)) }
         ensures nothing_added { OnErr result (Appends self.old self.new []) }
         ensures not_recorded { OnErr result (Some self.new.total ≡ Some self.old.total) }
     {
@@ -174,12 +187,15 @@ impl<C: LockCore> LockCore for Book<C> {
     }
 
     fn abort(&mut self, agent: u64, signal: u64, reason: Reason) -> Result<AbortAnswer, Refusal>
-        ensures aborted { IfOk result (λ answer. Gives self.old.state (Command.Abort agent signal reason) self.new.state (Reply.Aborted answer) self.new.recent) }
+        ensures aborted { IfOk result (λ answer. Gives self.old.state (Command.Abort agent signal reason) self.new.state
+            (Reply.Aborted answer) self.new.recent) }
         ensures refused { IfErr result (λ r. refusal self.old.state (Command.Abort agent signal reason) ≡ Some r) }
         ensures unchanged { OnErr result (self.new.state ≡ self.old.state) }
         ensures no_changes { OnErr result (self.new.recent ≡ []) }
-        ensures added { IfOk result (λ answer. Appends self.old self.new (recorded (Command.Abort agent signal reason) (Reply.Aborted answer))) }
-        ensures recorded { IfOk result (λ answer. Some self.new.total ≡ with_entry (Reply.Aborted answer) (Some self.old.total)) }
+        ensures added { IfOk result (λ answer. Appends self.old self.new
+            (recorded (Command.Abort agent signal reason) (Reply.Aborted answer))) }
+        ensures recorded { IfOk result (λ answer. Some self.new.total
+            ≡ with_entry (Reply.Aborted answer) (Some self.old.total)) }
         ensures nothing_added { OnErr result (Appends self.old self.new []) }
         ensures not_recorded { OnErr result (Some self.new.total ≡ Some self.old.total) }
     {
@@ -196,7 +212,8 @@ impl<C: LockCore> LockCore for Book<C> {
     }
 
     fn terminate(&mut self, agent: u64) -> Result<(), Refusal>
-        ensures ended { OnOk result (Gives self.old.state (Command.Terminate agent) self.new.state Reply.Done self.new.recent) }
+        ensures ended { OnOk result (Gives self.old.state (Command.Terminate agent) self.new.state Reply.Done
+            self.new.recent) }
         ensures refused { IfErr result (λ r. refusal self.old.state (Command.Terminate agent) ≡ Some r) }
         ensures unchanged { OnErr result (self.new.state ≡ self.old.state) }
         ensures no_changes { OnErr result (self.new.recent ≡ []) }

@@ -30,11 +30,14 @@ pub fn copy_ask(alloc: Global, ask: &Ask) -> Result<Ask, Memory>
 impl<C: LockCore> Book<C> {
     /// As `request`, of an ask that the journal keeps: whoever holds a lock meanwhile can copy it before.
     pub fn request_kept(&mut self, agent: u64, ask: Ask) -> Result<u64, Refusal>
-        ensures requested { IfOk result (λ id. Gives self.old.state (Command.Request agent ask) self.new.state (Reply.Request id) self.new.recent) }
-        ensures refused { IfErr result (λ r. r ≡ refused_or_memory (refusal self.old.state (Command.Request agent ask))) }
+        ensures requested { IfOk result (λ id. Gives self.old.state (Command.Request agent ask) self.new.state
+            (Reply.Request id) self.new.recent) }
+        ensures refused { IfErr result (λ r. r ≡ refused_or_memory
+            (refusal self.old.state (Command.Request agent ask))) }
         ensures unchanged { OnErr result (self.new.state ≡ self.old.state) }
         ensures no_changes { OnErr result (self.new.recent ≡ []) }
-        ensures added { IfOk result (λ id. Appends self.old self.new (recorded (Command.Request agent ask) (Reply.Request id))) }
+        ensures added { IfOk result (λ id. Appends self.old self.new
+            (recorded (Command.Request agent ask) (Reply.Request id))) }
         ensures nothing_added { OnErr result (Appends self.old self.new []) }
     {
         self.is_quiet = true;

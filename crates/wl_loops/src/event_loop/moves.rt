@@ -1,10 +1,10 @@
 //! Connections that go to another loop.
 //!
-//! Those that hand a lock from one to the other meet on one loop, where a push is one more turn of the loop that is awake
-//! already, and no thread is woken for it. A connection is at each time in one place: served by one loop, or in the room
-//! of the loop that is to serve it. What happens to it meanwhile stays where it is: bytes in its stream, of which the
-//! other poll is told once the stream is registered there, and changes in its inbox, at which its first turn there
-//! looks.
+//! Those that hand a lock from one to the other meet on one loop, where a push is one more turn of the loop that is
+//! awake already, and no thread is woken for it. A connection is at each time in one place: served by one loop, or in
+//! the room of the loop that is to serve it. What happens to it meanwhile stays where it is: bytes in its stream, of
+//! which the other poll is told once the stream is registered there, and changes in its inbox, at which its first turn
+//! there looks.
 
 use super::{EventLoop, MOST};
 use crate::host::{Event, Host, Place};

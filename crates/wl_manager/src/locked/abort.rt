@@ -27,8 +27,10 @@ impl<C: LockCore, T: Count> Locked<C, T> {
         share: &mut T::Share,
     ) -> Result<AbortAnswer, Refusal>
         requires { T.COUNTS ≡ true → 0 < T.parts share.old }
-        ensures aborted { IfOk result (λ answer. (found : Found) × Aborts self.old self.new agent signal reason answer found
-            × (T.COUNTS ≡ true → T.amount share.new ≡ T.amount share.old + length (taken found) + length (recorded (Command.Abort agent signal reason) (Reply.Aborted answer)))) }
+        ensures aborted { IfOk result (λ answer. (found : Found)
+            × Aborts self.old self.new agent signal reason answer found
+            × (T.COUNTS ≡ true → T.amount share.new ≡ T.amount share.old + length (taken found)
+            + length (recorded (Command.Abort agent signal reason) (Reply.Aborted answer)))) }
         ensures parts { T.COUNTS ≡ true → T.parts share.new ≡ T.parts share.old }
         ensures opened { (self.new.opened ≡ self.old.opened) × (self.new.handed ≡ self.old.handed) }
         ensures refused { IfErr result (λ r. refusal self.old.book.state (Command.Abort agent signal reason) ≡ Some r) }
@@ -59,7 +61,8 @@ fn abort_granted<C: LockCore>(
     requires standing { IsStanding book.old.state }
     requires from_one { phases_in book.old.state 0 ≡ [] }
     requires published { (id : ℕ) → phases_at id keepers.old ≡ phases_in book.old.state id }
-    ensures { (found : Found) × TriedAll book.old keepers.old agent signal reason book.new keepers.new found × (result ≡ length (taken found)) }
+    ensures { (found : Found) × TriedAll book.old keepers.old agent signal reason book.new keepers.new found
+        × (result ≡ length (taken found)) }
 {
     let mut taken = 0;
     let mut after = 0;

@@ -23,7 +23,8 @@ impl<C: LockCore, T: Count> Locked<C, T> {
         ensures counted { OnOk result (T.COUNTS ≡ true → T.amount share.new ≡ T.amount share.old + 1) }
         ensures parts { T.COUNTS ≡ true → T.parts share.new ≡ T.parts share.old }
         ensures opened { (self.new.opened ≡ self.old.opened) × (self.new.handed ≡ self.old.handed) }
-        ensures refused { IfErr result (λ r. r ≡ refused_or_memory (refusal self.old.book.state (Command.NewSignal agent))) }
+        ensures refused { IfErr result (λ r. r ≡ refused_or_memory
+            (refusal self.old.book.state (Command.NewSignal agent))) }
         ensures unchanged { OnErr result (Stays self.old self.new × (share.new ≡ share.old)) }
     {
         self.keepers.drop_ended(self.book.changes());
@@ -45,7 +46,8 @@ impl<C: LockCore, T: Count> Locked<C, T> {
         ensures counted { OnOk result (T.COUNTS ≡ true → T.amount share.new ≡ T.amount share.old + 1) }
         ensures parts { T.COUNTS ≡ true → T.parts share.new ≡ T.parts share.old }
         ensures opened { (self.new.opened ≡ self.old.opened) × (self.new.handed ≡ self.old.handed) }
-        ensures refused { IfErr result (λ r. r ≡ refused_or_memory (refusal self.old.book.state (Command.SetActive agent active))) }
+        ensures refused { IfErr result (λ r. r ≡ refused_or_memory
+            (refusal self.old.book.state (Command.SetActive agent active))) }
         ensures unchanged { OnErr result (Stays self.old self.new × (share.new ≡ share.old)) }
     {
         self.keepers.drop_ended(self.book.changes());
@@ -59,7 +61,8 @@ impl<C: LockCore, T: Count> Locked<C, T> {
     pub fn release(&mut self, agent: u64, id: u64, share: &mut T::Share) -> ReleaseAnswer
         requires { T.COUNTS ≡ true → 0 < T.parts share.old }
         ensures released { Does self.old self.new (Command.Release agent id) (Reply.Released result) }
-        ensures counted { T.COUNTS ≡ true → T.amount share.new ≡ T.amount share.old + length (recorded (Command.Release agent id) (Reply.Released result)) }
+        ensures counted { T.COUNTS ≡ true → T.amount share.new
+            ≡ T.amount share.old + length (recorded (Command.Release agent id) (Reply.Released result)) }
         ensures parts { T.COUNTS ≡ true → T.parts share.new ≡ T.parts share.old }
         ensures opened { (self.new.opened ≡ self.old.opened) × (self.new.handed ≡ self.old.handed) }
     {
@@ -97,12 +100,14 @@ impl<C: LockCore, T: Count> Locked<C, T> {
         share: &mut T::Share,
     ) -> Result<(u64, Owner), Refusal>
         requires { T.COUNTS ≡ true → 0 < T.parts share.old }
-        ensures requested { IfOk result (λ r. Does self.old self.new (Command.Request agent ask.now) (Reply.Request r.0)) }
+        ensures requested { IfOk result (λ r. Does self.old self.new (Command.Request agent ask.now)
+            (Reply.Request r.0)) }
         ensures owner { IfOk result (λ r. cells_at r.0 self.new.kept ≡ r.1.cell ∷ []) }
         ensures counted { OnOk result (T.COUNTS ≡ true → T.amount share.new ≡ T.amount share.old + 1) }
         ensures parts { T.COUNTS ≡ true → T.parts share.new ≡ T.parts share.old }
         ensures opened { (self.new.opened ≡ self.old.opened) × (self.new.handed ≡ self.old.handed) }
-        ensures refused { IfErr result (λ r. r ≡ refused_or_memory (refusal self.old.book.state (Command.Request agent ask.now))) }
+        ensures refused { IfErr result (λ r. r ≡ refused_or_memory
+            (refusal self.old.book.state (Command.Request agent ask.now))) }
         ensures unchanged { OnErr result (Stays self.old self.new × (share.new ≡ share.old)) }
     {
         let asking = Asking::new(self.alloc, ask, inbox);
@@ -119,12 +124,14 @@ impl<C: LockCore, T: Count> Locked<C, T> {
     ) -> Result<(u64, Owner), Refusal>
         requires parts { T.COUNTS ≡ true → 0 < T.parts share.old }
         requires ask { IfOk asking (λ asking. asking.ask ≡ ask.now) }
-        ensures requested { IfOk result (λ r. Does self.old self.new (Command.Request agent ask.now) (Reply.Request r.0)) }
+        ensures requested { IfOk result (λ r. Does self.old self.new (Command.Request agent ask.now)
+            (Reply.Request r.0)) }
         ensures owner { IfOk result (λ r. cells_at r.0 self.new.kept ≡ r.1.cell ∷ []) }
         ensures counted { OnOk result (T.COUNTS ≡ true → T.amount share.new ≡ T.amount share.old + 1) }
         ensures parts { T.COUNTS ≡ true → T.parts share.new ≡ T.parts share.old }
         ensures opened { (self.new.opened ≡ self.old.opened) × (self.new.handed ≡ self.old.handed) }
-        ensures refused { IfErr result (λ r. r ≡ refused_or_memory (refusal self.old.book.state (Command.Request agent ask.now))) }
+        ensures refused { IfErr result (λ r. r ≡ refused_or_memory
+            (refusal self.old.book.state (Command.Request agent ask.now))) }
         ensures unchanged { OnErr result (Stays self.old self.new × (share.new ≡ share.old)) }
     {
         let Ok(asking) = asking else {

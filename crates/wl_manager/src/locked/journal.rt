@@ -54,7 +54,8 @@ impl<C: LockCore, T: Count> Locked<C, T> {
     /// Where there is no memory for a cut the journal stays, and grows on.
     pub fn trim(&mut self) -> Option<Vec<Entry>>
         ensures entries { IfSome result (λ entries. entries.items ≡ self.old.book.entries) }
-        ensures cut { OnSome result ((T.KEEPS_ALL ≡ false) × (self.new ≡ record self.old { book = cut_off self.old.book })) }
+        ensures cut { OnSome result ((T.KEEPS_ALL ≡ false) × (self.new
+            ≡ record self.old { book = cut_off self.old.book })) }
         ensures unchanged { IfNone result (self.new ≡ self.old) }
     {
         if T::KEEPS_ALL {

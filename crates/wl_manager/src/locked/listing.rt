@@ -13,13 +13,14 @@ use wl_machine::{HeldRow, PendingRow};
 use wl_types::Memory;
 
 impl<C: LockCore, T: Count> Locked<C, T> {
-    /// At most so many rows of what is held and what waits, locks first. The time is one of the clock that this was made
-    /// with. The list comes with the copy of the state that it is made from, so that this can be dropped without the
-    /// lock: like a cut of the journal it takes a step for each agent, signal and request.
+    /// At most so many rows of what is held and what waits, locks first. The time is one of the clock that this was
+    /// made with. The list comes with the copy of the state that it is made from, so that this can be dropped without
+    /// the lock: like a cut of the journal it takes a step for each agent, signal and request.
     pub fn list_locks(&self, most: usize, now: u64) -> Result<(LockList, PlainCore), Memory>
         ensures lists { IfOk result (λ as_listed. Lists self.now.book.state most as_listed.0) }
         ensures may { IfOk result (λ as_listed. MayList most as_listed.0) }
-        ensures few { IfOk result (λ as_listed. length as_listed.0.held.items + length as_listed.0.pending.items ≤ most) }
+        ensures few { IfOk result (λ as_listed. length as_listed.0.held.items + length as_listed.0.pending.items
+            ≤ most) }
     {
         let copy = self.book.copy_plain()?;
         let held = copy.held();

@@ -27,9 +27,12 @@ impl<C: LockCore, T: Count> Locked<C, T> {
     pub fn tally(&mut self, leavings: Vec<Leaving<T>>) -> Result<u64, TallyFault<T>>
         ensures total { IfOk result (λ n. n ≡ self.new.book.total) }
         ensures left { OnOk result (self.old.opened ≤ self.old.handed + length leavings.items) }
-        ensures all { OnOk result (T.COUNTS ≡ true → (self.new.parts ≡ T.all) × (self.new.amount ≡ self.new.book.total)) }
-        ensures same { (self.new.book ≡ self.old.book) × (self.new.kept ≡ self.old.kept) × (self.new.next ≡ self.old.next) × (self.new.opened ≡ self.old.opened) }
-        ensures missing { IfErr result (λ fault. (fault ≡ TallyFault.Missing leavings) × (self.new ≡ self.old) × (self.old.handed + length leavings.items < self.old.opened)) }
+        ensures all { OnOk result (T.COUNTS ≡ true → (self.new.parts ≡ T.all)
+            × (self.new.amount ≡ self.new.book.total)) }
+        ensures same { (self.new.book ≡ self.old.book) × (self.new.kept ≡ self.old.kept)
+            × (self.new.next ≡ self.old.next) × (self.new.opened ≡ self.old.opened) }
+        ensures missing { IfErr result (λ fault. (fault ≡ TallyFault.Missing leavings) × (self.new ≡ self.old)
+            × (self.old.handed + length leavings.items < self.old.opened)) }
     {
         let opened = self.opened;
         if self.handed.saturating_add(leavings.len() as u64) < opened {
@@ -46,7 +49,8 @@ impl<C: LockCore, T: Count> Locked<C, T> {
     // Takes in what an agent left. The count stays at its greatest value.
     fn take_in(&mut self, leaving: Leaving<T>)
         ensures handed { self.new.handed ≡ min (self.old.handed + 1) (2 ^ 64 - 1) }
-        ensures same { (self.new.book ≡ self.old.book) × (self.new.kept ≡ self.old.kept) × (self.new.next ≡ self.old.next) × (self.new.opened ≡ self.old.opened) }
+        ensures same { (self.new.book ≡ self.old.book) × (self.new.kept ≡ self.old.kept)
+            × (self.new.next ≡ self.old.next) × (self.new.opened ≡ self.old.opened) }
     {
         let Leaving { share } = leaving;
         T::merge(&mut self.share, share);

@@ -60,8 +60,8 @@ impl Watched {
         }
     }
 
-    /// At 100 the first agent asks for `db` for itself, at 200 the second, at 300 the first to share it, at 400 the second
-    /// to share `log`.
+    /// At 100 the first agent asks for `db` for itself, at 200 the second, at 300 the first to share it, at 400 the
+    /// second to share `log`.
     fn ask_for_four<R: Wait>(&mut self, rt: &R) -> Result<(), Fail> {
         self.request(rt, 100, 0, "db", Mode::Exclusive)?;
         self.request(rt, 200, 1, "db", Mode::Exclusive)?;

@@ -26,7 +26,8 @@ pub record WritesNext (before : ℕ) (origin : ManagerKey × Core) (n : ℕ) (ol
 abbrev pub IsUnwritten : ℕ → ℕ → ManagerKey × Core → Option (List ℕ) → ScriptFault → Option (List ℕ) → Type 0
 IsUnwritten lines written origin old (Memory n) new = (n ≡ lines) × Keeps old new
 IsUnwritten lines written origin old (Write n) new = (n ≡ written)
-    × ((part more : List ℕ) × (0 < length more) × (audit_line origin.0 (entries_of origin.1) ≡ part ++ more) × Appends old new part)
+    × ((part more : List ℕ) × (0 < length more) × (audit_line origin.0 (entries_of origin.1) ≡ part ++ more)
+    × Appends old new part)
 IsUnwritten lines written origin old (Read n) new = ⊥
 IsUnwritten lines written origin old (LineTooLong n) new = ⊥
 IsUnwritten lines written origin old (TooManyTurns n) new = ⊥

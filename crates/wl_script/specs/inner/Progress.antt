@@ -5,4 +5,5 @@ use Rattle.wl_script.specs.Progress.{IsUnanswered, Moment}
 
 -- the run ended at a last line without LF
 abbrev pub BreaksAtEnd : Moment → ScriptFault → Option (List ℕ) → Type 0
-BreaksAtEnd old fault new = (0 < length old.unfinished) × IsUnanswered old.count old.world old.unfinished old.held fault new
+BreaksAtEnd old fault new = (0 < length old.unfinished) × IsUnanswered old.count old.world old.unfinished old.held fault
+    new

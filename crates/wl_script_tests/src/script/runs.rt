@@ -9,7 +9,8 @@ use wl_script::{Limits, ScriptFault, audit, run, run_with};
 pub const AMPLE: usize = 1000;
 
 /// What is read and in what pieces, whether the reader fails at the end of it, what the writer has room for, how much
-/// of it in a call and what it does then, and the limits of a line's bytes and of reads, where they aren't those of `run`.
+/// of it in a call and what it does then, and the limits of a line's bytes and of reads, where they aren't those of
+/// `run`.
 #[derive(Clone, Copy)]
 pub struct Run<'a> {
     pub script: &'a [u8],

@@ -9,8 +9,9 @@ use wl_session::{Session, SessionOf, Upkeep};
 use wl_types::{AbortAnswer, Memory, Phase, Reason, Refusal, ReleaseAnswer};
 
 /// Does the steps of a list with a new session, a step a line, and gives the list as it came out. A line is an outcome,
-/// what is found of at most two requests in brackets, an arrow, the reply, and then the told list: `release [1 released,
-/// 4 granted] -> ..`. `aborted` may have a code behind it. With `all: ` before it, all requests are looked at. `plan` and a message is what is planned.
+/// what is found of at most two requests in brackets, an arrow, the reply, and then the told list: `release [1
+/// released, 4 granted] -> ..`. `aborted` may have a code behind it. With `all: ` before it, all requests are looked
+/// at. `plan` and a message is what is planned.
 pub fn finish_all(alloc: Global, list: &str) -> Result<String, Memory> {
     let mut session = Session::new(alloc);
     let mut came = String::new(alloc);

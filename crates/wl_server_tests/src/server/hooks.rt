@@ -1,5 +1,5 @@
-//! What a gate is told, and whether connections go on at once, over loopback: the calls `serve_gated` and `serve_waiting`
-//! of lists.
+//! What a gate is told, and whether connections go on at once, over loopback: the calls `serve_gated` and
+//! `serve_waiting` of lists.
 
 use super::OPEN;
 use super::hosts::relay_lines;

@@ -1,7 +1,7 @@
 //! Relaying to what is no such server: the calls `relay_to HOST` and `relay_to_nobody` of lists.
 //!
-//! The host `leaving` answers two messages and leaves at the third, `binary` answers the third by bytes, and `page` answers
-//! the hello by a page. The call answers whether the host could do so, and how relaying ends.
+//! The host `leaving` answers two messages and leaves at the third, `binary` answers the third by bytes, and `page`
+//! answers the hello by a page. The call answers whether the host could do so, and how relaying ends.
 
 use super::loopback::pair;
 use crate::lists::{show, word};

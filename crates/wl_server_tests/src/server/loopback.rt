@@ -1,9 +1,10 @@
-//! Relaying over loopback: the call `relay MANNER PIECE ..` of lists, which answers what was served, what was relayed, and
-//! the replies.
+//! Relaying over loopback: the call `relay MANNER PIECE ..` of lists, which answers what was served, what was relayed,
+//! and the replies.
 //!
-//! The reader gives the pieces, one behind another: `open` is a message that opens, `window` the lines of a whole visit, `lf`
-//! the end of a line, `bytes` what isn't UTF-8, and a number so many spaces. By its manner a call is `whole`; or the reader
-//! is `failing` then; or the writer takes one write, `stuck` then; or `beside` a connection that is broken.
+//! The reader gives the pieces, one behind another: `open` is a message that opens, `window` the lines of a whole
+//! visit, `lf` the end of a line, `bytes` what isn't UTF-8, and a number so many spaces. By its manner a call is
+//! `whole`; or the reader is `failing` then; or the writer takes one write, `stuck` then; or `beside` a connection that
+//! is broken.
 
 use super::streams::NO_HELLO;
 use super::taker::Taker;

@@ -27,8 +27,8 @@ visit https://a.test/ inbox -> (Ok(true), Some(3))
 visit https://a.test/ drafts -> (Ok(false), None)
 ";
 
-/// A bad URL is told before a bad bucket, and that is told of an opaque origin too. Nobody opens by them, and no manager
-/// is made.
+/// A bad URL is told before a bad bucket, and that is told of an opaque origin too. Nobody opens by them, and no
+/// manager is made.
 const BAD_BUCKETS_OPEN_NOBODY: &str = "\
 open_in window Inbox https://a.test/ -> Err(BadBucket)
 open_in window  https://a.test/ -> Err(BadBucket)

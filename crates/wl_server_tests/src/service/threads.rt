@@ -64,8 +64,8 @@ fn ask_elsewhere<R: Wait>(
     Some(ticket.look())
 }
 
-/// Visits the manager here while another client asks elsewhere: whether the visit was waited for in time, and what became
-/// of the request.
+/// Visits the manager here while another client asks elsewhere: whether the visit was waited for in time, and what
+/// became of the request.
 pub fn visit_and_ask<R: Threads + Wait + Sync>(
     rt: &R,
     alloc: Global,

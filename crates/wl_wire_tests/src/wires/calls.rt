@@ -1,4 +1,5 @@
-//! Calls of an open connection, by lists: `READ ..; WRITE ..; CALL ..` answers each call, and then the frames that left.
+//! Calls of an open connection, by lists: `READ ..; WRITE ..; CALL ..` answers each call, and then the frames that
+//! left.
 //!
 //! The calls are `came`, `blocked`, `flush`, `ping`, `close` as a server does that ends, and `turn`.
 

@@ -7,8 +7,8 @@ use std::sync::{Arc, Wait};
 use wl_types::Memory;
 use wl_wire::{Answer, Ending, Speaker};
 
-/// Answers a text by itself, has `news` to push after `mark`, and ends the connection at `leave`. It may be let go only so
-/// that a test can give up.
+/// Answers a text by itself, has `news` to push after `mark`, and ends the connection at `leave`. It may be let go only
+/// so that a test can give up.
 #[derive(Drop)]
 pub struct Echo {
     alloc: Global,

@@ -36,8 +36,10 @@ inbox_of (Some agent_requests) = agent_requests.inbox.items
 pub record IsIndex (live : List (ℕ × Request)) (agent_index : List (ℕ × AgentRequests)) : Type 0 where
   pub ordered : IsStrictlySortedBy nat_cmp (keys_of live)
   pub numbers : (number : ℕ) (request : Request) → found number live ≡ Some request → request.number ≡ number
-  pub own : (number : ℕ) (request : Request) → found number live ≡ Some request → Contains (own_of (found request.agent agent_index)) number
-  pub inbox : (number : ℕ) (request : Request) (phase : Phase) → found number live ≡ Some request → request.changed ≡ Some phase → Contains (inbox_of (found request.agent agent_index)) number
+  pub own : (number : ℕ) (request : Request) → found number live ≡ Some request
+      → Contains (own_of (found request.agent agent_index)) number
+  pub inbox : (number : ℕ) (request : Request) (phase : Phase) → found number live ≡ Some request
+      → request.changed ≡ Some phase → Contains (inbox_of (found request.agent agent_index)) number
 
 -- another number came to an agent's list, which still has all that it had of live requests
 pub record IsEnrolled (live : List (ℕ × Request)) (before after : Option AgentRequests) (number : ℕ) : Type 0 where
@@ -52,7 +54,8 @@ observed_of agent None = []
 observed_of agent (Some request) = if request.agent == agent then observation_of request.number request.changed else []
 
 -- what is observed of an agent's requests at some numbers in order, which have all of these
-pub record AreObserved (agent : ℕ) (live : List (ℕ × Request)) (numbers : List ℕ) (observed : List RequestPhase) : Type 0 where
+pub record AreObserved (agent : ℕ) (live : List (ℕ × Request)) (numbers : List ℕ) (observed : List RequestPhase) : Type
+    0 where
   pub sorted : List ℕ
   pub in_order : IsStrictlySortedBy nat_cmp sorted
   pub all : (number : ℕ) → Contains numbers number → Contains sorted number
@@ -68,7 +71,8 @@ close_one agent request = if request.agent == agent then None else Some request
 
 -- at one number f was done, and elsewhere nothing
 abbrev pub IsEachAt : (Request → Option Request) → ℕ → List (ℕ × Request) → List (ℕ × Request) → Type 0
-IsEachAt f number before after = (other : ℕ) → found other after ≡ cond (is_at (nat_cmp number) other) (option_and_then f (found other before)) (found other before)
+IsEachAt f number before after = (other : ℕ) → found other after
+    ≡ cond (is_at (nat_cmp number) other) (option_and_then f (found other before)) (found other before)
 
 -- f was done at each number
 abbrev pub IsEach : (Request → Option Request) → List (ℕ × Request) → List (ℕ × Request) → Type 0
@@ -76,7 +80,8 @@ IsEach f before after = (number : ℕ) → found number after ≡ option_and_the
 
 -- f does nothing but at these numbers
 abbrev pub IsCovered : (Request → Option Request) → List (ℕ × Request) → List ℕ → Type 0
-IsCovered f live numbers = (number : ℕ) → (option_and_then f (found number live) ≡ found number live) ⊎ Contains numbers number
+IsCovered f live numbers = (number : ℕ) → (option_and_then f (found number live) ≡ found number live)
+    ⊎ Contains numbers number
 
 -- a request that was accepted has a greater number than all
 abbrev pub IsNewest : Outcome → List Request → Type 0

@@ -39,7 +39,8 @@ pub record IsRefused (acts : List Request → Acted) (old new : Core) (r : Refus
 
 -- what a core's call for an operation is, whatever requests there are
 abbrev pub Operates : Core → ℕ → Body → Core → List Change → Result Outcome Refusal → Type 0
-Operates old agent b new changes (Ok o) = (requests : List Request) → act_result new (inbox (fresh o changes) (after_answer agent o requests)) o ≡ act (origin old requests) agent b
+Operates old agent b new changes (Ok o) = (requests : List Request)
+    → act_result new (inbox (fresh o changes) (after_answer agent o requests)) o ≡ act (origin old requests) agent b
 Operates old agent b new changes (Err r) = IsRefused (λ requests. act (origin old requests) agent b) old new r
 
 -- a refusal other than for want of memory is the outcome

@@ -7,5 +7,7 @@ use Rattle.wl_admission.proofs.credentials.subprotocol_bearer.Goals as goal
 
 pub returns-then-starts_with : goal.returns-then-starts_with
 returns-then-starts_with c =
-    ap Some (take_all (length c.args.bytes.now - 16) (drop 16 c.args.bytes.now) (omega (arith, length-drop 16 c.args.bytes.now)))
-    ∙ if_yes (starts_with nat_eq c.args.bytes.now (codes "weblocks.bearer.")) _ _ (sym c.starts_with.ensures.value ∙ c.if-starts_with.true)
+    ap Some (take_all (length c.args.bytes.now - 16) (drop 16 c.args.bytes.now)
+    (omega (arith, length-drop 16 c.args.bytes.now)))
+    ∙ if_yes (starts_with nat_eq c.args.bytes.now (codes "weblocks.bearer.")) _ _
+    (sym c.starts_with.ensures.value ∙ c.if-starts_with.true)

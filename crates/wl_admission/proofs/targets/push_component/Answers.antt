@@ -7,4 +7,5 @@ use Rattle.wl_admission.proofs.targets.push_component.Goals as goal
 pub returns : goal.returns
 returns c =
     let is = c.utf8_percent_encode.ensures.text ∙ encoded_is_component c.args.text.now in
-    on_ok_weaker c.append_to.result (λ added. added ∙ ap (λ spelled. string_bytes c.args.target.now ++ spelled) is) c.append_to.ensures.ok
+    on_ok_weaker c.append_to.result (λ added. added ∙ ap (λ spelled. string_bytes c.args.target.now ++ spelled) is)
+    c.append_to.ensures.ok

@@ -4,8 +4,10 @@ use Rattle.wl_admission.proofs.token_file.keys_of.Goals as goal
 
 pub loop-word-preserved : goal.loop-word-preserved
 loop-word-preserved c =
-    let step = origin_more (λ w. w.now) c.args.words.now c.loop-word.word-index _ c.loop-word.keys.items c.in-Some.key (omega arith) c.loop-word.invariant (sym c.in_ok-key.ensures ∙ c.in-Some.is) in
+    let step = origin_more (λ w. w.now) c.args.words.now c.loop-word.word-index _ c.loop-word.keys.items c.in-Some.key
+    (omega arith) c.loop-word.invariant (sym c.in_ok-key.ensures ∙ c.in-Some.is) in
     grind (arith, step)
 
 pub returns-in-None : goal.returns-in-None
-returns-in-None c = sym (no_origin_at (λ w. w.now) c.args.words.now c.loop-word.word-index _ c.loop-word.keys.items (omega arith) c.loop-word.invariant (sym c.in_ok-key.ensures ∙ c.in-None.is))
+returns-in-None c = sym (no_origin_at (λ w. w.now) c.args.words.now c.loop-word.word-index _ c.loop-word.keys.items
+    (omega arith) c.loop-word.invariant (sym c.in_ok-key.ensures ∙ c.in-None.is))

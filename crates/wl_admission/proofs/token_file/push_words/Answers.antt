@@ -6,4 +6,5 @@ use Rattle.wl_admission.proofs.token_file.push_words.Goals as goal
 pub loop-piece-preserved : goal.loop-piece-preserved
 loop-piece-preserved c =
     added_more _ _ _ _ _ _ c.in_ok-push_word.ensures c.loop-piece.invariant
-    (filter_seen_more (λ p. p.now) (λ w. nat_lt 0 (length w)) c.args.pieces.now c.loop-piece.piece-index _ c.loop-piece-test.true)
+    (filter_seen_more (λ p. p.now) (λ w. nat_lt 0 (length w)) c.args.pieces.now c.loop-piece.piece-index _
+    c.loop-piece-test.true)

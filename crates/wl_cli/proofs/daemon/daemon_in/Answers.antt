@@ -17,7 +17,8 @@ returns-in_default-clause-log c fault =
 pub returns-clause-asked : goal.returns-clause-asked
 returns-clause-asked c =
     let found = found_of c.args.options.now in
-    let log = has_read {E = ParseLevelError} (λ text r. IsParsed (parse_filter text) r) found (codes "log") c.in-Some.log
+    let log = has_read {E = ParseLevelError} (λ text r. IsParsed (parse_filter text) r) found (codes "log")
+    c.in-Some.log
     c.in-Some.ensures.none c.in-Some.ensures.value in
     record {
       listen = c.in_ok-endpoints_in.ensures.ok;
@@ -27,12 +28,15 @@ returns-clause-asked c =
       idle = c.in_ok-number_in-3.ensures.ok;
       loops = c.in_ok-number_if_any-2.ensures.ok;
       token_file = c.get_str-2.ensures ∙ first_value-rows found (codes "token-file");
-      is_open = is_used found (codes "open") c.get_flag.result c.get_flag.ensures.none c.get_flag.ensures.value c.get_flag.ensures.other;
-      is_sharded = is_used found (codes "sharded") c.get_flag-2.result c.get_flag-2.ensures.none c.get_flag-2.ensures.value c.get_flag-2.ensures.other;
+      is_open = is_used found (codes "open") c.get_flag.result c.get_flag.ensures.none c.get_flag.ensures.value
+          c.get_flag.ensures.other;
+      is_sharded = is_used found (codes "sharded") c.get_flag-2.result c.get_flag-2.ensures.none
+          c.get_flag-2.ensures.value c.get_flag-2.ensures.other;
       origins = c.in_ok-texts_in.ensures.ok;
       status = c.in_ok-status_in.ensures.ok;
       status_hosts = c.in_ok-texts_in-2.ensures.ok;
       epoch = c.in_ok-epoch_in.ensures.ok;
-      while_input = is_used found (codes "while-input") c.get_flag-3.result c.get_flag-3.ensures.none c.get_flag-3.ensures.value c.get_flag-3.ensures.other;
+      while_input = is_used found (codes "while-input") c.get_flag-3.result c.get_flag-3.ensures.none
+          c.get_flag-3.ensures.value c.get_flag-3.ensures.other;
       log = (log.0, log.1, is_parsed ParseLevelError (parse_filter log.0) c.in-Some.log log.2);
     }

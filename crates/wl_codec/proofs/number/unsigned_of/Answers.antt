@@ -13,7 +13,8 @@ returns-then-has_minus c =
     let s = c.as_bytes-bytes.result.now in
     let signed : (get_or s 0 0 == 45) ≡ true = sym c.if-has_minus.ensures.value in
     let read : number_from true (scan (drop 1 s)) ≡ number_of s = rw signed in
-    as_u64-negative (scan (drop 1 s)) ∙ ap (λ o. as_u64 (unwrap_or o (negative (negsuc 0)))) read ∙ ap (λ t. as_u64 (num_of t)) c.as_bytes-bytes.ensures.value
+    as_u64-negative (scan (drop 1 s)) ∙ ap (λ o. as_u64 (unwrap_or o (negative (negsuc 0)))) read
+    ∙ ap (λ t. as_u64 (num_of t)) c.as_bytes-bytes.ensures.value
 
 pub returns-else-has_minus : goal.returns-else-has_minus
 unfolding num_of number_of
@@ -21,5 +22,7 @@ returns-else-has_minus c =
     let s = c.as_bytes-bytes.result.now in
     let unsigned : (get_or s 0 0 == 45) ≡ false = sym c.if-has_minus.ensures.value in
     let read : number_from false (scan s) ≡ number_of s = rw unsigned in
-    as_u64-unsigned c.scan.result c.to_u64.result c.to_u64.ensures ∙ ap (λ p. as_u64 (unwrap_or (number_from false p) (negative (negsuc 0)))) c.scan.ensures.parts
-    ∙ ap (λ o. as_u64 (unwrap_or o (negative (negsuc 0)))) read ∙ ap (λ t. as_u64 (num_of t)) c.as_bytes-bytes.ensures.value
+    as_u64-unsigned c.scan.result c.to_u64.result c.to_u64.ensures
+    ∙ ap (λ p. as_u64 (unwrap_or (number_from false p) (negative (negsuc 0)))) c.scan.ensures.parts
+    ∙ ap (λ o. as_u64 (unwrap_or o (negative (negsuc 0)))) read
+    ∙ ap (λ t. as_u64 (num_of t)) c.as_bytes-bytes.ensures.value

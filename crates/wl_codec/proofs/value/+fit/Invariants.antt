@@ -4,7 +4,9 @@ use Rattle.wl_codec.specs.Seen.{items_fit, members_fit}
 use Rattle.wl_codec.proofs.value.+fit.Given as goal
 
 abbrev pub invariant-items_fit-loop-item : goal.invariant-items_fit-loop-item
-invariant-items_fit-loop-item l = items_fit (items_view (drop l.item-index l.item-items)) ≡ items_fit (items_view l.item-items)
+invariant-items_fit-loop-item l = items_fit (items_view (drop l.item-index l.item-items))
+    ≡ items_fit (items_view l.item-items)
 
 abbrev pub invariant-members_fit-loop-member : goal.invariant-members_fit-loop-member
-invariant-members_fit-loop-member l = members_fit (members_view (drop l.member-index l.member-items)) ≡ members_fit (members_view l.member-items)
+invariant-members_fit-loop-member l = members_fit (members_view (drop l.member-index l.member-items))
+    ≡ members_fit (members_view l.member-items)

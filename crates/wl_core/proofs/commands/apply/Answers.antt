@@ -6,4 +6,5 @@ pub returns-in-Release : goal.returns-in-Release
 returns-in-Release g c = rw c.in-Release.is (gives_answers _ _ _ _ _ _ refl c.release.ensures.released refl)
 
 pub returns-in-Err-request : goal.returns-in-Err-request
-returns-in-Err-request g c = rw c.in-Request.is (refused_answers _ _ _ _ _ c.in-Err-request.ensures.refused c.in-Err-request.ensures.unchanged c.in-Err-request.ensures.no_changes)
+returns-in-Err-request g c = rw c.in-Request.is (refused_answers _ _ _ _ _ c.in-Err-request.ensures.refused
+    c.in-Err-request.ensures.unchanged c.in-Err-request.ensures.no_changes)

@@ -10,7 +10,8 @@ invariant-loop-command g l =
       count : l.done ≡ l.command-index;
       len : vec_len l.replies ≡ l.command-index;
       room : length l.commands ≤ vec_capacity l.replies;
-      told : l.replies.items ++ replies_of (drop l.command-index l.commands) (state l.core) ≡ replies_of l.commands (state l.fn.core);
+      told : l.replies.items ++ replies_of (drop l.command-index l.commands) (state l.core)
+          ≡ replies_of l.commands (state l.fn.core);
       rest : state_after (drop l.command-index l.commands) (state l.core) ≡ state_after l.commands (state l.fn.core);
       part : state l.core ≡ state_after (take l.command-index l.commands) (state l.fn.core);
     }

@@ -5,9 +5,12 @@ use Rattle.wl_core.proofs.processing.move_first.Given as goal
 -- what was moved and what is to be moved
 abbrev pub invariant-loop-left : goal.invariant-loop-left
 invariant-loop-left l = record {
-  held : l.held.items ++ map granted_lock (take l.left (queue l.name (drop l.i l.pending.items))) ≡ l.fn.held.items ++ map granted_lock (take l.fn.count (queue l.name l.fn.pending.items));
-  pending : take l.i l.pending.items ++ without_first l.name l.left (drop l.i l.pending.items) ≡ without_first l.name l.fn.count l.fn.pending.items;
-  changes : l.changes.items ++ map grant_change (take l.left (queue l.name (drop l.i l.pending.items))) ≡ l.fn.changes.items ++ map grant_change (take l.fn.count (queue l.name l.fn.pending.items));
+  held : l.held.items ++ map granted_lock (take l.left (queue l.name (drop l.i l.pending.items)))
+      ≡ l.fn.held.items ++ map granted_lock (take l.fn.count (queue l.name l.fn.pending.items));
+  pending : take l.i l.pending.items ++ without_first l.name l.left (drop l.i l.pending.items)
+      ≡ without_first l.name l.fn.count l.fn.pending.items;
+  changes : l.changes.items ++ map grant_change (take l.left (queue l.name (drop l.i l.pending.items)))
+      ≡ l.fn.changes.items ++ map grant_change (take l.fn.count (queue l.name l.fn.pending.items));
   held_len : vec_len l.held + vec_len l.pending ≡ vec_len l.fn.held + vec_len l.fn.pending;
   changes_len : vec_len l.changes + vec_len l.pending ≡ vec_len l.fn.changes + vec_len l.fn.pending;
   held_room : vec_capacity l.fn.held ≤ vec_capacity l.held;

@@ -7,9 +7,12 @@ use Rattle.wl_daemon.proofs.entry.check_addresses.Goals as goal
 
 pub loop-address-preserved : goal.loop-address-preserved
 loop-address-preserved c is_closed has_none =
-    All-more IsOfThisMachine c.args.addresses.now c.loop-address.address-index _ (omega arith) (c.loop-address.invariant is_closed has_none) (c.in_ok-check_address.ensures.guarded is_closed has_none)
+    All-more IsOfThisMachine c.args.addresses.now c.loop-address.address-index _ (omega arith)
+    (c.loop-address.invariant is_closed has_none) (c.in_ok-check_address.ensures.guarded is_closed has_none)
 
 pub returns : goal.returns
 returns c = record {
-  guarded = λ is_closed has_none. subst (All IsOfThisMachine) (take_all c.loop-address.address-index c.args.addresses.now c.loop-address-test.false) (c.loop-address.invariant is_closed has_none);
+  guarded = λ is_closed has_none. subst (All IsOfThisMachine)
+      (take_all c.loop-address.address-index c.args.addresses.now c.loop-address-test.false)
+      (c.loop-address.invariant is_closed has_none);
 }

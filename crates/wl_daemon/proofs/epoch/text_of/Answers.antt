@@ -13,4 +13,5 @@ returns c fits =
     ∙ ap (λ digits. digits ++ 10 ∷ []) c.in_ok-text.ensures.ok in
     let small : c.args.epoch < 2 ^ 64 = omega (arith, fits) in
     let digits = decimal_is_IsNumeral c.args.epoch small in
-    subst (λ kept. Writes kept c.args.epoch) (sym (ap without_lf text ∙ has_lf (decimal c.args.epoch))) (digits.0, digits.1, fits)
+    subst (λ kept. Writes kept c.args.epoch) (sym (ap without_lf text ∙ has_lf (decimal c.args.epoch)))
+    (digits.0, digits.1, fits)

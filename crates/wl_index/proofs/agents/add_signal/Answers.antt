@@ -11,7 +11,8 @@ err_holds : {T E : Type 0} (r : Result T E) (P : Type 0) → P → OnErr r P
 err_holds (Ok x) P p = tt
 err_holds (Err e) P p = p
 
-there : (c : After-insert) → lookup (is_at (nat_cmp c.args.agent)) c.args.agents.now.entries ≡ Some c.unwrap-agent.result.now
+there : (c : After-insert) → lookup (is_at (nat_cmp c.args.agent)) c.args.agents.now.entries
+    ≡ Some c.unwrap-agent.result.now
 there c = sym c.get_mut.ensures.value ∙ ap option_copied_mut c.unwrap-agent.ensures
 
 -- the agent afterwards
@@ -21,7 +22,14 @@ now c = record c.unwrap-agent.result.now { signals = c.insert.new.self }
 pub returns-in_err-insert-clause-err : goal.returns-in_err-insert-clause-err
 returns-in_err-insert-clause-err c =
     let at = (goal.at.returns-in_err-insert-clause-err c).After-insert in
-    rw (there at) (err_holds c.from_residual.result _ (now at, (c.get_mut.follows.holds (now at)).0, refl, refl, refl, c.in_err-insert.ensures.err))
+    rw (there at) (err_holds c.from_residual.result _ (
+      now at,
+      (c.get_mut.follows.holds (now at)).0,
+      refl,
+      refl,
+      refl,
+      c.in_err-insert.ensures.err,
+    ))
 
 pub returns-clause-ok : goal.returns-clause-ok
 returns-clause-ok c =

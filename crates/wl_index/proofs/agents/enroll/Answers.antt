@@ -8,5 +8,6 @@ use Rattle.wl_index.proofs.agents.enroll.Goals as goal
 pub returns-in-Some-clause-on : goal.returns-in-Some-clause-on
 returns-in-Some-clause-on c = on_ok_weaker c.sign.result (λ on. record {
   own = c.in_ok-enlist.ensures.on;
-  signed = λ s is. subst (λ k. Contains (list_at k c.sign.new.signals.entries) c.args.number) (ap (λ o. unwrap_or o s) (sym c.in-Some.is ∙ is)) on;
+  signed = λ s is. subst (λ k. Contains (list_at k c.sign.new.signals.entries) c.args.number)
+      (ap (λ o. unwrap_or o s) (sym c.in-Some.is ∙ is)) on;
 }) c.sign.ensures.on

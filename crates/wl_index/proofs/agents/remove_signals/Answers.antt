@@ -10,11 +10,13 @@ loop-number-preserved c =
     let n = c.in-Some.number.now in
     record {
       ordered = c.remove.ensures.ordered;
-      spares = ap (filter (is_spared c.next.new.self)) (c.remove.ensures.entries ∙ removed_at n l.signals.entries l.invariant.ordered) ∙ spared_next n c.next.new.self l.signals.entries
+      spares = ap (filter (is_spared c.next.new.self)) (c.remove.ensures.entries
+          ∙ removed_at n l.signals.entries l.invariant.ordered) ∙ spared_next n c.next.new.self l.signals.entries
           ∙ ap (λ ns. filter (is_spared ns) l.signals.entries) (sym c.in-Some.ensures.steps) ∙ l.invariant.spares;
     }
 
 pub returns-clause-entries : goal.returns-clause-entries
 returns-clause-entries c =
     let l = c.loop-number in
-    sym (spared_all l.signals.entries) ∙ ap (λ ns. filter (is_spared ns) l.signals.entries) (sym c.in-None.ensures.steps.0) ∙ l.invariant.spares
+    sym (spared_all l.signals.entries) ∙ ap (λ ns. filter (is_spared ns) l.signals.entries)
+    (sym c.in-None.ensures.steps.0) ∙ l.invariant.spares

@@ -9,5 +9,6 @@ use Rattle.wl_index.proofs.agents.remove_signals.Given as goal
 abbrev pub invariant-loop-number : goal.invariant-loop-number
 invariant-loop-number l = record {
   ordered : IsStrictlySortedBy nat_cmp (keys_of l.signals.entries);
-  spares : filter (is_spared l.number-iterator) l.signals.entries ≡ filter (is_spared (keys_of l.made.entries)) l.fn.signals.entries;
+  spares : filter (is_spared l.number-iterator) l.signals.entries
+      ≡ filter (is_spared (keys_of l.made.entries)) l.fn.signals.entries;
 }

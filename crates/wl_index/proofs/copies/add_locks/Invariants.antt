@@ -9,5 +9,11 @@ use Rattle.wl_index.proofs.copies.add_locks.Given as goal
 abbrev pub invariant-loop-number : goal.invariant-loop-number
 invariant-loop-number l = record {
   stand : AllByRecursion (Stands l.requests.entries) (into_iter_items l.number-iterator);
-  added : record l.draft { held = l.draft.held ++ found_at lock_row l.requests.entries (into_iter_items l.number-iterator) } ≡ record l.fn.draft { held = l.fn.draft.held ++ found_at lock_row l.requests.entries l.fn.numbers.items };
+  added : record l.draft {
+    held = l.draft.held ++ found_at lock_row l.requests.entries
+        (into_iter_items l.number-iterator);
+  } ≡ record l.fn.draft {
+    held = l.fn.draft.held
+        ++ found_at lock_row l.requests.entries l.fn.numbers.items;
+  };
 }

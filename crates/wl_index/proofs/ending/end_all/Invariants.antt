@@ -7,8 +7,10 @@ use Rattle.wl_index.proofs.ending.end_all.Given as goal
 abbrev pub invariant-loop-place : goal.invariant-loop-place
 invariant-loop-place l = record {
   live : AreLive (numbers_of (drop l.place-index l.places)) l.locks.entries;
-  entries : filter (is_spared (numbers_of (drop l.place-index l.places))) l.locks.entries ≡ filter (is_spared (numbers_of l.places)) l.fn.locks.entries;
-  changes : l.locks.changes ++ place_ends l.phase (drop l.place-index l.places) ≡ l.fn.locks.changes ++ place_ends l.phase l.places;
+  entries : filter (is_spared (numbers_of (drop l.place-index l.places))) l.locks.entries
+      ≡ filter (is_spared (numbers_of l.places)) l.fn.locks.entries;
+  changes : l.locks.changes ++ place_ends l.phase (drop l.place-index l.places)
+      ≡ l.fn.locks.changes ++ place_ends l.phase l.places;
   next : l.locks.next ≡ l.fn.locks.next;
   names : l.locks.names ≡ l.fn.locks.names;
 }

@@ -11,7 +11,12 @@ use Rattle.wl_index.proofs.Owned.{requests_held}
 use Rattle.wl_index.proofs.ending.end_owned.Goals as goal
 
 pub end_locks-requires-clause-finds : goal.end_locks-requires-clause-finds
-end_locks-requires-clause-finds c = (c.requires.finds.0, rw c.end_requests.ensures.ended (all_filter (λ (e : Entry). is_owned c.args.ending.owner e ≡ true → Contains c.args.numbers.now e.0) (λ e. not (ends_entry c.args.ending.owner Waits e)) c.args.locks.now.entries c.requires.finds.1))
+end_locks-requires-clause-finds c = (
+  c.requires.finds.0,
+  rw c.end_requests.ensures.ended
+      (all_filter (λ (e : Entry). is_owned c.args.ending.owner e ≡ true → Contains c.args.numbers.now e.0)
+      (λ e. not (ends_entry c.args.ending.owner Waits e)) c.args.locks.now.entries c.requires.finds.1),
+)
 
 pub end_locks-requires-clause-room : goal.end_locks-requires-clause-room
 end_locks-requires-clause-room c =
@@ -23,4 +28,7 @@ end_locks-requires-clause-room c =
 
 pub returns-clause-ended : goal.returns-clause-ended
 returns-clause-ended c =
-    c.end_locks.ensures.ended ∙ rw (c.end_requests.ensures.ended, requests_held c.args.ending.owner c.args.locks.now.entries) refl
+    c.end_locks.ensures.ended ∙ rw (
+      c.end_requests.ensures.ended,
+      requests_held c.args.ending.owner c.args.locks.now.entries,
+    ) refl

@@ -6,7 +6,8 @@ use Rattle.wl_index.proofs.listing.trim.Goals as goal
 
 pub returns-then-is_below : goal.returns-then-is_below
 returns-then-is_below c =
-    sym (none_trimmed c.args.list.now.items c.args.number (subst (λ l. AllByRecursion (λ n. n < c.args.number) l) c.deref.ensures.value
+    sym (none_trimmed c.args.list.now.items c.args.number (subst (λ l. AllByRecursion (λ n. n < c.args.number) l)
+    c.deref.ensures.value
     (c.is_below.ensures c.if-is_below.true)))
 
 pub returns : goal.returns

@@ -30,10 +30,13 @@ pub process_queue-requires-clause-due : goal.process_queue-requires-clause-due
 process_queue-requires-clause-due c =
     let l = c.loop-place in
     let at = (goal.at.process_queue-requires-clause-due c).In-Some in
-    let old : Lists = lists_of (held_of c.args.requests.now.entries) (pending_of c.args.requests.now.entries) c.args.event.now.changes in
-    let stands = (l.invariant.underway _ _ (start c.args.queues.now old c.args.event.now.touched c.requires.due.0)).stands in (
+    let old : Lists = lists_of (held_of c.args.requests.now.entries) (pending_of c.args.requests.now.entries)
+    c.args.event.now.changes in
+    let stands = (l.invariant.underway _ _ (start c.args.queues.now old c.args.event.now.touched
+    c.requires.due.0)).stands in (
       subst (Stands l.queues (held_of l.requests.entries) (pending_of l.requests.entries)) (touched at) stands,
-      sorted_least c.in-Some.place c.next_touched.new.self.touched (subst (IsSorted nat_cmp) (touched at) l.invariant.sorted),
+      sorted_least c.in-Some.place c.next_touched.new.self.touched
+          (subst (IsSorted nat_cmp) (touched at) l.invariant.sorted),
     )
 
 pub process_queue-requires-clause-room : goal.process_queue-requires-clause-room
@@ -54,8 +57,10 @@ loop-place-preserved c =
     let l = c.loop-place in
     let at = (goal.at.loop-place-preserved c).In-Some in
     record {
-      underway = λ target stay u. c.process_queue.ensures.underway target stay (rw (← touched at, ← changes at) (l.invariant.underway target stay u));
-      sorted = rw c.process_queue.ensures.touched (sorted_next c.in-Some.place c.next_touched.new.self.touched (subst (IsSorted nat_cmp) (touched at) l.invariant.sorted));
+      underway = λ target stay u. c.process_queue.ensures.underway target stay
+          (rw (← touched at, ← changes at) (l.invariant.underway target stay u));
+      sorted = rw c.process_queue.ensures.touched (sorted_next c.in-Some.place c.next_touched.new.self.touched
+          (subst (IsSorted nat_cmp) (touched at) l.invariant.sorted));
       next = c.process_queue.ensures.next ∙ l.invariant.next;
       tags = c.process_queue.ensures.tags ∙ l.invariant.tags;
       below = λ n all. c.process_queue.ensures.below n (l.invariant.below n all);
@@ -66,4 +71,6 @@ pub returns-clause-underway : goal.returns-clause-underway
 returns-clause-underway c target stay u =
     let l = c.loop-place in
     let n = c.in_default.ensures.none in
-    rw (ap (λ (h : Happened). h.changes) n.1) (subst (Underway target stay l.queues (lists_of (held_of l.requests.entries) (pending_of l.requests.entries) l.event.changes)) n.0 (l.invariant.underway target stay u))
+    rw (ap (λ (h : Happened). h.changes) n.1) (subst (Underway target stay l.queues
+    (lists_of (held_of l.requests.entries) (pending_of l.requests.entries) l.event.changes)) n.0
+    (l.invariant.underway target stay u))

@@ -7,4 +7,6 @@ use Rattle.wl_index.proofs.order.sort.Goals as goal
 pub returns-clause-items : goal.returns-clause-items
 returns-clause-items c =
     let sorted = c.sort_unstable_by_key.ensures in
-    sorted_by_grant_seq (λ (p : Place). p.grant_seq) c.args.places.now.items c.sort_unstable_by_key.new.self.items c.requires sorted.permutation (IsNonDecreasingBy-from_sort_by_key (λ (p : Place). p.grant_seq) _ sorted.sorted (λ a r q k. search rules))
+    sorted_by_grant_seq (λ (p : Place). p.grant_seq) c.args.places.now.items c.sort_unstable_by_key.new.self.items
+    c.requires sorted.permutation (IsNonDecreasingBy-from_sort_by_key (λ (p : Place). p.grant_seq) _ sorted.sorted
+    (λ a r q k. search rules))

@@ -14,7 +14,8 @@ there c = sym c.get_mut.ensures.value ∙ ap option_copied_mut c.in-Some.is
 
 -- the queue's numbers are below the new one
 below : (c : In-Some) → IsBelow c.args.number c.in-Some.queue.now
-below c = queue_at (λ (e : Placed). IsBelow c.args.number e.1) c.args.place c.in-Some.queue.now c.args.queues.now.entries c.get_mut.ensures.was_ordered (there c) c.requires
+below c = queue_at (λ (e : Placed). IsBelow c.args.number e.1) c.args.place c.in-Some.queue.now
+    c.args.queues.now.entries c.get_mut.ensures.was_ordered (there c) c.requires
 
 pub push-requires-clause-waits : goal.push-requires-clause-waits
 push-requires-clause-waits c = (below (goal.at.push-requires-clause-waits c).In-Some).0
@@ -26,13 +27,20 @@ pub returns-in-Some-clause-ok : goal.returns-in-Some-clause-ok
 returns-in-Some-clause-ok c =
     let es = c.args.queues.now.entries in
     let at = there (goal.at.returns-in-Some-clause-ok c).In-Some in
-    on_ok_weaker c.push.result (λ ok. (c.get_mut.follows.holds c.push.new.self).0 ∙ ap (set_value (is_at (nat_cmp c.args.place)) es) ok ∙ set_updated c.args.place (λ w. with_one_more w c.args.number c.args.mode) es c.in-Some.queue.now c.get_mut.ensures.was_ordered at) c.push.ensures.ok
+    on_ok_weaker c.push.result (λ ok. (c.get_mut.follows.holds c.push.new.self).0
+    ∙ ap (set_value (is_at (nat_cmp c.args.place)) es) ok
+    ∙ set_updated c.args.place (λ w. with_one_more w c.args.number c.args.mode) es c.in-Some.queue.now
+    c.get_mut.ensures.was_ordered at) c.push.ensures.ok
 
 pub returns-in-Some-clause-err : goal.returns-in-Some-clause-err
 returns-in-Some-clause-err c =
-    unless_pushed (is_at (nat_cmp c.args.place)) c.args.queues.now.entries _ c.in-Some.queue.now c.push.new.self c.push.result (there (goal.at.returns-in-Some-clause-err c).In-Some) (c.get_mut.follows.holds c.push.new.self).0 c.push.ensures.err
+    unless_pushed (is_at (nat_cmp c.args.place)) c.args.queues.now.entries _ c.in-Some.queue.now c.push.new.self
+    c.push.result (there (goal.at.returns-in-Some-clause-err c).In-Some) (c.get_mut.follows.holds c.push.new.self).0
+    c.push.ensures.err
 
 pub returns-in-None-clause-ok : goal.returns-in-None-clause-ok
 returns-in-None-clause-ok c =
-    let none : at_place c.args.place c.args.queues.now.entries ≡ None = sym c.get_mut.ensures.value ∙ ap option_copied_mut c.in-None.is in
-    rw c.get_mut.follows.holds-at-none (sym (none_updated c.args.place (λ w. with_one_more w c.args.number c.args.mode) c.args.queues.now.entries none))
+    let none : at_place c.args.place c.args.queues.now.entries ≡ None = sym c.get_mut.ensures.value
+    ∙ ap option_copied_mut c.in-None.is in
+    rw c.get_mut.follows.holds-at-none (sym (none_updated c.args.place (λ w. with_one_more w c.args.number c.args.mode)
+    c.args.queues.now.entries none))

@@ -8,5 +8,6 @@ use Rattle.wl_index.proofs.snapshots.add_queue.Given as goal
 abbrev pub invariant-loop-number : goal.invariant-loop-number
 invariant-loop-number l = record {
   stand : AllByRecursion (Stands l.requests.entries) (keys_of l.number-iterator);
-  shown : l.infos ++ found_at info l.requests.entries (keys_of l.number-iterator) ≡ l.fn.infos ++ found_at info l.requests.entries (keys_of l.name_queue.waits);
+  shown : l.infos ++ found_at info l.requests.entries (keys_of l.number-iterator)
+      ≡ l.fn.infos ++ found_at info l.requests.entries (keys_of l.name_queue.waits);
 }

@@ -10,7 +10,8 @@ loop-number-init c =
     let all = c.into_iter-number-iterator.ensures.into_iter_gives.0 in
     record {
       stand = subst (AllByRecursion (Stands es)) (sym (all ∙ c.requires.locks)) (locks_stand es c.requires.ordered);
-      shown = ap (λ infos. infos ++ found_at info es c.into_iter-number-iterator.result.rest.items) c.new-infos.ensures ∙ ap (found_at info es) all;
+      shown = ap (λ infos. infos ++ found_at info es c.into_iter-number-iterator.result.rest.items) c.new-infos.ensures
+          ∙ ap (found_at info es) all;
     }
 
 pub returns : goal.returns
@@ -18,5 +19,6 @@ returns c =
     let es = c.args.requests.now.entries in
     let rest = c.loop-number.number-iterator.rest in
     let empty = nil_from_length rest.items (sym rest.ok.0 ∙ c.in-None.ensures.steps.0) in
-    sym (append-nil c.loop-number.infos) ∙ ap (λ numbers. c.loop-number.infos ++ found_at info es numbers) (sym empty) ∙ c.loop-number.invariant.shown
+    sym (append-nil c.loop-number.infos) ∙ ap (λ numbers. c.loop-number.infos ++ found_at info es numbers) (sym empty)
+    ∙ c.loop-number.invariant.shown
     ∙ ap (found_at info es) c.requires.locks ∙ locks_shown es c.requires.ordered

@@ -8,5 +8,6 @@ use Rattle.wl_index.proofs.snapshots.held_infos.Given as goal
 abbrev pub invariant-loop-number : goal.invariant-loop-number
 invariant-loop-number l = record {
   stand : AllByRecursion (Stands l.requests.entries) (into_iter_items l.number-iterator);
-  shown : l.infos ++ found_at info l.requests.entries (into_iter_items l.number-iterator) ≡ found_at info l.requests.entries l.fn.numbers.items;
+  shown : l.infos ++ found_at info l.requests.entries (into_iter_items l.number-iterator)
+      ≡ found_at info l.requests.entries l.fn.numbers.items;
 }

@@ -7,7 +7,8 @@ use Rattle.wl_script.proofs.auditing.write_origins.Given as goal
 -- the lines of the first origins were written
 abbrev pub invariant-loop-key : goal.invariant-loop-key
 invariant-loop-key g l = record {
-  written : Appends (g.W.Output.held l.fn.writer) (g.W.Output.held l.writer) (audit_text (cores_of (take l.key-index l.books)));
+  written : Appends (g.W.Output.held l.fn.writer) (g.W.Output.held l.writer)
+      (audit_text (cores_of (take l.key-index l.books)));
   count : l.written ≡ length (with_entries (cores_of (take l.key-index l.books)));
   few : l.written ≤ l.key-index;
   same : g.W.Output.failures l.writer ≡ g.W.Output.failures l.fn.writer;

@@ -32,9 +32,11 @@ loop-line-preserved g c =
 pub returns-clause-fed : goal.returns-clause-fed
 returns-clause-fed g c =
     let (front, split, fed) = c.loop-line.invariant.fed in
-    on_ok_weaker c.keep.result (λ kept. fed_rest _ _ _ _ _ _ _ _ split c.loop-line.invariant.open_end (search rules) kept (search rules) fed) c.keep.ensures.kept
+    on_ok_weaker c.keep.result (λ kept. fed_rest _ _ _ _ _ _ _ _ split c.loop-line.invariant.open_end (search rules)
+    kept (search rules) fed) c.keep.ensures.kept
 
 pub returns-clause-breaks : goal.returns-clause-breaks
 returns-clause-breaks g c =
     let (front, split, fed) = c.loop-line.invariant.fed in
-    IfErr-weaker c.keep.result _ _ (λ fault h. broken_rest _ _ _ _ _ _ fault split c.loop-line.invariant.open_end (search rules) fed h) c.keep.ensures.err
+    IfErr-weaker c.keep.result _ _ (λ fault h. broken_rest _ _ _ _ _ _ fault split c.loop-line.invariant.open_end
+    (search rules) fed h) c.keep.ensures.err

@@ -7,8 +7,10 @@ abbrev pub invariant-loop-line : goal.invariant-loop-line
 invariant-loop-line g l = record {
   -- what was taken so far
   fed : (front : List ℕ) × (l.piece ≡ front ++ l.rest)
-      × Fed l.limit (moment l.fn.progress.unfinished.items l.fn.progress.answered (g.A.Answerer.world l.fn.answerer) (g.W.Output.held l.fn.writer)) front
-      (moment l.progress.unfinished.items l.progress.answered (g.A.Answerer.world l.answerer) (g.W.Output.held l.writer));
+      × Fed l.limit (moment l.fn.progress.unfinished.items l.fn.progress.answered (g.A.Answerer.world l.fn.answerer)
+      (g.W.Output.held l.fn.writer)) front
+      (moment l.progress.unfinished.items l.progress.answered (g.A.Answerer.world l.answerer)
+      (g.W.Output.held l.writer));
   open_end : HasNoLf l.progress.unfinished.items;
   count : l.progress.answered + length l.rest ≤ l.fn.progress.answered + length l.piece;
   same : g.W.Output.failures l.writer ≡ g.W.Output.failures l.fn.writer;

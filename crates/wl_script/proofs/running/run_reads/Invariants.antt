@@ -9,7 +9,8 @@ invariant-loop-turn g l = record {
   -- what was read so far
   fed : (bytes : List ℕ) × Consumes (g.R.Input.rest l.fn.reader) (g.R.Input.rest l.reader) bytes
       × Fed l.limits.line (moment [] 0 (g.A.Answerer.world l.fn.answerer) (g.W.Output.held l.fn.writer)) bytes
-      (moment l.progress.unfinished.items l.progress.answered (g.A.Answerer.world l.answerer) (g.W.Output.held l.writer))
+      (moment l.progress.unfinished.items l.progress.answered (g.A.Answerer.world l.answerer)
+      (g.W.Output.held l.writer))
       × (l.turn ≤ length bytes);
   short : length l.progress.unfinished.items ≤ l.limits.line;
   count : l.progress.answered ≤ 65536 * l.turn;

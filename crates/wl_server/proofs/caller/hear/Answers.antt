@@ -25,11 +25,16 @@ returns-in-Ok-Text g c =
     )) c.copy.ensures
 
 -- one more that is a ping or a pong
-more : (g : Over) (c : Else-not-is_idle g) → (before : List Message) × Idles g.S.Read.remaining c.args.socket.now before c.read.new.self
+more : (g : Over) (c : Else-not-is_idle g) → (before : List Message)
+    × Idles g.S.Read.remaining c.args.socket.now before c.read.new.self
 more g c =
     let (before, all) = c.loop.invariant in
-    let so : c.is_idle.result ≡ true = search rules in
-    (before ++ c.in-Ok.message ∷ [], idles_more g.S.Read.remaining before c.in-Ok.message c.args.socket.now c.loop.socket c.read.new.self all (rw c.in-Ok.is at c.read.ensures) (idle c.in-Ok.message (sym c.is_idle.ensures ∙ so)))
+    let so : c.is_idle.result ≡ true = search rules in (
+      before ++ c.in-Ok.message ∷ [],
+      idles_more g.S.Read.remaining before c.in-Ok.message c.args.socket.now
+          c.loop.socket c.read.new.self all (rw c.in-Ok.is at c.read.ensures)
+          (idle c.in-Ok.message (sym c.is_idle.ensures ∙ so)),
+    )
 
 pub loop-preserved-else-not-is_idle-5 : goal.loop-preserved-else-not-is_idle-5
 loop-preserved-else-not-is_idle-5 g c = more g (goal.at.loop-preserved-else-not-is_idle-5 g c).Else-not-is_idle

@@ -5,7 +5,8 @@ use Rattle.wl_server.specs.declared.fault.RelayFault.TheVariants.{Handshake, Mem
 use Rattle.wl_server.proofs.relaying.relay.Goals as goal
 
 handed_on : (fault : RelayFault) → (fault ≡ Handshake) ⊎ (fault ≡ Memory)
-    → (◌≡◌ {A = Result ℕ RelayFault} (Err fault) (Err Handshake)) ⊎ (◌≡◌ {A = Result ℕ RelayFault} (Err fault) (Err Memory))
+    → (◌≡◌ {A = Result ℕ RelayFault} (Err fault) (Err Handshake))
+    ⊎ (◌≡◌ {A = Result ℕ RelayFault} (Err fault) (Err Memory))
 handed_on fault (inl is) = inl (ap Err is)
 handed_on fault (inr is) = inr (ap Err is)
 

@@ -8,16 +8,25 @@ use Rattle.wl_server.proofs.requests.observe_changed.Goals as goal
 pub loop-number-preserved : goal.loop-number-preserved
 loop-number-preserved c = elim c.match-change_of.branch [
   | in-Some+in_ok-push w ↦ (
-      let both = one_more c.loop-number.observed.items c.loop-number.least (slice_index_or c.args.numbers.now c.loop-number.number-index 0) w.in-Some.phase c.loop-number.invariant.by_number c.loop-number.invariant.below (omega arith) in
+      let both = one_more c.loop-number.observed.items c.loop-number.least
+      (slice_index_or c.args.numbers.now c.loop-number.number-index 0) w.in-Some.phase
+      c.loop-number.invariant.by_number c.loop-number.invariant.below (omega arith) in
       record {
         by_number = rw (w.observed-is, w.in_ok-push.ensures.items) both.0;
         below = rw (w.observed-is, w.in_ok-push.ensures.items) both.1;
-        fit = rw (w.observed-is, w.in_ok-push.ensures.items) (All-push (Fits c.args.outcome.now c.args.session.now.last_reported) c.loop-number.observed.items (slice_index_or c.args.numbers.now c.loop-number.number-index 0, w.in-Some.phase) c.loop-number.invariant.fit w.in-Some.ensures.0);
-        taken = rw (w.observed-is, w.in_ok-push.ensures.items) (taken_more c.loop-number.observed.items (slice_index_or c.args.numbers.now c.loop-number.number-index 0) w.in-Some.phase c.loop-number.invariant.taken w.in-Some.ensures.1);
+        fit = rw (w.observed-is, w.in_ok-push.ensures.items)
+            (All-push (Fits c.args.outcome.now c.args.session.now.last_reported) c.loop-number.observed.items
+            (slice_index_or c.args.numbers.now c.loop-number.number-index 0, w.in-Some.phase)
+            c.loop-number.invariant.fit
+            w.in-Some.ensures.0);
+        taken = rw (w.observed-is, w.in_ok-push.ensures.items)
+            (taken_more c.loop-number.observed.items (slice_index_or c.args.numbers.now c.loop-number.number-index 0)
+            w.in-Some.phase c.loop-number.invariant.taken w.in-Some.ensures.1);
       })
   | in_default w ↦ record {
     by_number = rw w.observed-is c.loop-number.invariant.by_number;
-    below = rw w.observed-is (none_more c.loop-number.observed.items c.loop-number.least (slice_index_or c.args.numbers.now c.loop-number.number-index 0) c.loop-number.invariant.below (omega arith));
+    below = rw w.observed-is (none_more c.loop-number.observed.items c.loop-number.least
+        (slice_index_or c.args.numbers.now c.loop-number.number-index 0) c.loop-number.invariant.below (omega arith));
     fit = rw w.observed-is c.loop-number.invariant.fit;
     taken = rw w.observed-is c.loop-number.invariant.taken;
   }

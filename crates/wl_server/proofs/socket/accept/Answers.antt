@@ -24,5 +24,6 @@ returns-in-Ok-clause-begins g c =
       );
       messages = messages ∙ rw (c.read_buffer_size.ensures, c.max_frame_size.ensures, c.max_message_size.ensures) refl;
       frames = frames ∙ rw (c.read_buffer_size.ensures, c.max_frame_size.ensures) refl;
-      masked = masked ∙ rw (c.read_buffer_size.ensures, c.max_frame_size.ensures, c.max_message_size.ensures) none_unmasked;
+      masked = masked ∙ rw (c.read_buffer_size.ensures, c.max_frame_size.ensures, c.max_message_size.ensures)
+          none_unmasked;
     }

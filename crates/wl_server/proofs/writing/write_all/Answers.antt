@@ -6,9 +6,11 @@ use Rattle.std.proofs.KnownBytes.{Appends-trans, Appends-kept}
 use Rattle.wl_server.proofs.writing.write_all.Goals as goal
 
 -- a write that took nothing
-nothing_more : (a b d : Option (List ℕ)) (bs rest : List ℕ) (n : ℕ) → n ≡ 0 → Appends a b bs → Appends b d (take n rest) → Appends a d bs
+nothing_more : (a b d : Option (List ℕ)) (bs rest : List ℕ) (n : ℕ) → n ≡ 0 → Appends a b bs → Appends b d (take n rest)
+    → Appends a d bs
 nothing_more a b d bs rest n is before none =
-    subst (Appends a d) (append-nil bs) (Appends-trans a b d bs [] before (subst (λ k. Appends b d (take k rest)) is none))
+    subst (Appends a d) (append-nil bs) (Appends-trans a b d bs [] before
+    (subst (λ k. Appends b d (take k rest)) is none))
 
 pub returns-in-Ok-eq0-clause-some : goal.returns-in-Ok-eq0-clause-some
 returns-in-Ok-eq0-clause-some g c = (

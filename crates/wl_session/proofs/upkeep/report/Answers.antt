@@ -8,7 +8,10 @@ pub returns-then-AT_ONCE-clause-last_reported : goal.returns-then-AT_ONCE-clause
 returns-then-AT_ONCE-clause-last_reported g c =
     live_of_reported c.report_at_once.new.last_reported.items c.report_at_once.ensures.list
     ∙ c.report_at_once.ensures.items
-    ∙ ap (λ (now : List RequestPhase). with_observed now c.args.observed.now) (sym (live_of_reported c.args.last_reported.now.items (kept_is_reported _ (subst (λ b. IsKept b c.args.last_reported.now.items) (sym c.AT_ONCE.ensures ∙ c.if-AT_ONCE.true) c.requires.kept))))
+    ∙ ap (λ (now : List RequestPhase). with_observed now c.args.observed.now)
+    (sym (live_of_reported c.args.last_reported.now.items
+    (kept_is_reported _ (subst (λ b. IsKept b c.args.last_reported.now.items)
+    (sym c.AT_ONCE.ensures ∙ c.if-AT_ONCE.true) c.requires.kept))))
 
 pub returns-else-AT_ONCE-clause-last_reported : goal.returns-else-AT_ONCE-clause-last_reported
 returns-else-AT_ONCE-clause-last_reported g c =

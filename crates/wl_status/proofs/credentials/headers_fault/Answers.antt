@@ -5,7 +5,8 @@ use Rattle.wl_status.specs.declared.routing.Refusal.TheVariants as refusal
 use Rattle.wl_status.proofs.credentials.headers_fault.Goals as goal
 
 -- of several headers none is looked at
-several : (rules : List Rule) (headers : List (Bor (List ℕ))) → 2 ≤ length headers → headers_fault rules (map (λ h. h.now) headers) ≡ Some refusal.BadRequest
+several : (rules : List Rule) (headers : List (Bor (List ℕ))) → 2 ≤ length headers
+    → headers_fault rules (map (λ h. h.now) headers) ≡ Some refusal.BadRequest
 several rules [] enough = absurd (omega arith)
 several rules (header ∷ []) enough = absurd (omega arith)
 several rules (header ∷ other ∷ more) enough = refl

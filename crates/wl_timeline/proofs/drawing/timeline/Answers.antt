@@ -25,7 +25,8 @@ pub returns-in_default-clause-at_once : goal.returns-in_default-clause-at_once
 returns-in_default-clause-at_once g c = counts_unread (g.R.Input.rest c.args.reader.now)
 
 -- a fault that is passed on is the one that came
-turns_pass : {T : Type 0} (result : Result T ScriptFault) (fault : ScriptFault) (Q : Type 0) → IsErrAnd result (λ it. it ≡ fault)
+turns_pass : {T : Type 0} (result : Result T ScriptFault) (fault : ScriptFault) (Q : Type 0)
+    → IsErrAnd result (λ it. it ≡ fault)
     → (IsTooManyTurns {T = T} (Err fault) → Q) → IsTooManyTurns result → Q
 turns_pass (Ok n) fault Q is then turns = absurd turns
 turns_pass {T} (Err it) fault Q is then turns = then (subst (λ it. IsTooManyTurns {T = T} (Err it)) is turns)

@@ -7,10 +7,13 @@ use Rattle.std.proofs.lemmas.Map.Keys.{IsStrictlyIncreasing-dedup, sorted_from_s
 use Rattle.wl_world.proofs.agent_index.arrange.Goals as goal
 
 pub returns-then-is_rising-clause-sorted : goal.returns-then-is_rising-clause-sorted
-returns-then-is_rising-clause-sorted c = sorted_from_strictly_increasing c.args.numbers.now.items (subst IsStrictlyIncreasing c.deref.ensures.value (c.is_rising.ensures c.if-is_rising.true))
+returns-then-is_rising-clause-sorted c = sorted_from_strictly_increasing c.args.numbers.now.items
+    (subst IsStrictlyIncreasing c.deref.ensures.value (c.is_rising.ensures c.if-is_rising.true))
 
 pub returns-clause-sorted : goal.returns-clause-sorted
-returns-clause-sorted c = rw (dedup_is _ _ _ c.dedup.ensures.filtered) (sorted_from_strictly_increasing _ (IsStrictlyIncreasing-dedup _ c.sort_unstable.ensures.sorted))
+returns-clause-sorted c = rw (dedup_is _ _ _ c.dedup.ensures.filtered)
+    (sorted_from_strictly_increasing _ (IsStrictlyIncreasing-dedup _ c.sort_unstable.ensures.sorted))
 
 pub returns-clause-all : goal.returns-clause-all
-returns-clause-all c = λ n has. rw (dedup_is _ _ _ c.dedup.ensures.filtered) (Contains-dedup_nat _ n (Contains-permutation _ _ n c.sort_unstable.ensures.permutation has))
+returns-clause-all c = λ n has. rw (dedup_is _ _ _ c.dedup.ensures.filtered)
+    (Contains-dedup_nat _ n (Contains-permutation _ _ n c.sort_unstable.ensures.permutation has))

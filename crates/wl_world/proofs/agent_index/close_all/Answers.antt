@@ -6,6 +6,7 @@ use Rattle.wl_world.proofs.agent_index.close_all.Goals as goal
 pub loop-number-preserved : goal.loop-number-preserved
 loop-number-preserved c = record {
   ordered = c.close_at.ensures.ordered;
-  under_way = one_more_of (close_one c.args.agent) (left_twice c.args.agent) _ c.loop-number.number-index c.args.numbers.now c.args.live.now.entries c.loop-number.live.entries c.close_at.new.live.entries
+  under_way = one_more_of (close_one c.args.agent) (left_twice c.args.agent) _ c.loop-number.number-index
+      c.args.numbers.now c.args.live.now.entries c.loop-number.live.entries c.close_at.new.live.entries
       c.loop-number-test.true (search rules) c.loop-number.invariant.under_way c.close_at.ensures.each;
 }

@@ -13,9 +13,14 @@ loop-number-preserved c =
     let after = c.collect_at.new.live.entries in
     record {
       ordered = c.in_ok-collect_at.ensures.ordered;
-      under_way = one_more_of (collect_one c.args.agent) (collect_twice c.args.agent) _ loop.number-index numbers start before after
+      under_way = one_more_of (collect_one c.args.agent) (collect_twice c.args.agent) _ loop.number-index numbers start
+          before after
           c.loop-number-test.true (search rules) loop.invariant.under_way c.in_ok-collect_at.ensures.each;
-      untouched = untouched_more (collect_one c.args.agent) _ loop.number-index numbers start before after c.requires.sorted (search rules) c.in_ok-collect_at.ensures.each loop.invariant.untouched;
-      observed = observed_more (λ number. observed_of c.args.agent (found number start)) numbers loop.number-index loop.observed.items c.collect_at.new.observed.items
-          c.loop-number-test.true loop.invariant.observed (c.in_ok-collect_at.ensures.observed ∙ ap (λ o. loop.observed.items ++ observed_of c.args.agent o) (loop.invariant.untouched loop.number-index (omega arith) c.loop-number-test.true));
+      untouched = untouched_more (collect_one c.args.agent) _ loop.number-index numbers start before after
+          c.requires.sorted (search rules) c.in_ok-collect_at.ensures.each loop.invariant.untouched;
+      observed = observed_more (λ number. observed_of c.args.agent (found number start)) numbers loop.number-index
+          loop.observed.items c.collect_at.new.observed.items
+          c.loop-number-test.true loop.invariant.observed (c.in_ok-collect_at.ensures.observed
+          ∙ ap (λ o. loop.observed.items ++ observed_of c.args.agent o)
+          (loop.invariant.untouched loop.number-index (omega arith) c.loop-number-test.true));
     }

@@ -12,5 +12,6 @@ invariant-loop-number l = record {
   ordered : IsStrictlySortedBy nat_cmp (keys_of l.live.entries);
   under_way : IsUnderWay (collect_one l.agent) l.fn.live.entries l.live.entries (drop l.number-index l.numbers);
   untouched : IsUntouchedFrom l.number-index l.numbers l.fn.live.entries l.live.entries;
-  observed : l.observed.items ≡ flat_map (λ number. observed_of l.agent (found number l.fn.live.entries)) (take l.number-index l.numbers);
+  observed : l.observed.items ≡ flat_map (λ number. observed_of l.agent (found number l.fn.live.entries))
+      (take l.number-index l.numbers);
 }

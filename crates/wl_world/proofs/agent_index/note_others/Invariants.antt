@@ -10,5 +10,6 @@ abbrev pub invariant-loop-change : goal.invariant-loop-change
 invariant-loop-change l = record {
   index : IsIndex l.live.entries l.agent_index.entries;
   greatest : IsRising 0 l.number (values_of l.live.entries);
-  with_changes : (agent : ℕ) → values_of l.live.entries ++ coming agent l.number l.phase ∷ [] ≡ with_changes (take l.change-index l.changes) (values_of l.fn.live.entries ++ waiting agent l.number ∷ []);
+  with_changes : (agent : ℕ) → values_of l.live.entries ++ coming agent l.number l.phase ∷ []
+      ≡ with_changes (take l.change-index l.changes) (values_of l.fn.live.entries ++ waiting agent l.number ∷ []);
 }

@@ -7,4 +7,5 @@ use Rattle.wl_world.proofs.cores.sort_cores.Goals as goal
 
 pub returns-clause-sorted : goal.returns-clause-sorted
 returns-clause-sorted g c =
-    c.sort_unstable_by.ensures.sorted (λ one other. is_lt (manager_cmp one.0 other.0)) (ranks_by manager_cmp_total (λ entry. entry.0)) (always_returns_same _ _ _ (λ a r f' k. search rules))
+    c.sort_unstable_by.ensures.sorted (λ one other. is_lt (manager_cmp one.0 other.0))
+    (ranks_by manager_cmp_total (λ entry. entry.0)) (always_returns_same _ _ _ (λ a r f' k. search rules))

@@ -7,4 +7,5 @@ use Rattle.wl_world.proofs.labels.remove_closed.Goals as goal
 pub returns-then-closed : goal.returns-then-closed
 returns-then-closed c =
     closes (labels_of c.args.labels.now) (labels_of c.remove.new.self) c.args.name.now c.args.closed (search rules)
-    (set (labels_of c.args.labels.now) (labels_of c.remove.new.self) c.args.name.now None (hash_map_updates_text c.args.name.now c.args.labels.now c.remove.new.self None c.remove.ensures.updates))
+    (set (labels_of c.args.labels.now) (labels_of c.remove.new.self) c.args.name.now None
+    (hash_map_updates_text c.args.name.now c.args.labels.now c.remove.new.self None c.remove.ensures.updates))

@@ -8,5 +8,7 @@ use Rattle.wl_world.proofs.realm.open_agent_at.Goals as goal
 pub returns-clause-realm : goal.returns-clause-realm
 returns-clause-realm g c =
     let new = c.open_agent.new.self in
-    written_through g.C.LockCore.no_entries (realm_of g.C.LockCore.no_entries c.args.realm.now) c.open_agent.result c.seat.new.realm (c.get_mut.follows.lender new) c.args.key.now c.in-Some.origin.now new
-    (λ o. (admitted o c.args.kind).origin) c.in_ok-seat.ensures.same (search rules) ((c.get_mut.follows.holds new).3 (search rules)) (origin_in c.open_agent.result _ _ c.open_agent.ensures)
+    written_through g.C.LockCore.no_entries (realm_of g.C.LockCore.no_entries c.args.realm.now) c.open_agent.result
+    c.seat.new.realm (c.get_mut.follows.lender new) c.args.key.now c.in-Some.origin.now new
+    (λ o. (admitted o c.args.kind).origin) c.in_ok-seat.ensures.same (search rules)
+    ((c.get_mut.follows.holds new).3 (search rules)) (origin_in c.open_agent.result _ _ c.open_agent.ensures)

@@ -6,52 +6,90 @@ use Rattle.wl_world.proofs.Operations.{accepted, handed_on, or_memory, queried, 
 use Rattle.wl_world.proofs.steps.operate.Goals as goal
 
 pub returns-in_ok-new_signal-in-Signal-clause-done : goal.returns-in_ok-new_signal-in-Signal-clause-done
-returns-in_ok-new_signal-in-Signal-clause-done g c = rw c.in-Signal.is (accepted _ _ _ body.Signal _ _ _ _ _ c.in_ok-new_signal-in-Signal.ensures.made c.in_ok-new_signal-in-Signal.ensures.recorded)
+returns-in_ok-new_signal-in-Signal-clause-done g c = rw c.in-Signal.is
+    (accepted _ _ _ body.Signal _ _ _ _ _ c.in_ok-new_signal-in-Signal.ensures.made
+    c.in_ok-new_signal-in-Signal.ensures.recorded)
 
 pub returns-in_err-new_signal-in-Signal-clause-done : goal.returns-in_err-new_signal-in-Signal-clause-done
 returns-in_err-new_signal-in-Signal-clause-done g c =
-    rw c.in-Signal.is (handed_on _ _ c.args.agent body.Signal _ c.from_residual.result c.in_err-new_signal-in-Signal.field-0.0 c.from_residual.ensures.1 (refused _ _ c.args.agent body.Signal (command.NewSignal c.args.agent) _ _ _ c.in_err-new_signal-in-Signal.ensures.refused c.in_err-new_signal-in-Signal.ensures.unchanged c.in_err-new_signal-in-Signal.ensures.not_recorded))
+    rw c.in-Signal.is (handed_on _ _ c.args.agent body.Signal _ c.from_residual.result
+    c.in_err-new_signal-in-Signal.field-0.0 c.from_residual.ensures.1
+    (refused _ _ c.args.agent body.Signal (command.NewSignal c.args.agent) _ _ _
+    c.in_err-new_signal-in-Signal.ensures.refused c.in_err-new_signal-in-Signal.ensures.unchanged
+    c.in_err-new_signal-in-Signal.ensures.not_recorded))
 
 pub returns-in_ok-request-in-Request-clause-done : goal.returns-in_ok-request-in-Request-clause-done
-returns-in_ok-request-in-Request-clause-done g c = rw c.in-Request.is (accepted _ _ _ (body.Request _) _ _ _ _ _ c.in_ok-request-in-Request.ensures.requested c.in_ok-request-in-Request.ensures.recorded)
+returns-in_ok-request-in-Request-clause-done g c = rw c.in-Request.is
+    (accepted _ _ _ (body.Request _) _ _ _ _ _ c.in_ok-request-in-Request.ensures.requested
+    c.in_ok-request-in-Request.ensures.recorded)
 
 pub returns-in_err-request-in-Request-clause-done : goal.returns-in_err-request-in-Request-clause-done
 returns-in_err-request-in-Request-clause-done g c =
-    rw c.in-Request.is (handed_on _ _ c.args.agent (body.Request c.in-Request.ask) _ c.from_residual-in_err-request-in-Request.result c.in_err-request-in-Request.field-0.0 c.from_residual-in_err-request-in-Request.ensures.1 (refused _ _ c.args.agent (body.Request c.in-Request.ask) (command.Request c.args.agent c.in-Request.ask) _ _ _ c.in_err-request-in-Request.ensures.refused c.in_err-request-in-Request.ensures.unchanged c.in_err-request-in-Request.ensures.not_recorded))
+    rw c.in-Request.is (handed_on _ _ c.args.agent (body.Request c.in-Request.ask) _
+    c.from_residual-in_err-request-in-Request.result c.in_err-request-in-Request.field-0.0
+    c.from_residual-in_err-request-in-Request.ensures.1 (refused _ _ c.args.agent (body.Request c.in-Request.ask)
+    (command.Request c.args.agent c.in-Request.ask) _ _ _ c.in_err-request-in-Request.ensures.refused
+    c.in_err-request-in-Request.ensures.unchanged c.in_err-request-in-Request.ensures.not_recorded))
 
 pub returns-in_ok-abort-in-Abort-clause-done : goal.returns-in_ok-abort-in-Abort-clause-done
-returns-in_ok-abort-in-Abort-clause-done g c = rw c.in-Abort.is (accepted _ _ _ (body.Abort _ _) _ _ _ _ _ c.in_ok-abort-in-Abort.ensures.aborted c.in_ok-abort-in-Abort.ensures.recorded)
+returns-in_ok-abort-in-Abort-clause-done g c = rw c.in-Abort.is
+    (accepted _ _ _ (body.Abort _ _) _ _ _ _ _ c.in_ok-abort-in-Abort.ensures.aborted
+    c.in_ok-abort-in-Abort.ensures.recorded)
 
 pub returns-in_err-abort-in-Abort-clause-done : goal.returns-in_err-abort-in-Abort-clause-done
 returns-in_err-abort-in-Abort-clause-done g c =
-    rw c.in-Abort.is (handed_on _ _ c.args.agent (body.Abort c.in-Abort.signal c.in-Abort.reason) _ c.from_residual-in_err-abort-in-Abort.result c.in_err-abort-in-Abort.field-0.0 c.from_residual-in_err-abort-in-Abort.ensures.1 (refused _ _ c.args.agent (body.Abort c.in-Abort.signal c.in-Abort.reason) (command.Abort c.args.agent c.in-Abort.signal c.in-Abort.reason) _ _ _ (or_memory _ _ c.in_err-abort-in-Abort.ensures.refused) c.in_err-abort-in-Abort.ensures.unchanged c.in_err-abort-in-Abort.ensures.not_recorded))
+    rw c.in-Abort.is (handed_on _ _ c.args.agent (body.Abort c.in-Abort.signal c.in-Abort.reason) _
+    c.from_residual-in_err-abort-in-Abort.result c.in_err-abort-in-Abort.field-0.0
+    c.from_residual-in_err-abort-in-Abort.ensures.1 (refused _ _ c.args.agent
+    (body.Abort c.in-Abort.signal c.in-Abort.reason) (command.Abort c.args.agent c.in-Abort.signal c.in-Abort.reason)
+    _ _ _ (or_memory _ _ c.in_err-abort-in-Abort.ensures.refused) c.in_err-abort-in-Abort.ensures.unchanged
+    c.in_err-abort-in-Abort.ensures.not_recorded))
 
 pub returns-in_ok-set_active-in-Active-clause-done : goal.returns-in_ok-set_active-in-Active-clause-done
-returns-in_ok-set_active-in-Active-clause-done g c = rw c.in-Active.is (accepted _ _ _ (body.Active _) _ _ _ _ _ c.in_ok-set_active-in-Active.ensures.done c.in_ok-set_active-in-Active.ensures.recorded)
+returns-in_ok-set_active-in-Active-clause-done g c = rw c.in-Active.is
+    (accepted _ _ _ (body.Active _) _ _ _ _ _ c.in_ok-set_active-in-Active.ensures.done
+    c.in_ok-set_active-in-Active.ensures.recorded)
 
 pub returns-in_err-set_active-in-Active-clause-done : goal.returns-in_err-set_active-in-Active-clause-done
 returns-in_err-set_active-in-Active-clause-done g c =
-    rw c.in-Active.is (handed_on _ _ c.args.agent (body.Active c.in-Active.active) _ c.from_residual-in_err-set_active-in-Active.result c.in_err-set_active-in-Active.field-0.0 c.from_residual-in_err-set_active-in-Active.ensures.1 (refused _ _ c.args.agent (body.Active c.in-Active.active) (command.SetActive c.args.agent c.in-Active.active) _ _ _ c.in_err-set_active-in-Active.ensures.refused c.in_err-set_active-in-Active.ensures.unchanged c.in_err-set_active-in-Active.ensures.not_recorded))
+    rw c.in-Active.is (handed_on _ _ c.args.agent (body.Active c.in-Active.active) _
+    c.from_residual-in_err-set_active-in-Active.result c.in_err-set_active-in-Active.field-0.0
+    c.from_residual-in_err-set_active-in-Active.ensures.1
+    (refused _ _ c.args.agent (body.Active c.in-Active.active) (command.SetActive c.args.agent c.in-Active.active) _ _
+    _ c.in_err-set_active-in-Active.ensures.refused c.in_err-set_active-in-Active.ensures.unchanged
+    c.in_err-set_active-in-Active.ensures.not_recorded))
 
 pub returns-in_ok-terminate-in-Close-clause-done : goal.returns-in_ok-terminate-in-Close-clause-done
-returns-in_ok-terminate-in-Close-clause-done g c = rw c.in-Close.is (accepted _ _ _ body.Close _ _ _ _ _ c.in_ok-terminate-in-Close.ensures.ended c.in_ok-terminate-in-Close.ensures.recorded)
+returns-in_ok-terminate-in-Close-clause-done g c = rw c.in-Close.is
+    (accepted _ _ _ body.Close _ _ _ _ _ c.in_ok-terminate-in-Close.ensures.ended
+    c.in_ok-terminate-in-Close.ensures.recorded)
 
 pub returns-in_err-terminate-in-Close-clause-done : goal.returns-in_err-terminate-in-Close-clause-done
 returns-in_err-terminate-in-Close-clause-done g c =
-    rw c.in-Close.is (handed_on _ _ c.args.agent body.Close _ c.from_residual-in_err-terminate-in-Close.result c.in_err-terminate-in-Close.field-0.0 c.from_residual-in_err-terminate-in-Close.ensures.1 (refused _ _ c.args.agent body.Close (command.Terminate c.args.agent) _ _ _ (or_memory _ _ c.in_err-terminate-in-Close.ensures.refused) c.in_err-terminate-in-Close.ensures.unchanged c.in_err-terminate-in-Close.ensures.not_recorded))
+    rw c.in-Close.is (handed_on _ _ c.args.agent body.Close _ c.from_residual-in_err-terminate-in-Close.result
+    c.in_err-terminate-in-Close.field-0.0 c.from_residual-in_err-terminate-in-Close.ensures.1
+    (refused _ _ c.args.agent body.Close (command.Terminate c.args.agent) _ _ _
+    (or_memory _ _ c.in_err-terminate-in-Close.ensures.refused) c.in_err-terminate-in-Close.ensures.unchanged
+    c.in_err-terminate-in-Close.ensures.not_recorded))
 
 pub returns-in_ok-request-in-Request-clause-newest : goal.returns-in_ok-request-in-Request-clause-newest
-returns-in_ok-request-in-Request-clause-newest g c = newest (g.C.LockCore.state c.args.core.now) _ (command.Request c.args.agent c.in-Request.ask) _ _ c.in_ok-request-in-Request.ensures.requested
+returns-in_ok-request-in-Request-clause-newest g c = newest (g.C.LockCore.state c.args.core.now) _
+    (command.Request c.args.agent c.in-Request.ask) _ _ c.in_ok-request-in-Request.ensures.requested
 
 pub returns-in-Release-clause-done : goal.returns-in-Release-clause-done
-returns-in-Release-clause-done g c = rw c.in-Release.is (accepted _ _ _ (body.Release _) _ _ _ _ _ c.release.ensures.released c.release.ensures.recorded)
+returns-in-Release-clause-done g c = rw c.in-Release.is (accepted _ _ _ (body.Release _) _ _ _ _ _
+    c.release.ensures.released c.release.ensures.recorded)
 
 pub returns-in_ok-snapshot-in-Query-clause-done : goal.returns-in_ok-snapshot-in-Query-clause-done
-returns-in_ok-snapshot-in-Query-clause-done g c = rw c.in-Query.is (queried _ _ _ _ c.in_ok-snapshot-in-Query.ensures.seen)
+returns-in_ok-snapshot-in-Query-clause-done g c = rw c.in-Query.is
+    (queried _ _ _ _ c.in_ok-snapshot-in-Query.ensures.seen)
 
 pub returns-in_err-snapshot-in-Query-clause-done : goal.returns-in_err-snapshot-in-Query-clause-done
 returns-in_err-snapshot-in-Query-clause-done g c =
-    rw c.in-Query.is (handed_on _ _ c.args.agent body.Query _ c.from_residual-in_err-snapshot-in-Query.result c.in_err-snapshot-in-Query.field-0.0 c.from_residual-in_err-snapshot-in-Query.ensures.1 (refused _ _ c.args.agent body.Query (command.Query c.args.agent) _ _ _ c.in_err-snapshot-in-Query.ensures.refused refl refl))
+    rw c.in-Query.is (handed_on _ _ c.args.agent body.Query _ c.from_residual-in_err-snapshot-in-Query.result
+    c.in_err-snapshot-in-Query.field-0.0 c.from_residual-in_err-snapshot-in-Query.ensures.1
+    (refused _ _ c.args.agent body.Query (command.Query c.args.agent) _ _ _ c.in_err-snapshot-in-Query.ensures.refused
+    refl refl))
 
 pub returns-in-Enter-clause-done : goal.returns-in-Enter-clause-done
 returns-in-Enter-clause-done g c = rw c.in-Enter.is (λ requests. refl)

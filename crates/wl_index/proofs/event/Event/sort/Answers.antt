@@ -9,5 +9,7 @@ returns-clause-same c test =
     let sorted = c.sort_unstable.new.self.items in
     let turned = c.reverse.new.self.items in
     rw (← c.self.view_is) (
-    sym (list_any-IsPermutation test turned (reverse turned) (IsPermutation-reverse turned)) ∙ sym (list_any-IsPermutation test sorted turned c.reverse.ensures.permutation)
-    ∙ sym (list_any-IsPermutation test old sorted c.sort_unstable.ensures.permutation) ∙ list_any-IsPermutation test old (reverse old) (IsPermutation-reverse old))
+    sym (list_any-IsPermutation test turned (reverse turned) (IsPermutation-reverse turned))
+    ∙ sym (list_any-IsPermutation test sorted turned c.reverse.ensures.permutation)
+    ∙ sym (list_any-IsPermutation test old sorted c.sort_unstable.ensures.permutation)
+    ∙ list_any-IsPermutation test old (reverse old) (IsPermutation-reverse old))

@@ -6,6 +6,8 @@ use Rattle.wl_index.proofs.index.IndexCoreLockCore.release.Goals as goal
 
 pub invariant_of-self-2 : goal.invariant_of-self-2
 invariant_of-self-2 c = (
-  fewer_core _ c.begin.new.self c.end.new.self _ (other c.args.id) _ (begun_core _ _ _ _ c.begin.ensures c.self.invariant.0) (ap (λ (b : Board). b.entries) c.end.ensures) c.process.ensures.quiet c.process.ensures.tags,
+  fewer_core _ c.begin.new.self c.end.new.self _ (other c.args.id) _
+      (begun_core _ _ _ _ c.begin.ensures c.self.invariant.0) (ap (λ (b : Board). b.entries) c.end.ensures)
+      c.process.ensures.quiet c.process.ensures.tags,
   c.self.invariant.1,
 )

@@ -18,8 +18,11 @@ begun c = begun_core _ _ _ _ c.begin.ensures c.self.invariant.0
 
 pub end_owned-requires-clause-finds : goal.end_owned-requires-clause-finds
 end_owned-requires-clause-finds c =
-    let is = begun (goal.at.end_owned-requires-clause-finds c).After-begin in
-    (c.numbers-numbers.ensures.rising, rw c.numbers-numbers.ensures.numbers (owners_own c.args.agent c.begin.new.self.entries c.self.inside.agents.members is.grouped))
+    let is = begun (goal.at.end_owned-requires-clause-finds c).After-begin in (
+      c.numbers-numbers.ensures.rising,
+      rw c.numbers-numbers.ensures.numbers
+          (owners_own c.args.agent c.begin.new.self.entries c.self.inside.agents.members is.grouped),
+    )
 
 pub end_owned-requires-clause-room : goal.end_owned-requires-clause-room
 end_owned-requires-clause-room c = (begun (goal.at.end_owned-requires-clause-room c).After-begin).ending_room
@@ -27,7 +30,11 @@ end_owned-requires-clause-room c = (begun (goal.at.end_owned-requires-clause-roo
 pub invariant_of-self-2 : goal.invariant_of-self-2
 invariant_of-self-2 c =
     let left = ap (λ (b : Board). b.entries) c.end_owned.ensures.ended in (
-      ended_core c.self.inside.agents c.close.new.self c.begin.new.self c.end_owned.new.locks c.process.new.self (Agent c.args.agent) _ _ (begun (goal.at.invariant_of-self-2 c).After-begin) left (grouped_gone c.args.agent c.end_owned.new.locks.entries c.self.inside.agents.members c.close.new.self.members c.close.ensures.others (rw left (gone c.args.agent c.begin.new.self.entries))) c.process.ensures.quiet c.process.ensures.tags c.end_owned.ensures.capacity,
+      ended_core c.self.inside.agents c.close.new.self c.begin.new.self c.end_owned.new.locks c.process.new.self
+          (Agent c.args.agent) _ _ (begun (goal.at.invariant_of-self-2 c).After-begin) left
+          (grouped_gone c.args.agent c.end_owned.new.locks.entries c.self.inside.agents.members c.close.new.self.members
+          c.close.ensures.others (rw left (gone c.args.agent c.begin.new.self.entries))) c.process.ensures.quiet
+          c.process.ensures.tags c.end_owned.ensures.capacity,
       c.end_owned.ensures.emptied,
     )
 
@@ -36,6 +43,14 @@ returns-clause-ended c =
     let i = c.self.inside in
     let state = λ (rows : AgentRows). machine_state rows c.begin.new.self in
     let accepted : refusal (state i.agents.rows) (command.Terminate c.args.agent) ≡ None = sym c.in_default.ensures in
-    rw (← c.self.view_is) (begun_gives i.agents.rows i.locks c.begin.new.self (command.Terminate c.args.agent) _ _ _ c.begin.ensures
-    (terminate_gives (state i.agents.rows) (state c.close.new.self.rows) _ c.args.agent _ accepted (ap state c.close.ensures.rows)
-    (owned_processed c.close.new.self.rows c.begin.new.self c.end_owned.new.locks c.process.new.self (Agent c.args.agent) _ _ reply.Done (ap (λ (b : Board). b.changes) c.begin.ensures) c.end_owned.ensures.ended (record { lists = c.process.ensures.processed; names = c.process.ensures.names; next = c.process.ensures.next }))))
+    rw (← c.self.view_is) (begun_gives i.agents.rows i.locks c.begin.new.self (command.Terminate c.args.agent) _ _ _
+    c.begin.ensures
+    (terminate_gives (state i.agents.rows) (state c.close.new.self.rows) _ c.args.agent _ accepted
+    (ap state c.close.ensures.rows)
+    (owned_processed c.close.new.self.rows c.begin.new.self c.end_owned.new.locks c.process.new.self
+    (Agent c.args.agent) _ _ reply.Done (ap (λ (b : Board). b.changes) c.begin.ensures) c.end_owned.ensures.ended
+    (record {
+      lists = c.process.ensures.processed;
+      names = c.process.ensures.names;
+      next = c.process.ensures.next;
+    }))))

@@ -16,7 +16,8 @@ use Rattle.wl_index.proofs.locks.Locks.end.Goals as goal
 
 pub unwrap-request-requires : goal.unwrap-request-requires
 unwrap-request-requires c =
-    subst IsSome (sym c.remove.ensures.value) (subst (λ (b : Board). IsSome (lookup (is_at (nat_cmp c.args.number)) b.entries)) (sym c.self.view_is) c.requires)
+    subst IsSome (sym c.remove.ensures.value) (subst (λ (b : Board). IsSome
+    (lookup (is_at (nat_cmp c.args.number)) b.entries)) (sym c.self.view_is) c.requires)
 
 -- the entry that ends
 ending : (c : After-unwrap-request) → Found c.args.number c.self.inside.requests.entries c.unwrap-request.result
@@ -26,11 +27,15 @@ pub unwrap-place-requires : goal.unwrap-place-requires
 unwrap-place-requires c =
     let at = (goal.at.unwrap-place-requires c).After-unwrap-request in
     let i = c.self.inside in
-    subst IsSome (sym (c.place.ensures.place ∙ ap (λ n. place_of n i.queues) c.as_str.ensures)) (live_named c.args.number c.unwrap-request.result i.requests.entries i.queues i.event.touched (ending at) c.self.invariant.stands)
+    subst IsSome (sym (c.place.ensures.place ∙ ap (λ n. place_of n i.queues) c.as_str.ensures))
+    (live_named c.args.number c.unwrap-request.result i.requests.entries i.queues i.event.touched (ending at)
+    c.self.invariant.stands)
 
 -- where its name's queue stands
-place : (c : After-unwrap-place) → place_of c.unwrap-request.result.name c.self.inside.queues ≡ Some c.unwrap-place.result
-place c = sym (c.place.ensures.place ∙ ap (λ n. place_of n c.self.inside.queues) c.as_str.ensures) ∙ c.unwrap-place.ensures
+place : (c : After-unwrap-place) → place_of c.unwrap-request.result.name c.self.inside.queues
+    ≡ Some c.unwrap-place.result
+place c = sym (c.place.ensures.place ∙ ap (λ n. place_of n c.self.inside.queues) c.as_str.ensures)
+    ∙ c.unwrap-place.ensures
 
 pub note_at-requires : goal.note_at-requires
 note_at-requires c =
@@ -54,12 +59,16 @@ invariant_of-self c =
     let room = is.room in
     record {
       ordered = c.remove.ensures.still_ordered;
-      stands = rw (entries, queues, touched) (one_ended c.args.number c.unwrap-request.result c.unwrap-place.result i.requests.entries i.queues i.event.touched f (place at.After-unwrap-place) is.stands);
-      below = rw (queues, c.remove.ensures.next) (below_updated i.requests.next c.unwrap-place.result (without c.args.number) i.queues is.below);
+      stands = rw (entries, queues, touched) (one_ended c.args.number c.unwrap-request.result c.unwrap-place.result
+          i.requests.entries i.queues i.event.touched f (place at.After-unwrap-place) is.stands);
+      below = rw (queues, c.remove.ensures.next) (below_updated i.requests.next c.unwrap-place.result
+          (without c.args.number) i.queues is.below);
       room = rw entries (omega (arith, less, room, left));
     }
 
 pub returns : goal.returns
 returns c =
     let i = c.self.inside in
-    rw (← c.self.view_is) (board_as _ _ _ _ _ c.remove.ensures.entries c.remove.ensures.next (ap names_of c.remove-2.ensures.queues ∙ names_updated c.unwrap-place.result (without c.args.number) (without_keeps c.args.number) i.queues) (ap (λ (h : Happened). h.changes) c.note_at.ensures))
+    rw (← c.self.view_is) (board_as _ _ _ _ _ c.remove.ensures.entries c.remove.ensures.next
+    (ap names_of c.remove-2.ensures.queues ∙ names_updated c.unwrap-place.result (without c.args.number)
+    (without_keeps c.args.number) i.queues) (ap (λ (h : Happened). h.changes) c.note_at.ensures))

@@ -13,13 +13,17 @@ pub returns-in_err-get-clause-number : goal.returns-in_err-get-clause-number
 returns-in_err-get-clause-number c =
     let i = c.self.inside in
     let none = no_name_queue c.args.name.now i.queues (sym c.get.ensures ∙ ap option_copied c.in_err-get.was) in
-    rw (← c.self.view_is) (c.from_residual.ensures ∙ sym (ap (λ l. slice_get (map (λ (lock : HeldRow). lock.number) l) 0) (c.self.invariant.stands.known c.args.name.now none).0))
+    rw (← c.self.view_is) (c.from_residual.ensures ∙ sym (ap
+    (λ l. slice_get (map (λ (lock : HeldRow). lock.number) l) 0)
+    (c.self.invariant.stands.known c.args.name.now none).0))
 
 pub returns-clause-number : goal.returns-clause-number
 returns-clause-number c =
     let i = c.self.inside in
     let held = held_of i.requests.entries in
-    let name_queue = name_queue_of c.args.name.now c.in_ok-get.field-0.now i.queues held (pending_of i.requests.entries) i.event.touched c.self.invariant.stands (sym c.get.ensures ∙ ap option_copied c.in_ok-get.was) in
+    let name_queue = name_queue_of c.args.name.now c.in_ok-get.field-0.now i.queues held (pending_of i.requests.entries)
+    i.event.touched c.self.invariant.stands (sym c.get.ensures ∙ ap option_copied c.in_ok-get.was) in
     rw (← c.self.view_is) (
-    c.first_number.ensures ∙ ap (λ l. slice_get (map (λ (e : Numbered). e.0) l) 0) (name_queue.1.holders ∙ ap (λ n. map lock_and_mode (locks n held)) name_queue.0)
+    c.first_number.ensures ∙ ap (λ l. slice_get (map (λ (e : Numbered). e.0) l) 0)
+    (name_queue.1.holders ∙ ap (λ n. map lock_and_mode (locks n held)) name_queue.0)
     ∙ ap (λ l. slice_get l 0) (map_twice (λ (e : Numbered). e.0) lock_and_mode (locks c.args.name.now held)))

@@ -10,7 +10,8 @@ use Rattle.wl_index.proofs.locks.Locks.oust.Given as goal
 abbrev pub invariant-loop-number : goal.invariant-loop-number
 invariant-loop-number l = record {
   entries : filter (no_lock_on l.name) l.self.entries ≡ filter (no_lock_on l.name) l.fn.self.entries;
-  changes : l.self.changes ++ lock_ends Stolen (locks l.name (held_of l.self.entries)) ≡ l.fn.self.changes ++ lock_ends Stolen (locks l.name (held_of l.fn.self.entries));
+  changes : l.self.changes ++ lock_ends Stolen (locks l.name (held_of l.self.entries))
+      ≡ l.fn.self.changes ++ lock_ends Stolen (locks l.name (held_of l.fn.self.entries));
   next : l.self.next ≡ l.fn.self.next;
   names : l.self.names ≡ l.fn.self.names;
 }

@@ -15,7 +15,9 @@ invariant_of-self c =
     let room = is.room in
     record {
       ordered = same_tags_ordered c.take.new.self.entries i.requests.entries c.take.ensures.tags is.ordered;
-      stands = rw (c.take.ensures.held, c.take.ensures.pending) (stands_taken c.args.number i.queues (held_of i.requests.entries) (pending_of i.requests.entries) i.event.touched is.stands);
+      stands = rw (c.take.ensures.held, c.take.ensures.pending)
+          (stands_taken c.args.number i.queues (held_of i.requests.entries) (pending_of i.requests.entries)
+          i.event.touched is.stands);
       below = rw c.take.ensures.next is.below;
       room = omega (arith, held, pending, room);
     }

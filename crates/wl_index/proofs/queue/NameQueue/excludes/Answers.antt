@@ -6,4 +6,5 @@ use Rattle.wl_index.proofs.queue.NameQueue.excludes.Goals as goal
 pub returns : goal.returns
 returns c =
     let i = c.self.inside in
-    rw (← c.self.view_is) (c.is_some.ensures ∙ excluded i.live.entries (waits_from i.first i.live.entries) i.first i.holder c.self.invariant)
+    rw (← c.self.view_is) (c.is_some.ensures ∙ excluded i.live.entries (waits_from i.first i.live.entries) i.first
+    i.holder c.self.invariant)

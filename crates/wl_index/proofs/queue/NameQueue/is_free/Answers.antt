@@ -12,4 +12,5 @@ returns-then-is_none c =
     let none : not (is_some i.holder) ≡ true = search rules in
     let heads : Bool = option_eq nat_eq (head_number i.live.entries) i.first in
     c.eq.ensures ∙ ap (λ number. option_eq nat_eq number i.first) c.first_of.ensures ∙ ap (λ b. b && heads) (sym none)
-    ∙ is_free i.live.entries (waits_from i.first i.live.entries) i.first i.holder c.self.invariant ∙ ap (λ (v : Waiting). is_empty v.holders) c.self.view_is
+    ∙ is_free i.live.entries (waits_from i.first i.live.entries) i.first i.holder c.self.invariant
+    ∙ ap (λ (v : Waiting). is_empty v.holders) c.self.view_is

@@ -9,5 +9,6 @@ use Rattle.wl_index.proofs.requests.Requests.first_untaken.Given as goal
 -- the first so far, with what is left
 abbrev pub invariant-loop-number : goal.invariant-loop-number
 invariant-loop-number l =
-    first_of (option_to_list l.first ++ from_grant_seq l.low (picked (ends_entry l.owner Holds) l.self.entries (drop l.number-index l.numbers)))
+    first_of (option_to_list l.first ++ from_grant_seq l.low
+    (picked (ends_entry l.owner Holds) l.self.entries (drop l.number-index l.numbers)))
     ≡ first_of (from_grant_seq l.low (untaken_places l.owner l.self.entries))

@@ -1,4 +1,5 @@
-use Rattle.std.proofs.Common.{◌≡◌, ℕ, List, ◌+◌, ◌++◌, ◌∷◌, [], ap, sym, ◌∙◌, length, append_assoc, append-nil, arith, drop, filter, get_or, map, subst}
+use Rattle.std.proofs.Common.{◌≡◌, ℕ, List, ◌+◌, ◌++◌, ◌∷◌, [], ap, sym, ◌∙◌, length, append_assoc, append-nil, arith}
+use Rattle.std.proofs.Common.{drop, filter, get_or, map, subst}
 use Rattle.std.specs.List.Sorted.{IsStrictlySortedBy}
 use Rattle.std.specs.Map.{keys_of}
 use Rattle.std.specs.Ordering.{nat_cmp}
@@ -15,9 +16,11 @@ use Rattle.wl_index.proofs.requests.Requests.gather.Goals as goal
 pub loop-number-init : goal.loop-number-init
 loop-number-init c =
     let es = c.args.self.now.entries in
-    let ordered = subst (λ (v : Rows). IsStrictlySortedBy nat_cmp (keys_of v.entries)) c.self.view_is c.self.invariant.ordered in
+    let ordered = subst (λ (v : Rows). IsStrictlySortedBy nat_cmp (keys_of v.entries)) c.self.view_is
+    c.self.invariant.ordered in
     record {
-      items = ap (λ l. l ++ picked (ends_entry c.args.owner c.args.standing) es c.args.numbers.now) c.requires.none ∙ all_picked c.args.owner c.args.standing es ordered c.args.numbers.now c.requires.finds.0 c.requires.finds.1;
+      items = ap (λ l. l ++ picked (ends_entry c.args.owner c.args.standing) es c.args.numbers.now) c.requires.none
+          ∙ all_picked c.args.owner c.args.standing es ordered c.args.numbers.now c.requires.finds.0 c.requires.finds.1;
       capacity = omega arith;
     }
 
@@ -34,8 +37,10 @@ found : (c : After-ending_place)
     let es = c.args.self.now.entries in
     c.loop-number.places.items ++ (pick q es (at_hand c) ++ picked q es (behind c)) ≡ map place_of (filter q es)
 found c =
-    let next : drop c.loop-number.number-index c.args.numbers.now ≡ at_hand c ∷ behind c = rest_next _ _ 0 c.loop-number-test.true in
-    ap (λ (ns : List ℕ). c.loop-number.places.items ++ picked (ends_entry c.args.owner c.args.standing) c.args.self.now.entries ns) (sym next) ∙ c.loop-number.invariant.items
+    let next : drop c.loop-number.number-index c.args.numbers.now
+    ≡ at_hand c ∷ behind c = rest_next _ _ 0 c.loop-number-test.true in
+    ap (λ (ns : List ℕ). c.loop-number.places.items ++ picked (ends_entry c.args.owner c.args.standing)
+    c.args.self.now.entries ns) (sym next) ∙ c.loop-number.invariant.items
 
 pub push_some-requires : goal.push_some-requires
 push_some-requires c =
@@ -60,9 +65,11 @@ loop-number-preserved c =
     let q = ends_entry c.args.owner c.args.standing in
     let wide = l.invariant.capacity in
     let capacity = c.push_some.ensures.capacity in
-    let pushed : c.push_some.new.places.items ≡ l.places.items ++ pick q es (at_hand at) = c.push_some.ensures.items ∙ ap (λ o. l.places.items ++ option_to_list o) c.ending_place.ensures in
+    let pushed : c.push_some.new.places.items ≡ l.places.items ++ pick q es (at_hand at) = c.push_some.ensures.items
+    ∙ ap (λ o. l.places.items ++ option_to_list o) c.ending_place.ensures in
     record {
-      items = ap (λ ps. ps ++ picked q es (behind at)) pushed ∙ append_assoc l.places.items (pick q es (at_hand at)) (picked q es (behind at)) ∙ found at;
+      items = ap (λ ps. ps ++ picked q es (behind at)) pushed
+          ∙ append_assoc l.places.items (pick q es (at_hand at)) (picked q es (behind at)) ∙ found at;
       capacity = omega (arith, wide, capacity);
     }
 
@@ -71,7 +78,8 @@ returns-clause-items c =
     let l = c.loop-number in
     let q = ends_entry c.args.owner c.args.standing in
     let none : drop l.number-index c.args.numbers.now ≡ [] = drop_all l.number-index c.args.numbers.now (omega arith) in
-    sym (append-nil l.places.items) ∙ ap (λ (k : List ℕ). l.places.items ++ picked q c.args.self.now.entries k) (sym none) ∙ l.invariant.items
+    sym (append-nil l.places.items) ∙ ap (λ (k : List ℕ). l.places.items ++ picked q c.args.self.now.entries k)
+    (sym none) ∙ l.invariant.items
 
 pub returns-clause-capacity : goal.returns-clause-capacity
 returns-clause-capacity c = c.loop-number.invariant.capacity

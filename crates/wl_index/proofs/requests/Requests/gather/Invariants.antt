@@ -7,6 +7,7 @@ use Rattle.wl_index.proofs.requests.Requests.gather.Given as goal
 -- the places found, and those to come, are all
 abbrev pub invariant-loop-number : goal.invariant-loop-number
 invariant-loop-number l = record {
-  items : l.places.items ++ picked (ends_entry l.owner l.standing) l.self.entries (drop l.number-index l.numbers) ≡ map place_of (filter (ends_entry l.owner l.standing) l.self.entries);
+  items : l.places.items ++ picked (ends_entry l.owner l.standing) l.self.entries (drop l.number-index l.numbers)
+      ≡ map place_of (filter (ends_entry l.owner l.standing) l.self.entries);
   capacity : vec_capacity l.fn.places ≤ vec_capacity l.places;
 }

@@ -16,23 +16,28 @@ unwrap-request-requires c =
     copied_some c.get_mut.result there.0 (c.get_mut.ensures.value ∙ there.1)
 
 -- the request
-there : (c : After-unwrap-request) → lookup (is_at (nat_cmp c.args.number)) c.self.inside.requests.entries ≡ Some c.unwrap-request.result.now
+there : (c : After-unwrap-request) → lookup (is_at (nat_cmp c.args.number)) c.self.inside.requests.entries
+    ≡ Some c.unwrap-request.result.now
 there c = sym c.get_mut.ensures.value ∙ ap option_copied_mut c.unwrap-request.ensures
 
 -- the table with it as the last lock
 written : (c : After-unwrap-request)
     → (c.get_mut.follows.lender (granted_now c.self.inside.grant_seq c.unwrap-request.result.now)).entries
-    ≡ set_value (is_at (nat_cmp c.args.number)) c.self.inside.requests.entries (granted_now c.self.inside.grant_seq c.unwrap-request.result.now)
+    ≡ set_value (is_at (nat_cmp c.args.number)) c.self.inside.requests.entries
+    (granted_now c.self.inside.grant_seq c.unwrap-request.result.now)
 written c = (c.get_mut.follows.holds (granted_now c.self.inside.grant_seq c.unwrap-request.result.now)).0
 
-granted : (c : After-unwrap-request) → Granted c.args.number c.self.inside.requests.entries c.unwrap-request.result.now c.self.inside.grant_seq c.self.inside.next
+granted : (c : After-unwrap-request) → Granted c.args.number c.self.inside.requests.entries c.unwrap-request.result.now
+    c.self.inside.grant_seq c.self.inside.next
 granted c =
     let waits : list_any (is_request c.args.number) (pending_of c.self.inside.requests.entries) ≡ true = search rules in
     granted_meets _ _ _ _ _ c.self.invariant (there c) waits
 
 tags : (c : After-unwrap-request)
-    → tags_of (set_value (is_at (nat_cmp c.args.number)) c.self.inside.requests.entries (granted_now c.self.inside.grant_seq c.unwrap-request.result.now)) ≡ tags_of c.self.inside.requests.entries
-tags c = tags_set _ _ _ (granted_now c.self.inside.grant_seq c.unwrap-request.result.now) c.self.invariant.ordered (there c) refl
+    → tags_of (set_value (is_at (nat_cmp c.args.number)) c.self.inside.requests.entries
+    (granted_now c.self.inside.grant_seq c.unwrap-request.result.now)) ≡ tags_of c.self.inside.requests.entries
+tags c = tags_set _ _ _ (granted_now c.self.inside.grant_seq c.unwrap-request.result.now) c.self.invariant.ordered
+    (there c) refl
 
 pub invariant_of-self : goal.invariant_of-self
 invariant_of-self c =

@@ -9,7 +9,8 @@ pub invariant_of-self : goal.invariant_of-self
 invariant_of-self c =
     let i = c.self.inside in
     let es = i.requests.entries in
-    rw c.remove.ensures.entries (ended_table c.args.number es i.grant_seq i.next c.self.invariant (subst (λ es. IsStrictlySortedBy nat_cmp (keys_of es)) c.remove.ensures.entries c.remove.ensures.ordered))
+    rw c.remove.ensures.entries (ended_table c.args.number es i.grant_seq i.next c.self.invariant
+    (subst (λ es. IsStrictlySortedBy nat_cmp (keys_of es)) c.remove.ensures.entries c.remove.ensures.ordered))
 
 pub returns-clause-entries : goal.returns-clause-entries
 returns-clause-entries c =

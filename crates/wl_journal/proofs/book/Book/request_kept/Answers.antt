@@ -10,4 +10,6 @@ invariant_of-self-2 g c =
     let len = c.self.inside.entries.ok.0 in
     let same = c.in_ok-make_room.ensures.len in
     let capacity = c.push_reserved.ensures.capacity in
-    grown _ _ _ c.self.inside.entries.items c.push_reserved.new.self.items _ _ _ _ _ 2 (command.Request c.args.agent c.args.ask) (reply.Request c.in_ok-id.id) _ c.self.invariant c.in_ok-id.ensures.requested refl refl (search rules) refl (omega (arith, room, len, same, capacity))
+    grown _ _ _ c.self.inside.entries.items c.push_reserved.new.self.items _ _ _ _ _ 2
+    (command.Request c.args.agent c.args.ask) (reply.Request c.in_ok-id.id) _ c.self.invariant
+    c.in_ok-id.ensures.requested refl refl (search rules) refl (omega (arith, room, len, same, capacity))

@@ -14,4 +14,6 @@ returns-clause-counted g c = if_ok _ _ c.abort-aborted.result
     )) c.abort-aborted.ensures.aborted
 
 pub returns-clause-refused : goal.returns-clause-refused
-returns-clause-refused g c = if_err _ _ c.abort-aborted.result (λ refusal is. why_refused c.deref_mut.result.now.book.state c.args.self.now.number c.args.signal c.args.reason refusal is) c.abort-aborted.ensures.refused
+returns-clause-refused g c = if_err _ _ c.abort-aborted.result
+    (λ refusal is. why_refused c.deref_mut.result.now.book.state c.args.self.now.number c.args.signal c.args.reason
+    refusal is) c.abort-aborted.ensures.refused

@@ -5,7 +5,9 @@ use Rattle.wl_manager.specs.inner.Keepers.{after}
 use Rattle.wl_manager.proofs.keepers.Keepers.publish_all.Given as goal
 
 abbrev pub invariant-loop-i : goal.invariant-loop-i
-invariant-loop-i l = (l.i ≤ length l.changes) × ((id : ℕ) → phases_at id l.self ≡ after (phases_of id (take l.i l.changes)) (phases_at id l.initial.self)) × ((id : ℕ) → cells_at id l.self ≡ cells_at id l.initial.self)
+invariant-loop-i l = (l.i ≤ length l.changes) × ((id : ℕ) → phases_at id l.self
+    ≡ after (phases_of id (take l.i l.changes)) (phases_at id l.initial.self))
+    × ((id : ℕ) → cells_at id l.self ≡ cells_at id l.initial.self)
 
 abbrev pub decreases-loop-i : goal.decreases-loop-i
 decreases-loop-i l = length l.changes - l.i

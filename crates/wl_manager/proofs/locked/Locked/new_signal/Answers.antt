@@ -5,16 +5,29 @@ use Rattle.wl_manager.proofs.Keeping.{kept_refused, stays_refused, kept_done, do
 use Rattle.wl_manager.proofs.locked.Locked.new_signal.Goals as goal
 
 pub invariant_of-self : goal.invariant_of-self
-invariant_of-self g c = kept_refused _ _ _ _ _ c.changes.result.now c.self.invariant (c.changes.ensures, c.drop_ended.ensures) c.in_err-signal.ensures.unchanged c.in_err-signal.ensures.no_changes c.in_err-signal.ensures.nothing_added refl refl refl refl refl
+invariant_of-self g c = kept_refused _ _ _ _ _ c.changes.result.now c.self.invariant
+    (c.changes.ensures, c.drop_ended.ensures) c.in_err-signal.ensures.unchanged c.in_err-signal.ensures.no_changes
+    c.in_err-signal.ensures.nothing_added refl refl refl refl refl
 
 pub returns-in_err-signal-clause-unchanged : goal.returns-in_err-signal-clause-unchanged
 returns-in_err-signal-clause-unchanged g c =
-    on_err _ c.from_residual.result (stays_refused _ _ _ _ c.args.self.now _ c.changes.result.now c.self.view_is c.self.invariant (c.changes.ensures, c.drop_ended.ensures) c.in_err-signal.ensures.unchanged c.in_err-signal.ensures.nothing_added refl refl refl, refl)
+    on_err _ c.from_residual.result (
+      stays_refused _ _ _ _ c.args.self.now _ c.changes.result.now c.self.view_is
+          c.self.invariant (c.changes.ensures, c.drop_ended.ensures) c.in_err-signal.ensures.unchanged
+          c.in_err-signal.ensures.nothing_added refl refl refl,
+      refl,
+    )
 
 pub invariant_of-self-2 : goal.invariant_of-self-2
 invariant_of-self-2 g c =
-    kept_done _ _ _ _ _ c.drop_ended.new.self (command.NewSignal c.args.agent) (reply.Signal c.in_ok-signal.signal) c.changes.result.now c.changes-2.result.now c.self.invariant (c.changes.ensures, c.drop_ended.ensures) (λ id. refl) c.in_ok-signal.ensures.made refl refl c.in_ok-signal.ensures.added c.changes-2.ensures c.publish_all.ensures.phases
+    kept_done _ _ _ _ _ c.drop_ended.new.self (command.NewSignal c.args.agent) (reply.Signal c.in_ok-signal.signal)
+    c.changes.result.now c.changes-2.result.now c.self.invariant (c.changes.ensures, c.drop_ended.ensures)
+    (λ id. refl) c.in_ok-signal.ensures.made refl refl c.in_ok-signal.ensures.added c.changes-2.ensures
+    c.publish_all.ensures.phases
     (omega arith) (omega arith) c.add.ensures.total c.self.invariant.shared
 
 pub returns-clause-made : goal.returns-clause-made
-returns-clause-made g c = does_done _ _ _ _ c.args.self.now _ c.drop_ended.new.self (command.NewSignal c.args.agent) (reply.Signal c.in_ok-signal.signal) c.changes.result.now c.self.view_is c.self.invariant (c.changes.ensures, c.drop_ended.ensures) (λ id. refl) c.in_ok-signal.ensures.made c.in_ok-signal.ensures.added c.publish_all.ensures.cells
+returns-clause-made g c = does_done _ _ _ _ c.args.self.now _ c.drop_ended.new.self (command.NewSignal c.args.agent)
+    (reply.Signal c.in_ok-signal.signal) c.changes.result.now c.self.view_is c.self.invariant
+    (c.changes.ensures, c.drop_ended.ensures) (λ id. refl) c.in_ok-signal.ensures.made c.in_ok-signal.ensures.added
+    c.publish_all.ensures.cells

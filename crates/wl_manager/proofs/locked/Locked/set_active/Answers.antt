@@ -5,16 +5,30 @@ use Rattle.wl_manager.proofs.Keeping.{kept_refused, stays_refused, kept_done, do
 use Rattle.wl_manager.proofs.locked.Locked.set_active.Goals as goal
 
 pub invariant_of-self : goal.invariant_of-self
-invariant_of-self g c = kept_refused _ _ _ _ _ c.changes.result.now c.self.invariant (c.changes.ensures, c.drop_ended.ensures) c.in_err-set_active.ensures.unchanged c.in_err-set_active.ensures.no_changes c.in_err-set_active.ensures.nothing_added refl refl refl refl refl
+invariant_of-self g c = kept_refused _ _ _ _ _ c.changes.result.now c.self.invariant
+    (c.changes.ensures, c.drop_ended.ensures) c.in_err-set_active.ensures.unchanged
+    c.in_err-set_active.ensures.no_changes
+    c.in_err-set_active.ensures.nothing_added refl refl refl refl refl
 
 pub returns-in_err-set_active-clause-unchanged : goal.returns-in_err-set_active-clause-unchanged
 returns-in_err-set_active-clause-unchanged g c =
-    on_err _ c.from_residual.result (stays_refused _ _ _ _ c.args.self.now _ c.changes.result.now c.self.view_is c.self.invariant (c.changes.ensures, c.drop_ended.ensures) c.in_err-set_active.ensures.unchanged c.in_err-set_active.ensures.nothing_added refl refl refl, refl)
+    on_err _ c.from_residual.result (
+      stays_refused _ _ _ _ c.args.self.now _ c.changes.result.now c.self.view_is
+          c.self.invariant (c.changes.ensures, c.drop_ended.ensures) c.in_err-set_active.ensures.unchanged
+          c.in_err-set_active.ensures.nothing_added refl refl refl,
+      refl,
+    )
 
 pub invariant_of-self-2 : goal.invariant_of-self-2
 invariant_of-self-2 g c =
-    kept_done _ _ _ _ _ c.drop_ended.new.self (command.SetActive c.args.agent c.args.active) (reply.Done) c.changes.result.now c.changes-2.result.now c.self.invariant (c.changes.ensures, c.drop_ended.ensures) (λ id. refl) c.in_ok-set_active.ensures.done refl refl c.in_ok-set_active.ensures.added c.changes-2.ensures c.publish_all.ensures.phases
+    kept_done _ _ _ _ _ c.drop_ended.new.self (command.SetActive c.args.agent c.args.active) (reply.Done)
+    c.changes.result.now c.changes-2.result.now c.self.invariant (c.changes.ensures, c.drop_ended.ensures)
+    (λ id. refl) c.in_ok-set_active.ensures.done refl refl c.in_ok-set_active.ensures.added c.changes-2.ensures
+    c.publish_all.ensures.phases
     (omega arith) (omega arith) c.add.ensures.total c.self.invariant.shared
 
 pub returns-clause-done : goal.returns-clause-done
-returns-clause-done g c = does_done _ _ _ _ c.args.self.now _ c.drop_ended.new.self (command.SetActive c.args.agent c.args.active) (reply.Done) c.changes.result.now c.self.view_is c.self.invariant (c.changes.ensures, c.drop_ended.ensures) (λ id. refl) c.in_ok-set_active.ensures.done c.in_ok-set_active.ensures.added c.publish_all.ensures.cells
+returns-clause-done g c = does_done _ _ _ _ c.args.self.now _ c.drop_ended.new.self
+    (command.SetActive c.args.agent c.args.active) (reply.Done) c.changes.result.now c.self.view_is c.self.invariant
+    (c.changes.ensures, c.drop_ended.ensures) (λ id. refl) c.in_ok-set_active.ensures.done
+    c.in_ok-set_active.ensures.added c.publish_all.ensures.cells

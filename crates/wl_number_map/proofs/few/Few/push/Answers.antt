@@ -7,7 +7,8 @@ use Rattle.wl_number_map.proofs.First.{distinct_pushed}
 use Rattle.wl_number_map.proofs.few.Few.push.Given.{Over}
 use Rattle.wl_number_map.proofs.few.Few.push.Goals as goal
 
-after : (g : Over) (c : goal.In_ok-push g) → c.push.new.self.items ≡ c.self.inside.rows.items ++ (c.args.number, c.args.value) ∷ []
+after : (g : Over) (c : goal.In_ok-push g) → c.push.new.self.items
+    ≡ c.self.inside.rows.items ++ (c.args.number, c.args.value) ∷ []
 after g c = c.in_ok-push.ensures.items ∙ ap (λ l. l ++ (c.args.number, c.args.value) ∷ []) c.make_room.ensures
 
 pub invariant_of-self-2 : goal.invariant_of-self-2

@@ -6,7 +6,8 @@ use Rattle.wl_number_map.proofs.First.{distinct_removed, first_removed, fewer}
 use Rattle.wl_number_map.proofs.few.Few.remove.Given.{Over}
 use Rattle.wl_number_map.proofs.few.Few.remove.Goals as goal
 
-after : (g : Over) (c : goal.After-remove g) → c.remove.new.self.items ≡ remove_entry (λ k. c.args.number == k) c.self.inside.rows.items
+after : (g : Over) (c : goal.After-remove g) → c.remove.new.self.items
+    ≡ remove_entry (λ k. c.args.number == k) c.self.inside.rows.items
 after g c =
     let es = c.self.inside.rows.items in
     let t : ℕ → Bool = λ k. c.args.number == k in
@@ -22,7 +23,8 @@ invariant_of-self g c =
     rw (after g c) (distinct_removed t es c.self.invariant.0, omega (arith, small, was))
 
 pub returns-in-Some-clause-updates : goal.returns-in-Some-clause-updates
-returns-in-Some-clause-updates g c = rw (after g c, ← c.self.view_is) (put_out c.args.number c.self.inside.rows.items c.self.invariant.0)
+returns-in-Some-clause-updates g c = rw (after g c, ← c.self.view_is)
+    (put_out c.args.number c.self.inside.rows.items c.self.invariant.0)
 
 pub returns-in-None-clause-updates : goal.returns-in-None-clause-updates
 returns-in-None-clause-updates g c = put_none c.args.number c.args.self.now c.in-None.ensures.absent

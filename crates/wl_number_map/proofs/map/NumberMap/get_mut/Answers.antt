@@ -15,5 +15,10 @@ returns g c =
         ),
         ap (λ m. record { entries = in_order m }) c.get_mut.follows.holds-at-none ∙ c.self.view_is,
       ),
-      record { writes_back = tt; value = rw (← c.self.view_is) (c.get_mut.ensures.value ∙ sym (lookup_in_order es c.args.number)); was_ordered = rw (← c.self.view_is) (in_order_sorted es) },
+      record {
+        writes_back = tt;
+        value = rw (← c.self.view_is)
+            (c.get_mut.ensures.value ∙ sym (lookup_in_order es c.args.number));
+        was_ordered = rw (← c.self.view_is) (in_order_sorted es);
+      },
     )

@@ -11,11 +11,16 @@ returns g c =
     let fs = c.insert.new.self in
     let done = c.insert.ensures in
     record {
-      old = rw (← c.self.view_is) (subst (λ o. IfOk c.insert.result (λ old. old ≡ o)) (sym (lookup_in_order es c.args.number)) done.old);
-      entries = rw (← c.self.view_is) (ok_weaker c.insert.result (in_order-inserted es fs c.args.number c.args.value) done.updates);
-      updates = rw (← c.self.view_is) (ok_weaker c.insert.result (found_now es fs c.args.number (Some c.args.value)) done.updates);
-      absent = rw (← c.self.view_is) (subst (λ o. OnErr c.insert.result (o ≡ None)) (sym (lookup_in_order es c.args.number)) done.absent);
-      err = err_weaker c.insert.result (λ same. ap (λ l. record { entries = in_order l }) same ∙ c.self.view_is) done.err;
+      old = rw (← c.self.view_is) (subst (λ o. IfOk c.insert.result (λ old. old ≡ o))
+          (sym (lookup_in_order es c.args.number)) done.old);
+      entries = rw (← c.self.view_is) (ok_weaker c.insert.result (in_order-inserted es fs c.args.number c.args.value)
+          done.updates);
+      updates = rw (← c.self.view_is) (ok_weaker c.insert.result (found_now es fs c.args.number (Some c.args.value))
+          done.updates);
+      absent = rw (← c.self.view_is) (subst (λ o. OnErr c.insert.result (o ≡ None))
+          (sym (lookup_in_order es c.args.number)) done.absent);
+      err = err_weaker c.insert.result (λ same. ap (λ l. record { entries = in_order l }) same ∙ c.self.view_is)
+          done.err;
       ordered = in_order_sorted fs;
       was_ordered = rw (← c.self.view_is) (in_order_sorted es);
     }

@@ -6,4 +6,6 @@ use Rattle.wl_service.proofs.InTurn.{last_key}
 use Rattle.wl_service.proofs.service.Service.list_locks.Given as goal
 
 abbrev pub invariant-loop-taken : goal.invariant-loop-taken
-invariant-loop-taken g l = (l.after ≡ last_key None l.managers.items) × AreInTurn None (option_copied l.only) l.managers.items × (option_copied l.only ≡ None → rows_in l.managers.items + l.room ≡ 10000)
+invariant-loop-taken g l = (l.after ≡ last_key None l.managers.items)
+    × AreInTurn None (option_copied l.only) l.managers.items × (option_copied l.only ≡ None
+    → rows_in l.managers.items + l.room ≡ 10000)

@@ -4,4 +4,5 @@ use Rattle.wl_service.proofs.service.Service.open_heard.Goals as goal
 
 pub returns : goal.returns
 returns g c =
-    opens_found (manager_of c.args.url.now c.args.bucket) c.manager_of_text-found.result c.args.kind c.open_found.result c.manager_of_text-found.ensures c.open_found.ensures
+    opens_found (manager_of c.args.url.now c.args.bucket) c.manager_of_text-found.result c.args.kind c.open_found.result
+    c.manager_of_text-found.ensures c.open_found.ensures

@@ -9,4 +9,5 @@ returns g c = rw (← c.self.view_is) (label_of _ _ _ _ _ _ _ c.in-Ok.ensures.op
 pub returns-in-Err : goal.returns-in-Err
 returns-in-Err g c =
     rw (← c.self.view_is) (refusal_is _ _ _ _ _ _
-    (refused _ _ 0 (body.Enter [] c.args.kind []) _ _ _ _ c.in-Err.ensures.refused c.in-Err.ensures.unchanged c.in-Err.ensures.not_recorded) c.refusal_outcome.ensures)
+    (refused _ _ 0 (body.Enter [] c.args.kind []) _ _ _ _ c.in-Err.ensures.refused c.in-Err.ensures.unchanged
+    c.in-Err.ensures.not_recorded) c.refusal_outcome.ensures)

@@ -10,4 +10,6 @@ invariant_of-self-2 g c =
     let len = c.self.inside.entries.ok.0 in
     let same = c.in_ok-make_room.ensures.len in
     let capacity = c.push_reserved.ensures.capacity in
-    grown _ _ _ c.self.inside.entries.items c.push_reserved.new.self.items _ _ _ _ _ 0 (command.SetActive c.args.agent c.args.active) reply.Done _ c.self.invariant c.in_ok-set_active.ensures.done refl refl (search rules) (omega arith) (omega (arith, room, len, same, capacity))
+    grown _ _ _ c.self.inside.entries.items c.push_reserved.new.self.items _ _ _ _ _ 0
+    (command.SetActive c.args.agent c.args.active) reply.Done _ c.self.invariant c.in_ok-set_active.ensures.done refl
+    refl (search rules) (omega arith) (omega (arith, room, len, same, capacity))

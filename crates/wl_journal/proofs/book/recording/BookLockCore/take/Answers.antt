@@ -8,7 +8,8 @@ use Rattle.wl_journal.proofs.book.recording.BookLockCore.take.Goals as goal
 pub push_reserved-requires : goal.push_reserved-requires
 push_reserved-requires g c =
     let said : is_recorded (reply.Took c.take-answer.result) ≡ true = rw c.in-Taken.is refl in
-    let one = was_owed _ _ _ _ _ _ _ (command.Take c.args.id) (reply.Took c.take-answer.result) _ c.self.invariant c.take-answer.ensures.taken refl said in
+    let one = was_owed _ _ _ _ _ _ _ (command.Take c.args.id) (reply.Took c.take-answer.result) _ c.self.invariant
+    c.take-answer.ensures.taken refl said in
     let roomy = c.self.invariant.roomy in
     let len = c.self.inside.entries.ok.0 in
     omega (arith, one, roomy, len)
@@ -16,9 +17,12 @@ push_reserved-requires g c =
 pub overflow_sub-self : goal.overflow_sub-self
 overflow_sub-self g c =
     let said : is_recorded (reply.Took c.take-answer.result) ≡ true = rw c.in-Taken.is refl in
-    was_owed _ _ _ _ _ _ _ (command.Take c.args.id) (reply.Took c.take-answer.result) _ c.self.invariant c.take-answer.ensures.taken refl said
+    was_owed _ _ _ _ _ _ _ (command.Take c.args.id) (reply.Took c.take-answer.result) _ c.self.invariant
+    c.take-answer.ensures.taken refl said
 
 pub invariant_of-self : goal.invariant_of-self
 invariant_of-self g c =
     let said : is_recorded (reply.Took c.take-answer.result) ≡ true = rw c.in-Taken.is refl in
-    paid _ _ _ c.self.inside.entries.items c.push_reserved.new.self.items _ _ (vec_capacity c.push_reserved.new.self) _ (command.Take c.args.id) (reply.Took c.take-answer.result) _ c.self.invariant c.take-answer.ensures.taken refl said c.push_reserved.ensures.items c.push_reserved.ensures.capacity
+    paid _ _ _ c.self.inside.entries.items c.push_reserved.new.self.items _ _ (vec_capacity c.push_reserved.new.self) _
+    (command.Take c.args.id) (reply.Took c.take-answer.result) _ c.self.invariant c.take-answer.ensures.taken refl
+    said c.push_reserved.ensures.items c.push_reserved.ensures.capacity
