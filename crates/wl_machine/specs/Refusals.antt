@@ -1,7 +1,7 @@
 -- Why a command is refused. The checks of a request for a fully active window, a reserved name, options that exclude
 -- each other and an aborted signal are those of Web Locks, `request()`; all others, and the order, are (own).
 use Rattle.std.specs.Prelude.{ℕ, Bool, true, false, not, ◌&&◌, ◌==◌, nat_le, ◌+◌, List, [], ◌∷◌, length, filter}
-use Rattle.std.specs.Prelude.{if◌then◌else◌, Option, Some, None}
+use Rattle.std.specs.Prelude.{if◌then◌else◌, Option, Some, None, Result, Ok, Err}
 use Rattle.std.specs.List.{list_any}
 use Rattle.wl_types.specs.Names.{is_long}
 use Rattle.wl_types.specs.Asks.{ask_refusal}
@@ -32,6 +32,10 @@ is_window Worker = false
 -- fails, which is a SecurityError, but a document that isn't fully active gets its InvalidStateError first (Web Locks).
 abbrev pub no_storage : Kind → Bool → Refusal
 no_storage kind active = if is_window kind && not active then InvalidState else Security
+
+-- what making an agent of an opaque origin active or inactive is answered
+abbrev pub activity : Kind → Result Unit Refusal
+activity kind = if is_window kind then Ok tt else Err NotAWindow
 
 -- whether the agent is a window made inactive
 abbrev pub is_inactive : State → ℕ → Bool
