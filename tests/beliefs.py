@@ -57,7 +57,7 @@ class Definitions(Names):
         self.path, self.said = path, path.read_text().splitlines()
         self.lines: dict[str, dict[int, str]] = defaultdict(dict)
         current: dict[int, str] = {}
-        is_mutual = False
+        is_mutual = is_module = False
         for number, line in enumerate(self.said):
             found = USE.match(line)
             if found:
@@ -65,7 +65,12 @@ class Definitions(Names):
                 continue
             if not line.strip() or line.strip().startswith("--"):
                 continue
-            if begun := BEGIN.match(line):
+            if not line.startswith(" "):
+                is_module = line.startswith("module ")
+            if is_module and not line.startswith(" "):
+                # (its parameters are part of none of its definitions)
+                current = {}
+            elif begun := BEGIN.match(line.removeprefix("  ") if is_module else line):
                 current, is_mutual = {}, begun[1] == "mutual"
                 if not is_mutual:
                     self.lines[plain(begun[1])] = current

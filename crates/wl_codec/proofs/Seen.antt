@@ -11,7 +11,7 @@ use Rattle.serde_json.specs.Data.{Num, Data, number, array, object, item, Member
 use Rattle.serde_json.specs.Find.{get, get_member}
 use Rattle.serde_json.specs.Read.{number_of, of_json, of_items, of_members}
 use Rattle.serde_json.proofs.Views.{get_member-put, get_member-put_other}
-use Rattle.wl_codec.specs.Seen.{num_of, data_of, items_of, members_of, fits, items_fit, members_fit, json_data}
+use Rattle.wl_codec.specs.inner.Seen.{num_of, data_of, items_of, members_of, fits, items_fit, members_fit, json_data}
 
 -- ---- what `serde_json` reads
 

@@ -3,7 +3,7 @@
 ghost use Rattle.std.specs.Prelude.{◌≡◌, ◌<◌, ◌==◌, length, slice_index, true, false, is_some, IsTrue};
 ghost use Rattle.serde_json.specs.Find.{as_u64};
 ghost use Rattle.serde_json.specs.Read.{number_of, number_from};
-ghost use Rattle.wl_codec.specs.Seen.{num_of};
+ghost use Rattle.wl_codec.specs.inner.Seen.{num_of};
 
 use fast_float::Numeral;
 

@@ -9,7 +9,7 @@ ghost use Rattle.json.specs.Lex.{tokens};
 ghost use Rattle.json.specs.Value.{value_view, items_view, members_view};
 ghost use Rattle.serde_json.specs.Find.{get, as_str, as_bool, as_number, as_u64};
 ghost use Rattle.serde_json.specs.Read.{max_depth};
-ghost use Rattle.wl_codec.specs.Seen.{fits, items_fit, members_fit, json_data};
+ghost use Rattle.wl_codec.specs.inner.Seen.{fits, items_fit, members_fit, json_data};
 ghost use Rattle.wl_codec.specs.Value.{json_value};
 
 use crate::number::{number_fits, unsigned_of};

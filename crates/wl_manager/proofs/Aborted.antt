@@ -31,7 +31,8 @@ use Rattle.wl_manager.specs.Keepers.{Kept, phases_at, cells_at}
 use Rattle.wl_manager.specs.inner.Keepers.{MayPublishAll, after}
 use Rattle.wl_manager.specs.Agents.{entries_of_abort}
 use Rattle.wl_manager.specs.Locked.{Inner, IsKept, Stays}
-use Rattle.wl_manager.specs.Aborts.{Found, numbers_of, taken, aborted, take_entry, with_takes, TriedAll, Aborts}
+use Rattle.wl_manager.specs.Aborts.{Found, numbers_of, taken, take_entry, with_takes, Aborts}
+use Rattle.wl_manager.specs.inner.Aborts.{aborted, TriedAll}
 use Rattle.wl_manager.proofs.Aborting.{both_append, left_aborted}
 use Rattle.wl_manager.proofs.Cutting.{still_cut}
 use Rattle.wl_manager.proofs.Keeping.{DroppedBy, Grounds, ready_abort, kept_on, kept_off, may_follow}

@@ -29,7 +29,8 @@ use Rattle.wl_journal.specs.Books.{Book, Appends}
 use Rattle.wl_journal.specs.History.{recorded}
 use Rattle.wl_journal.proofs.Sums.{length-filter-le}
 use Rattle.wl_manager.specs.Keepers.{Kept, phases_at, cells_at}
-use Rattle.wl_manager.specs.Aborts.{Found, numbers_of, taken, aborted, take_entry, Tried, TriedAll}
+use Rattle.wl_manager.specs.Aborts.{Found, numbers_of, taken, take_entry}
+use Rattle.wl_manager.specs.inner.Aborts.{aborted, Tried, TriedAll}
 use Rattle.wl_manager.proofs.Trying.{up_to, none_rise, in_pushed, left_without, rising_fewer, aborted_left}
 use Rattle.wl_manager.proofs.Trying.{none_untried, next_left, next_high, next_fresh, next_order}
 

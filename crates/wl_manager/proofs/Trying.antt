@@ -19,7 +19,8 @@ use Rattle.wl_machine.proofs.Covers.{less, alike, rising_more}
 use Rattle.wl_machine.proofs.Least.{all_by_number, at_number, in_filter}
 use Rattle.wl_machine.proofs.Lists.{and_first, and_second}
 use Rattle.wl_machine.proofs.Untaken.{Distinct, without}
-use Rattle.wl_manager.specs.Aborts.{Found, numbers_of, taken, aborted, AreInOrder}
+use Rattle.wl_manager.specs.Aborts.{Found, numbers_of, taken, AreInOrder}
+use Rattle.wl_manager.specs.inner.Aborts.{aborted}
 
 -- ---- lists of numbers
 

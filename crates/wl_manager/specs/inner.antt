@@ -1,2 +1,3 @@
 pub mod Keepers
 pub mod Locked
+pub mod Aborts

@@ -14,7 +14,7 @@ use Rattle.std.proofs.lemmas.Map.{keys-set_value, lookup-none, NonePasses}
 use Rattle.std.proofs.lemmas.Map.Keys.{sorted_head, sorted_tail, IsDistinct-head, IsDistinct-tail}
 use Rattle.std.proofs.lemmas.Option.{none-some}
 use Rattle.std.specs.Option.{unwrap_or}
-use Rattle.wl_number_map.specs.NumberMap.{in_order}
+use Rattle.wl_number_map.specs.inner.NumberMap.{in_order}
 
 sorted_nil : IsStrictlySortedBy nat_cmp []
 unfolding IsStrictlySortedBy

@@ -12,7 +12,7 @@ use Rattle.std.proofs.lemmas.Map.Entries.{lookup_from_place, place_from_lookup}
 use Rattle.std.proofs.lemmas.Map.Keys.{sorted_from_strictly_increasing, IsDistinct-IsPermutation}
 use Rattle.std.proofs.lemmas.Map.Keys.{IsStrictlyIncreasing-from_distinct}
 use Rattle.std.proofs.lemmas.Option.{get_or_from_slice_get, none-some, slice_get-get_or, slice_get_within}
-use Rattle.wl_number_map.specs.NumberMap.{in_order}
+use Rattle.wl_number_map.specs.inner.NumberMap.{in_order}
 use Rattle.wl_number_map.proofs.InOrder.{in_order_sorted, lookup_in_order, same_entries, same_test}
 
 module _ {X : Type 0} where

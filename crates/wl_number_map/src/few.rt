@@ -9,7 +9,7 @@ ghost use Rattle.std.specs.Option.{option_copied, option_copied_mut};
 ghost use Rattle.wl_number_map.specs.inner.Entries.{IsFirst};
 ghost use Rattle.wl_number_map.specs.inner.Lends.{lends_few};
 ghost use Rattle.wl_number_map.specs.inner.Entries.{IsPut};
-ghost use Rattle.wl_number_map.specs.NumberMap.{shown};
+ghost use Rattle.wl_number_map.specs.inner.NumberMap.{shown};
 
 use indexmap::IndexMap;
 use std::alloc::{AllocError, Global};

@@ -23,7 +23,8 @@ pub struct NumberMap<V> {
 }
 
 impl<V> Model for NumberMap<V> {
-    ghost use Rattle.wl_number_map.specs.NumberMap.{NumberMap as Entries, number_map_code, in_order};
+    ghost use Rattle.wl_number_map.specs.NumberMap.{NumberMap as Entries};
+    ghost use Rattle.wl_number_map.specs.inner.NumberMap.{number_map_code, in_order};
 
     ghost Value = { Entries V };
 

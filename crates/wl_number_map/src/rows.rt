@@ -1,6 +1,6 @@
 //! The values of a map with their numbers, in the order of the numbers.
 ghost use Rattle.std.specs.Prelude.{◌≡◌, IfOk};
-ghost use Rattle.wl_number_map.specs.NumberMap.{in_order};
+ghost use Rattle.wl_number_map.specs.inner.NumberMap.{in_order};
 ghost use Rattle.std.specs.Iterator.{YieldsFirstBy, item_count};
 
 use crate::store::Store;
@@ -17,7 +17,7 @@ pub struct Rows<'a, V> {
 impl<'a, V> Model for Rows<'a, V> {
     ghost use Rattle.std.specs.Prelude.{ℕ, List};
     ghost use Rattle.std.specs.Vec.Iter.{into_iter_items};
-    ghost use Rattle.wl_number_map.specs.NumberMap.{shown};
+    ghost use Rattle.wl_number_map.specs.inner.NumberMap.{shown};
 
     ghost Value = { List (ℕ × V) };
 

@@ -6,7 +6,7 @@ ghost use Rattle.std.specs.Map.{keys_of, lookup};
 ghost use Rattle.std.specs.Option.{option_copied, option_copied_mut};
 ghost use Rattle.wl_number_map.specs.inner.Lends.{lends_store};
 ghost use Rattle.wl_number_map.specs.inner.Entries.{IsPut};
-ghost use Rattle.wl_number_map.specs.NumberMap.{shown};
+ghost use Rattle.wl_number_map.specs.inner.NumberMap.{shown};
 
 use crate::few::Few;
 use indexmap::IndexMap;

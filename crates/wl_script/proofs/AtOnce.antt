@@ -11,7 +11,7 @@ use Rattle.wl_world.specs.World.{World}
 use Rattle.wl_script.specs.Streams.{one_more, GrewBy, GrewAtMostBy}
 use Rattle.wl_script.specs.Faults.{answered, unanswered_bytes}
 use Rattle.wl_script.specs.Leaves.{AnswersAtOnce}
-use Rattle.wl_script.specs.Progress.{Moment, moment, Fed, Stops, Breaks, IsUnanswered}
+use Rattle.wl_script.specs.inner.Progress.{Moment, moment, Fed, Stops, Breaks, IsUnanswered}
 use Rattle.wl_script.specs.inner.Progress.{BreaksAtEnd}
 use Rattle.wl_script.specs.declared.fault.ScriptFault.{ScriptFault}
 use Rattle.wl_script.specs.declared.fault.ScriptFault.TheVariants.{Memory, Read, Write, LineTooLong, TooManyTurns}

@@ -12,7 +12,7 @@ use Rattle.wl_script.specs.Lines.{HasNoLf, is_lf, lines, lines_of_parts, last_li
 use Rattle.wl_world.specs.World.{World}
 use Rattle.wl_script.specs.Transcript.{transcript, after, reply_line}
 use Rattle.wl_script.specs.Leaves.{Answered, AnsweredFirst, AnsweredWithin, IsTooLong, Leaves}
-use Rattle.wl_script.specs.Progress.{Moment, moment, Fed, AnsweredPart, Stops, Breaks}
+use Rattle.wl_script.specs.inner.Progress.{Moment, moment, Fed, AnsweredPart, Stops, Breaks}
 use Rattle.wl_script.specs.inner.Progress.{BreaksAtEnd}
 use Rattle.wl_script.specs.declared.fault.ScriptFault.{ScriptFault}
 use Rattle.wl_script.specs.declared.fault.ScriptFault.TheVariants.{Memory, Read, Write, LineTooLong, TooManyTurns}

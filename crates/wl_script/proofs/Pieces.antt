@@ -10,7 +10,7 @@ use Rattle.wl_script.specs.Lines.{HasNoLf, is_lf, with_lfs}
 use Rattle.wl_world.specs.World.{World, next}
 use Rattle.wl_script.specs.Transcript.{transcript, after, reply_line}
 use Rattle.wl_script.specs.Leaves.{Answered}
-use Rattle.wl_script.specs.Progress.{Moment, moment, Fed, AnsweredPart, IsUnanswered, Stops, Breaks, IsNotKept}
+use Rattle.wl_script.specs.inner.Progress.{Moment, moment, Fed, AnsweredPart, IsUnanswered, Stops, Breaks, IsNotKept}
 use Rattle.wl_script.specs.declared.fault.ScriptFault.{ScriptFault}
 use Rattle.wl_script.specs.declared.fault.ScriptFault.TheVariants.{Memory, Read, Write, LineTooLong, TooManyTurns}
 

@@ -3,7 +3,6 @@ pub mod Transcript
 pub mod Streams
 pub mod Faults
 pub mod Leaves
-pub mod Progress
 pub mod Laws
 pub mod Audits
 pub mod inner

@@ -5,7 +5,7 @@ ghost use Rattle.std.specs.Prelude.{IsTrue};
 ghost use Rattle.wl_script.specs.Lines.{HasNoLf};
 ghost use Rattle.wl_script.specs.Streams.{Counts};
 ghost use Rattle.wl_script.specs.Faults.{is_write};
-ghost use Rattle.wl_script.specs.Progress.{moment, Fed, Breaks, IsNotKept};
+ghost use Rattle.wl_script.specs.inner.Progress.{moment, Fed, Breaks, IsNotKept};
 
 use crate::replying::answer_line;
 use crate::{Answerer, Output, ScriptFault};

@@ -5,7 +5,7 @@ ghost use Rattle.std.specs.Io.KnownBytes.{Appends};
 ghost use Rattle.wl_script.specs.Streams.{Counts};
 ghost use Rattle.wl_script.specs.Faults.{is_write};
 ghost use Rattle.wl_script.specs.Transcript.{reply_line};
-ghost use Rattle.wl_script.specs.Progress.{IsUnanswered};
+ghost use Rattle.wl_script.specs.inner.Progress.{IsUnanswered};
 ghost use Rattle.wl_world.specs.World.{next};
 
 use crate::{Answerer, Failed, Output, ScriptFault};

@@ -8,7 +8,7 @@ ghost use Rattle.wl_script.specs.Faults.{is_read, is_write, IsTooManyTurns};
 ghost use Rattle.wl_script.specs.Lines.{lines, last_line};
 ghost use Rattle.wl_script.specs.Transcript.{transcript, after};
 ghost use Rattle.wl_script.specs.Leaves.{Answered, Leaves, AnswersAtOnce, GaveBytes};
-ghost use Rattle.wl_script.specs.Progress.{moment};
+ghost use Rattle.wl_script.specs.inner.Progress.{moment};
 ghost use Rattle.wl_script.specs.inner.Progress.{BreaksAtEnd};
 
 use crate::feeding::{Progress, feed};

@@ -6,3 +6,4 @@ pub mod Lines
 pub mod Sockets
 pub mod Serving
 pub mod Relays
+pub mod inner

@@ -21,13 +21,6 @@ abbrev pub GivesTooLong : Option (List ℕ) → ℕ → Type 0
 GivesTooLong old limit = (start : List ℕ) × (left : Option (List ℕ)) × HasNoLf start × (limit < length start)
     × Consumes old left start
 
--- these bytes of a line that had begun were given, and then those behind it
-pub record GivesPart (old : Option (List ℕ)) (begun line behind : List ℕ) (new : Option (List ℕ)) : Type 0 where
-  pub part : List ℕ
-  pub no_lf : HasNoLf part
-  pub added : line ≡ begun ++ part
-  pub given : Consumes old new (part ++ behind)
-
 -- what lines have not been made of yet
 abbrev pub to_come : {R : Type 0} → (R → Option (List ℕ)) → Lines R → Option (List ℕ)
 to_come remaining lines = prepend_known lines.piece (remaining lines.reader)

@@ -3,14 +3,6 @@ use Rattle.std.specs.Prelude.{◌≡◌, ◌⊎◌, ℕ, ◌-◌, ◌^◌, List,
 use Rattle.wl_server.specs.declared.fault.ServeEnd.{ServeEnd}
 use Rattle.wl_server.specs.declared.fault.ServeFault.{ServeFault}
 use Rattle.wl_server.specs.declared.fault.ServeFault.TheVariants.{Memory}
-use Rattle.wl_server.specs.declared.talk.Turn.{Turn}
-use Rattle.wl_server.specs.declared.talk.Turn.TheVariants.{Went, Ended}
-use Rattle.wl_server.specs.declared.transport.Data.{Data}
-use Rattle.wl_server.specs.declared.transport.Data.TheVariants.{Text, Binary}
-
-abbrev pub data_bytes : Data → List ℕ
-data_bytes (Text bytes) = bytes
-data_bytes (Binary bytes) = bytes
 
 -- a message and its reply
 abbrev pub Exchange : Type 0
@@ -36,11 +28,6 @@ module _ {L P : Type 0} (hears : L → List ℕ → L → Type 0) (closes : L �
   Ends old (Some fault) new = fails old fault new
       ⊎ ((message : List ℕ) × (came : L) × hears old message came
       × (((fault ≡ Memory) × (new ≡ came)) ⊎ fails came fault new))
-
-  -- A message was answered, or the conversation ended.
-  abbrev pub Turns : L × P → Turn P → L → Type 0
-  Turns old (Went speaker) new = (e : Exchange) × Exchanges hears says answers old e (new, speaker)
-  Turns old (Ended fault) new = Ends old.0 fault new
 
   -- The messages were answered in turn, and each reply was sent before the next message was taken; then the
   -- conversation ended.

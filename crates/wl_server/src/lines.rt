@@ -3,7 +3,8 @@
 ghost use Rattle.std.specs.Prelude.{◌≡◌, ◌≤◌, ◌<◌, ◌∷◌, ◌++◌, [], length, true, false, Ok, Err, None, Option, ℕ, List};
 ghost use Rattle.std.specs.Prelude.{IfSome, OnOk};
 ghost use Rattle.std.specs.Io.KnownBytes.{IsAtEnd};
-ghost use Rattle.wl_server.specs.Lines.{HasNoLf, GivesLine, GivesTooLong, GivesPart, to_come};
+ghost use Rattle.wl_server.specs.Lines.{HasNoLf, GivesLine, GivesTooLong, to_come};
+ghost use Rattle.wl_server.specs.inner.Lines.{GivesPart};
 
 use crate::piece::Piece;
 use memchr::memchr;

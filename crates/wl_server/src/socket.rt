@@ -3,7 +3,7 @@
 ghost use Rattle.std.specs.Prelude.{◌≡◌, ◌≤◌, ◌⊎◌, IfSome, IfNone, IfOk, IfErr};
 ghost use Rattle.tungstenite.specs.Content.{text, binary};
 ghost use Rattle.tungstenite.specs.Socket.{content_of, kind_of};
-ghost use Rattle.wl_server.specs.Talks.{data_bytes};
+ghost use Rattle.wl_server.specs.inner.Talks.{data_bytes};
 ghost use Rattle.wl_server.specs.Serving.{Begins};
 ghost use Rattle.wl_server.specs.declared.fault.ServeFault.TheVariants.{Handshake, Memory};
 

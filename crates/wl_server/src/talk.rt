@@ -1,6 +1,7 @@
 //! One conversation.
 
-ghost use Rattle.wl_server.specs.Talks.{Turns, Talked};
+ghost use Rattle.wl_server.specs.Talks.{Talked};
+ghost use Rattle.wl_server.specs.inner.Talks.{Turns};
 
 use crate::transport::{Sending, Speaker, Transport};
 use crate::{ServeEnd, ServeFault};

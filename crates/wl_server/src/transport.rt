@@ -1,7 +1,7 @@
 //! What a conversation is held over, and who answers in it.
 
 ghost use Rattle.std.specs.Prelude.{◌≡◌, ℕ, List, IfOk, IfErr, IfSome, IfNone, Ok, string_bytes};
-ghost use Rattle.wl_server.specs.Talks.{data_bytes};
+ghost use Rattle.wl_server.specs.inner.Talks.{data_bytes};
 
 use crate::ServeFault;
 use bytes::{ByteStr, Bytes};

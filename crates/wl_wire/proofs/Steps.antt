@@ -8,9 +8,12 @@ use Rattle.tungstenite.specs.Socket.{Socket, content_of, has_kind, kind_of}
 use Rattle.tungstenite.specs.declared.error.Error.{Error}
 use Rattle.tungstenite.specs.declared.message.Message.{Message}
 use Rattle.wl_wire.specs.Turns.{Step, Exchange, Push, Look, Idle, Send, Last, Leaving, Reading, Telling, Pushing}
-use Rattle.wl_wire.specs.Turns.{Hearing, Answering, Advances, Answered, Ends, Finishes, Goes, GoesOn, Steps, Turns}
-use Rattle.wl_wire.specs.Turns.{is_read, stepped_by}
-use Rattle.wl_wire.specs.Wires.{Falls, Hears, Puts, Says, Sends, Yields}
+use Rattle.wl_wire.specs.Turns.{Hearing, Answering, Advances, Ends, Finishes, Goes, GoesOn, Turns}
+use Rattle.wl_wire.specs.inner.Turns.{Answered, Steps}
+use Rattle.wl_wire.specs.Turns.{is_read}
+use Rattle.wl_wire.specs.inner.Turns.{stepped_by}
+use Rattle.wl_wire.specs.Wires.{Falls, Hears, Puts, Sends, Yields}
+use Rattle.wl_wire.specs.inner.Wires.{Says}
 use Rattle.wl_wire.specs.declared.counted.Counted.{Counted}
 use Rattle.wl_wire.specs.declared.ending.Ending.{Ending}
 use Rattle.wl_wire.specs.declared.turn.Pace.{Pace}

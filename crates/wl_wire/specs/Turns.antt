@@ -8,18 +8,8 @@ use Rattle.wl_wire.specs.Wires.{Falls, Hears, Idles, Puts, Sends, Yields}
 use Rattle.wl_wire.specs.declared.counted.Counted.{Counted}
 use Rattle.wl_wire.specs.declared.ending.Ending.{Ending}
 use Rattle.wl_wire.specs.declared.ending.Ending.TheVariants.{Closed}
-use Rattle.wl_wire.specs.declared.turn.Data.{Data}
-use Rattle.wl_wire.specs.declared.turn.Data.TheVariants.{Text, Binary}
-use Rattle.wl_wire.specs.declared.turn.Stepped.{Stepped}
-use Rattle.wl_wire.specs.declared.turn.Stepped.TheVariants as stepped
 use Rattle.wl_wire.specs.declared.turn.Turn.{Turn}
 use Rattle.wl_wire.specs.declared.turn.Turn.TheVariants as turn
-use Rattle.wl_wire.specs.declared.wire.Sending.{Sending}
-use Rattle.wl_wire.specs.declared.wire.Sending.TheVariants as sending
-
-abbrev pub data_bytes : Data → List ℕ
-data_bytes (Text bytes) = bytes
-data_bytes (Binary bytes) = bytes
 
 -- what a connection does at a time
 pub data Step : Type 0 where
@@ -102,30 +92,7 @@ module _ {S P : Type 0} (remaining contents : S → Option (List ℕ)) (answers 
   Finishes most old ending new = (middle : Socket (Counted S) × P) × (last : Last) × Advances most old middle
       × Ends middle last ending new
 
-  -- where a step lets another follow, nothing waits
-  abbrev pub Steps : ℕ → Socket (Counted S) × P → Stepped P → Socket (Counted S) → Type 0
-  Steps most old (stepped.Went speaker) new = Advances most old (new, speaker) × (new.output ≡ [])
-  Steps most old (stepped.Stops speaker) new = Advances most old (new, speaker)
-  Steps most old (stepped.Ended ending) new = Finishes most old ending new
-
   -- A turn is steps, with at most 16 reads.
   abbrev pub Turns : Socket (Counted S) × P → Turn P → Socket (Counted S) → Type 0
   Turns old (turn.Went speaker pace) new = Advances 16 old (new, speaker)
   Turns old (turn.Ended ending) new = Finishes 16 old ending new
-
-module _ {S P : Type 0} (contents : S → Option (List ℕ)) (answers : P → List ℕ → List ℕ → P → Type 0) where
-  -- A message that came was answered by a text, which left whole or waits; or there is no answer, or it won't leave
-  -- whole.
-  abbrev pub Answered : Socket (Counted S) × P → List ℕ → Stepped P → Socket (Counted S) → Type 0
-  Answered old message (stepped.Went speaker) new = ((words : List ℕ) × answers old.1 message words speaker
-      × Puts contents old.0 words new) × (new.output ≡ [])
-  Answered old message (stepped.Stops speaker) new = (words : List ℕ) × answers old.1 message words speaker
-      × Puts contents old.0 words new
-  Answered old message (stepped.Ended ending) new = (new ≡ old.0)
-      ⊎ ((words : List ℕ) × (next : P) × answers old.1 message words next × Falls contents old.0 words new)
-
--- what a connection does after what was to leave
-abbrev pub stepped_by : {P : Type 0} → Sending → P → Stepped P
-stepped_by sending.Left speaker = stepped.Went speaker
-stepped_by sending.Waits speaker = stepped.Stops speaker
-stepped_by (sending.Failed ending) speaker = stepped.Ended ending

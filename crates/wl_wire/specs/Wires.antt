@@ -8,10 +8,9 @@ use Rattle.tungstenite.specs.Socket.{Socket, Reads, Writes, Flushed, close_of, c
 use Rattle.tungstenite.specs.declared.error.Error.{Error}
 use Rattle.tungstenite.specs.declared.message.CloseFrame.{CloseFrame}
 use Rattle.tungstenite.specs.declared.message.Message.{Message}
-use Rattle.wl_wire.specs.Endings.{ending_for}
 use Rattle.wl_wire.specs.declared.counted.Counted.{Counted}
 use Rattle.wl_wire.specs.declared.wire.Sending.{Sending}
-use Rattle.wl_wire.specs.declared.wire.Sending.TheVariants.{Left, Waits, Failed}
+use Rattle.wl_wire.specs.declared.wire.Sending.TheVariants.{Failed}
 
 module _ {S : Type 0} (remaining : S → Option (List ℕ)) where
   -- a read gave this
@@ -28,12 +27,6 @@ module _ {S : Type 0} (remaining : S → Option (List ℕ)) where
   Idles old new = ((m : Message) × Yields old (Ok m) new × (2 ≤ kind_of m) × (has_kind 4 m ≡ false))
       ⊎ ((e : Error) × Yields old (Err e) new × IsIo e)
 
--- what an error says of what was to leave: it waits just where the stream blocks
-abbrev pub Unsent : Error → Sending → Type 0
-Unsent e Left = ⊥
-Unsent e Waits = IsIo e
-Unsent e (Failed ending) = ending ≡ ending_for e
-
 module _ {S : Type 0} (contents : S → Option (List ℕ)) where
   -- some of what waited left
   abbrev pub Sends : Socket (Counted S) → Socket (Counted S) → Type 0
@@ -46,12 +39,6 @@ module _ {S : Type 0} (contents : S → Option (List ℕ)) where
   -- a text won't leave whole: it didn't join what waits, or the stream failed, or no text may follow a close frame
   abbrev pub Falls : Socket (Counted S) → List ℕ → Socket (Counted S) → Type 0
   Falls old words new = (new ≡ old) ⊎ (Puts old words new ⊎ IsErr (write_step old.conn (text words)))
-
-  -- a text left and all before it, some of it waits, or it won't leave whole
-  abbrev pub Says : Sending → Socket (Counted S) → List ℕ → Socket (Counted S) → Type 0
-  Says Left old words new = Puts old words new × (new.output ≡ [])
-  Says Waits old words new = Puts old words new
-  Says (Failed ending) old words new = Falls old words new
 
   -- nothing was done, or nothing waited and a ping was sent
   abbrev pub Pings : Sending → Socket (Counted S) → Socket (Counted S) → Type 0

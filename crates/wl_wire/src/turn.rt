@@ -3,7 +3,8 @@
 ghost use Rattle.std.specs.Prelude.{◌≡◌, ◌≤◌, ◌⊎◌, [], IfSome, IfNone};
 ghost use Rattle.tungstenite.specs.Content.{text, binary};
 ghost use Rattle.tungstenite.specs.Socket.{content_of, kind_of};
-ghost use Rattle.wl_wire.specs.Turns.{Answered, Steps, Turns, data_bytes, stepped_by};
+ghost use Rattle.wl_wire.specs.Turns.{Turns};
+ghost use Rattle.wl_wire.specs.inner.Turns.{Answered, Steps, data_bytes, stepped_by};
 
 use crate::ending::{Ending, ending_of, would_block};
 use crate::speaker::{Answer, Speaker};

@@ -2,7 +2,8 @@
 
 ghost use Rattle.std.specs.Prelude.{◌≡◌, [], true, false};
 ghost use Rattle.wl_wire.specs.Endings.{close_number};
-ghost use Rattle.wl_wire.specs.Wires.{Closes, Pings, Says, Sends, Unsent, Yields};
+ghost use Rattle.wl_wire.specs.Wires.{Closes, Pings, Sends, Yields};
+ghost use Rattle.wl_wire.specs.inner.Wires.{Says, Unsent};
 ghost use Rattle.wl_wire.specs.declared.wire.Sending.TheVariants.{Left};
 
 use crate::counted::Counted;

@@ -7,7 +7,8 @@ ghost use Rattle.wl_machine.specs.Standing.{IsStanding};
 ghost use Rattle.wl_journal.specs.History.{recorded};
 ghost use Rattle.wl_manager.specs.Keepers.{phases_at};
 ghost use Rattle.wl_manager.specs.Locked.{Stays};
-ghost use Rattle.wl_manager.specs.Aborts.{Found, TriedAll, Aborts, taken};
+ghost use Rattle.wl_manager.specs.Aborts.{Found, Aborts, taken};
+ghost use Rattle.wl_manager.specs.inner.Aborts.{TriedAll};
 
 use crate::count::Count;
 use crate::keepers::Keepers;

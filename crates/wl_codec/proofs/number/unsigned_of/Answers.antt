@@ -3,7 +3,7 @@ use Rattle.fast_float.specs.Text.{scan}
 use Rattle.serde_json.specs.Data.{negative}
 use Rattle.serde_json.specs.Find.{as_u64}
 use Rattle.serde_json.specs.Read.{number_of, number_from}
-use Rattle.wl_codec.specs.Seen.{num_of}
+use Rattle.wl_codec.specs.inner.Seen.{num_of}
 use Rattle.wl_codec.proofs.Numbers.{as_u64-negative, as_u64-unsigned}
 use Rattle.wl_codec.proofs.number.unsigned_of.Goals as goal
 

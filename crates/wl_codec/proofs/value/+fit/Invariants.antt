@@ -1,6 +1,6 @@
 use Rattle.std.proofs.Common.{◌≡◌, drop}
 use Rattle.json.specs.Value.{items_view, members_view}
-use Rattle.wl_codec.specs.Seen.{items_fit, members_fit}
+use Rattle.wl_codec.specs.inner.Seen.{items_fit, members_fit}
 use Rattle.wl_codec.proofs.value.+fit.Given as goal
 
 abbrev pub invariant-items_fit-loop-item : goal.invariant-items_fit-loop-item

@@ -1,6 +1,6 @@
 use Rattle.std.proofs.Common.{◌≡◌, Bool, true, false, cond, Some, None, option_map, sym, ap, ◌∙◌}
 use Rattle.json.specs.Value.{value_view}
-use Rattle.wl_codec.specs.Seen.{data_of, fits}
+use Rattle.wl_codec.specs.inner.Seen.{data_of, fits}
 use Rattle.wl_codec.specs.Value.{json_value}
 use Rattle.wl_codec.proofs.Bytes.{tree, json_value-tree, json_value-refused}
 use Rattle.wl_codec.proofs.value.value_of.Goals.{After-numbers_fit}

@@ -1,5 +1,5 @@
 use Rattle.std.proofs.Common.{◌≡◌, ◌++◌}
-use Rattle.wl_number_map.specs.NumberMap.{shown}
+use Rattle.wl_number_map.specs.inner.NumberMap.{shown}
 use Rattle.wl_number_map.proofs.store.list.Given as goal
 
 -- the rows that were there, those so far, and those to come

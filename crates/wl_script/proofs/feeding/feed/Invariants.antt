@@ -1,6 +1,6 @@
 use Rattle.std.proofs.Common.{◌≡◌, ◌≤◌, ◌+◌, ◌++◌, List, ℕ, length}
 use Rattle.wl_script.specs.Lines.{HasNoLf}
-use Rattle.wl_script.specs.Progress.{moment, Fed}
+use Rattle.wl_script.specs.inner.Progress.{moment, Fed}
 use Rattle.wl_script.proofs.feeding.feed.Given as goal
 
 abbrev pub invariant-loop-line : goal.invariant-loop-line

@@ -1,7 +1,7 @@
 use Rattle.std.proofs.Common.{◌≡◌, ◌≤◌, ◌*◌, List, [], ℕ, length}
 use Rattle.std.specs.Io.KnownBytes.{Consumes}
 use Rattle.wl_script.specs.Streams.{GrewBy}
-use Rattle.wl_script.specs.Progress.{moment, Fed}
+use Rattle.wl_script.specs.inner.Progress.{moment, Fed}
 use Rattle.wl_script.proofs.running.run_reads.Given as goal
 
 abbrev pub invariant-loop-turn : goal.invariant-loop-turn

@@ -1,5 +1,5 @@
 use Rattle.std.proofs.Common.{string_bytes, ◌∙◌, ap, Ok}
-use Rattle.wl_server.specs.Talks.{data_bytes}
+use Rattle.wl_server.specs.inner.Talks.{data_bytes}
 use Rattle.wl_server.proofs.talk.take_turn.Goals as goal
 
 pub returns-in-Ok-Sent : goal.returns-in-Ok-Sent

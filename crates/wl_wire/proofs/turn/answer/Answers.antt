@@ -1,5 +1,5 @@
 use Rattle.std.proofs.Common.{inl, refl, rules, string_bytes}
-use Rattle.wl_wire.specs.Turns.{data_bytes}
+use Rattle.wl_wire.specs.inner.Turns.{data_bytes}
 use Rattle.wl_wire.proofs.Steps.{answered}
 use Rattle.wl_wire.proofs.turn.answer.Goals as goal
 

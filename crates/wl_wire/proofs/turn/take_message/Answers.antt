@@ -1,5 +1,6 @@
 use Rattle.std.proofs.Common.{sym, ◌∙◌, refl}
-use Rattle.wl_wire.specs.Turns.{Parting, Reading, data_bytes}
+use Rattle.wl_wire.specs.Turns.{Parting, Reading}
+use Rattle.wl_wire.specs.inner.Turns.{data_bytes}
 use Rattle.wl_wire.proofs.Steps.{after, blocked, exchanged, idle, stays}
 use Rattle.wl_wire.proofs.turn.take_message.Goals as goal
 

@@ -1,6 +1,7 @@
 use Rattle.std.proofs.Common.{◌≡◌, ◌-◌, ◌^◌, length}
 use Rattle.wl_machine.specs.Step.{untaken_numbers}
-use Rattle.wl_manager.specs.Aborts.{Found, Tried, taken}
+use Rattle.wl_manager.specs.Aborts.{Found, taken}
+use Rattle.wl_manager.specs.inner.Aborts.{Tried}
 use Rattle.wl_manager.proofs.Trying.{up_to}
 use Rattle.wl_manager.proofs.locked.abort.abort_granted.Given as goal
 

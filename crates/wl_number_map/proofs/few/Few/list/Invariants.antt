@@ -1,5 +1,5 @@
 use Rattle.std.proofs.Common.{◌≡◌, ◌++◌, take}
-use Rattle.wl_number_map.specs.NumberMap.{shown}
+use Rattle.wl_number_map.specs.inner.NumberMap.{shown}
 use Rattle.wl_number_map.proofs.few.Few.list.Given as goal
 
 -- the rows that were there, and those so far

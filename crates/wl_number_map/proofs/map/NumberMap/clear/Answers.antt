@@ -1,5 +1,5 @@
 use Rattle.std.proofs.Common.{ap}
-use Rattle.wl_number_map.specs.NumberMap.{in_order}
+use Rattle.wl_number_map.specs.inner.NumberMap.{in_order}
 use Rattle.wl_number_map.proofs.InOrder.{in_order_sorted}
 use Rattle.wl_number_map.proofs.map.NumberMap.clear.Goals as goal
 

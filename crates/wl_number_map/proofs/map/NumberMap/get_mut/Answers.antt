@@ -1,5 +1,5 @@
 use Rattle.std.proofs.Common.{◌∙◌, sym, ap, refl}
-use Rattle.wl_number_map.specs.NumberMap.{in_order}
+use Rattle.wl_number_map.specs.inner.NumberMap.{in_order}
 use Rattle.wl_number_map.proofs.InOrder.{found_written, lookup_in_order, in_order_sorted, in_order-set_value}
 use Rattle.wl_number_map.proofs.map.NumberMap.get_mut.Goals as goal
 

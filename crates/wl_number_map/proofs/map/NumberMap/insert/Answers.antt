@@ -1,6 +1,6 @@
 use Rattle.std.proofs.Common.{◌≡◌, ◌∙◌, sym, ap, subst}
 use Rattle.std.specs.Prelude.{Some, None, IfOk, OnErr}
-use Rattle.wl_number_map.specs.NumberMap.{in_order}
+use Rattle.wl_number_map.specs.inner.NumberMap.{in_order}
 use Rattle.wl_number_map.proofs.InOrder.{lookup_in_order, in_order_sorted, in_order-inserted, found_now}
 use Rattle.wl_number_map.proofs.Weaker.{err_weaker, ok_weaker}
 use Rattle.wl_number_map.proofs.map.NumberMap.insert.Goals as goal

@@ -1,6 +1,6 @@
 use Rattle.std.proofs.Common.{◌∙◌, sym, ap}
 use Rattle.std.specs.Prelude.{None}
-use Rattle.wl_number_map.specs.NumberMap.{in_order}
+use Rattle.wl_number_map.specs.inner.NumberMap.{in_order}
 use Rattle.wl_number_map.proofs.InOrder.{lookup_in_order, in_order_sorted, in_order-removed, found_now}
 use Rattle.wl_number_map.proofs.Weaker.{none_weaker}
 use Rattle.wl_number_map.proofs.map.NumberMap.remove.Goals as goal

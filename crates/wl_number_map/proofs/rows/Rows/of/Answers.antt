@@ -1,5 +1,5 @@
 use Rattle.std.proofs.Common.{rules, ◌∙◌, ap}
-use Rattle.wl_number_map.specs.NumberMap.{shown}
+use Rattle.wl_number_map.specs.inner.NumberMap.{shown}
 use Rattle.std.proofs.lemmas.List.Sorted.{IsNonDecreasingBy-from_sort_by_key}
 use Rattle.wl_number_map.proofs.Sorted.{rows_in_order}
 use Rattle.wl_number_map.proofs.rows.Rows.of.Goals as goal

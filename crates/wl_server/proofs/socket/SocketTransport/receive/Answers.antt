@@ -1,5 +1,5 @@
 use Rattle.std.proofs.Common.{[], ◌∷◌, ◌++◌}
-use Rattle.wl_server.specs.Talks.{data_bytes}
+use Rattle.wl_server.specs.inner.Talks.{data_bytes}
 use Rattle.wl_server.proofs.Sockets.{idles_more, heard}
 use Rattle.wl_server.proofs.socket.SocketTransport.receive.Goals as goal
 
