@@ -4,14 +4,13 @@ use Rattle.std.specs.Prelude.{option_map, Result, Ok, Err}
 use Rattle.wl_world.specs.World.{World, next, reply, opening}
 use Rattle.wl_world.specs.Worlds.{world_of}
 use Rattle.wl_script.specs.Lines.{HasNoLf, lines}
-use Rattle.wl_script.specs.Transcript.{after}
-use Rattle.wl_script.specs.Audits.{Audited, recording}
+use Rattle.wl_script.specs.Audits.{Audited}
 use Rattle.wl_c.specs.declared.world.Live.{Live}
 use Rattle.wl_c.specs.declared.fault.Fault.{Fault}
 use Rattle.wl_c.specs.declared.fault.Fault.TheVariants.{Memory, Spent, NoBooks, Null, TooLong, LineFeed}
 
 abbrev pub world_of_live : Live → World
-world_of_live live = world_of None live.engine
+world_of_live live = world_of live.engine
 
 -- the lines that were answered, each with an LF, where books are kept
 abbrev pub script_of : Live → Option (List ℕ)
@@ -56,7 +55,7 @@ Answers (Some before) line outcome now said = AnswersLive before line outcome no
 -- these bytes are the lines of the audit of the script
 abbrev pub IsAudit : Option (List ℕ) → List ℕ → Type 0
 IsAudit None said = ⊥
-IsAudit (Some script) said = (n : ℕ) × Audited (after recording (lines script)) n (Some []) (Some said)
+IsAudit (Some script) said = (n : ℕ) × Audited (lines script) n (Some []) (Some said)
 
 -- why there is no audit, and what is left
 abbrev pub RefusesAudit : Live → Fault → Option Live → Type 0

@@ -7,14 +7,16 @@ use Rattle.std.specs.Io.KnownBytes.{Consumes, IsAtEnd}
 use Rattle.std.proofs.KnownBytes.{Consumes-nil, Consumes-trans}
 use Rattle.std.specs.Prelude.{take, false}
 use Rattle.wl_script.specs.Lines.{HasNoLf, is_lf, line_feeds, with_lfs}
+use Rattle.wl_world.specs.Journals.{Journals}
 use Rattle.wl_world.specs.World.{World}
 use Rattle.wl_script.specs.Streams.{one_more, GrewBy, GrewAtMostBy}
 use Rattle.wl_script.specs.Faults.{answered, unanswered_bytes}
 use Rattle.wl_script.specs.Leaves.{AnswersAtOnce}
 use Rattle.wl_script.specs.inner.Progress.{Moment, moment, Fed, Stops, Breaks, IsUnanswered}
-use Rattle.wl_script.specs.inner.Progress.{BreaksAtEnd}
+use Rattle.wl_script.specs.inner.Progress.{BreaksAtEnd, CountsOn}
 use Rattle.wl_script.specs.declared.fault.ScriptFault.{ScriptFault}
 use Rattle.wl_script.specs.declared.fault.ScriptFault.TheVariants.{Memory, Read, Write, LineTooLong, TooManyTurns}
+use Rattle.wl_script.proofs.Entries.{counted_piece}
 use Rattle.wl_script.proofs.Pieces.{Fed-more}
 
 abbrev weight : Bool → ℕ
@@ -147,15 +149,20 @@ at_once_at_end limit world a b old new bytes now fault (p, end) fed (some, s) =
 
 -- one more piece
 pub fed_more : (limit : ℕ) (a b c : Option (List ℕ)) (bytes piece : List ℕ) (start mid now : Moment) (turn : ℕ)
+    (old world new : World) (one two three : Journals) (unfinished : List ℕ)
     → Consumes a b bytes → Consumes b c piece → Fed limit start bytes mid → Fed limit mid piece now
     → turn ≤ length bytes → 0 < length piece
-    → ((all : List ℕ) × Consumes a c all × Fed limit start all now × (turn + 1 ≤ length all))
-fed_more limit a b c bytes piece start mid now turn p q first second few some = (
-  bytes ++ piece,
-  Consumes-trans a b c bytes piece p q,
-  Fed-more limit start mid now bytes piece first second,
-  omega (arith, length-append bytes piece, few, some),
-)
+    → CountsOn old one bytes world two unfinished → CountsOn world two (unfinished ++ piece) new three now.unfinished
+    → ((all : List ℕ) × Consumes a c all × Fed limit start all now × (turn + 1 ≤ length all)
+    × CountsOn old one all new three now.unfinished)
+fed_more limit a b c bytes piece start mid now turn old world new one two three unfinished p q first second few some
+    counts more = (
+      bytes ++ piece,
+      Consumes-trans a b c bytes piece p q,
+      Fed-more limit start mid now bytes piece first second,
+      omega (arith, length-append bytes piece, few, some),
+      counted_piece old world new one two three bytes unfinished piece now.unfinished counts more,
+    )
 
 -- a read that gave nothing says that the reader is at its end
 pub nothing_more : (a b c : Option (List ℕ)) (bytes buf : List ℕ) (n : ℕ) → Consumes a b bytes → n ≡ 0 → 0 < length buf

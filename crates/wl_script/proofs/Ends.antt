@@ -46,7 +46,7 @@ lines_after (line ∷ ended) rest whole =
     ∙ lines_at line 10 (with_lfs ended ++ rest) (All-head HasNoLf line ended whole) refl
     ∙ ap (λ ls. line ∷ ls) (lines_after ended rest (All-tail HasNoLf line ended whole))
 
-last_line_some : (line : List ℕ) → 0 < length line → last_line line ≡ line ∷ []
+pub last_line_some : (line : List ℕ) → 0 < length line → last_line line ≡ line ∷ []
 last_line_some [] some = absurd (omega (arith, some))
 last_line_some (b ∷ bs) some = refl
 

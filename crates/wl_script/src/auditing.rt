@@ -5,14 +5,13 @@ ghost use Rattle.std.specs.Prelude.{string_bytes};
 ghost use Rattle.serde_json.specs.Data.{member, object, string};
 ghost use Rattle.serde_json.specs.View.{view};
 ghost use Rattle.wl_origin.specs.Origin.{tuple_text};
-ghost use Rattle.wl_script.specs.Audits.{Audited, CountsDone, LeavesAudit, WritesOrigins, audit_line, audit_members};
-ghost use Rattle.wl_script.specs.Audits.{audit_value, recording};
-ghost use Rattle.wl_script.specs.inner.Audits.{LeavesOrigins, IsUnwritten, WritesNext, cores_of, core_of};
+ghost use Rattle.wl_script.specs.Audits.{Audited, CountsDone, LeavesAudit, WritesOrigins, audit_line};
+ghost use Rattle.wl_script.specs.Audits.{audit_members, audit_value};
+ghost use Rattle.wl_script.specs.inner.Audits.{LeavesOrigins, IsUnwritten, WritesNext, counts_of};
 ghost use Rattle.wl_script.specs.Faults.{is_read, is_write, IsTooManyTurns};
 ghost use Rattle.wl_script.specs.Leaves.{GaveBytes};
 ghost use Rattle.wl_script.specs.Lines.{lines};
 ghost use Rattle.wl_script.specs.Streams.{Counts, GrewBy, GrewAtMostBy};
-ghost use Rattle.wl_script.specs.Transcript.{after};
 
 use crate::replying::write_all;
 use crate::running::{LIMITS, run_lines};
@@ -113,10 +112,10 @@ fn write_origin<W: Output>(
     written: u64,
 ) -> Result<u64, ScriptFault>
     requires { written + 1 < 2 ^ 64 }
-    ensures ok { IfOk result (λ n. WritesNext written (key.now, core_of book.now) n (W.held writer.old)
+    ensures ok { IfOk result (λ n. WritesNext written (key.now, book.now.total) n (W.held writer.old)
         (W.held writer.new)) }
     ensures err { IfErr result (λ fault.
-        IsUnwritten lines written (key.now, core_of book.now) (W.held writer.old) fault (W.held writer.new)) }
+        IsUnwritten lines written (key.now, book.now.total) (W.held writer.old) fault (W.held writer.new)) }
     ensures counted { Counts (W.failures writer.old) (W.failures writer.new) (is_write result) }
 {
     if book.total() == 0 {
@@ -138,9 +137,9 @@ fn write_origins<W: Output>(
     books: &[(ManagerKey, Book<IndexCore>)],
     lines: u64,
 ) -> Result<u64, ScriptFault>
-    ensures ok { IfOk result (λ n. WritesOrigins (cores_of books.now) n (W.held writer.old) (W.held writer.new)) }
+    ensures ok { IfOk result (λ n. WritesOrigins (counts_of books.now) n (W.held writer.old) (W.held writer.new)) }
     ensures err { IfErr result (λ fault.
-        LeavesOrigins lines (cores_of books.now) fault (W.held writer.old) (W.held writer.new)) }
+        LeavesOrigins lines (counts_of books.now) fault (W.held writer.old) (W.held writer.new)) }
     ensures counted { Counts (W.failures writer.old) (W.failures writer.new) (is_write result) }
 {
     let mut written = 0;
@@ -163,7 +162,7 @@ pub fn audit<S: RandomSource + AllocGlobal, R: Input, W: Output>(
     writer: &mut W,
 ) -> Result<u64, ScriptFault>
     ensures ok { IfOk result (λ n. IfSome (R.rest reader.old) (λ input. All (λ line. length line ≤ 65536) (lines input)
-        × Audited (after recording (lines input)) n (W.held writer.old) (W.held writer.new))) }
+        × Audited (lines input) n (W.held writer.old) (W.held writer.new))) }
     ensures err { IfErr result (λ fault. IfSome (R.rest reader.old) (λ input.
         LeavesAudit 65536 (lines input) fault (W.held writer.old) (W.held writer.new))) }
     ensures at_once { IfErr result (λ fault. IfSome (R.rest reader.old) (λ input.

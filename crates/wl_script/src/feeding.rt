@@ -5,7 +5,7 @@ ghost use Rattle.std.specs.Prelude.{IsTrue};
 ghost use Rattle.wl_script.specs.Lines.{HasNoLf};
 ghost use Rattle.wl_script.specs.Streams.{Counts};
 ghost use Rattle.wl_script.specs.Faults.{is_write};
-ghost use Rattle.wl_script.specs.inner.Progress.{moment, Fed, Breaks, IsNotKept};
+ghost use Rattle.wl_script.specs.inner.Progress.{moment, Fed, Breaks, CountsOn, IsNotKept};
 
 use crate::replying::answer_line;
 use crate::{Answerer, Output, ScriptFault};
@@ -57,6 +57,9 @@ fn end_line<A: Answerer, W: Output>(
         (moment progress.old.unfinished.items progress.old.answered (A.world answerer.old) (W.held writer.old))
         (bytes.now ++ 10 ∷ []) fault (W.held writer.new)) }
     ensures ended { OnOk result (progress.new.unfinished.items ≡ []) }
+    ensures entries { OnOk result (CountsOn (A.world answerer.old) (A.journals answerer.old)
+        (progress.old.unfinished.items ++ bytes.now ++ 10 ∷ [])
+        (A.world answerer.new) (A.journals answerer.new) progress.new.unfinished.items) }
     ensures one { OnOk result (progress.new.answered ≡ progress.old.answered + 1) }
     ensures counted { Counts (W.failures writer.old) (W.failures writer.new) (is_write result) }
 {
@@ -111,6 +114,9 @@ pub fn feed<A: Answerer, W: Output>(
     ensures breaks { IfErr result (λ fault. Breaks limit
         (moment progress.old.unfinished.items progress.old.answered (A.world answerer.old) (W.held writer.old))
         piece.now fault (W.held writer.new)) }
+    ensures entries { OnOk result (CountsOn (A.world answerer.old) (A.journals answerer.old)
+        (progress.old.unfinished.items ++ piece.now)
+        (A.world answerer.new) (A.journals answerer.new) progress.new.unfinished.items) }
     ensures short { OnOk result (length progress.new.unfinished.items ≤ limit) }
     ensures count { OnOk result (progress.new.answered ≤ progress.old.answered + length piece.now) }
     ensures counted { Counts (W.failures writer.old) (W.failures writer.new) (is_write result) }

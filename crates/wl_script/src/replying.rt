@@ -6,6 +6,9 @@ ghost use Rattle.wl_script.specs.Streams.{Counts};
 ghost use Rattle.wl_script.specs.Faults.{is_write};
 ghost use Rattle.wl_script.specs.Transcript.{reply_line};
 ghost use Rattle.wl_script.specs.inner.Progress.{IsUnanswered};
+ghost use Rattle.wl_codec.specs.Reading.{line_reading};
+ghost use Rattle.wl_world.specs.Entries.{line_entries};
+ghost use Rattle.wl_world.specs.Journals.{Grow};
 ghost use Rattle.wl_world.specs.World.{next};
 
 use crate::{Answerer, Failed, Output, ScriptFault};
@@ -38,6 +41,8 @@ pub fn answer_line<A: Answerer, W: Output>(
     ensures written { OnOk result
         (Appends (W.held writer.old) (W.held writer.new) (reply_line (A.world answerer.old) line.now)) }
     ensures next { OnOk result (A.world answerer.new ≡ next (A.world answerer.old) line.now) }
+    ensures entries { OnOk result (Grow (A.journals answerer.old)
+        (λ key. line_entries key (A.world answerer.old) (line_reading line.now)) (A.journals answerer.new)) }
     ensures err { IfErr result (λ fault.
         IsUnanswered answered (A.world answerer.old) line.now (W.held writer.old) fault (W.held writer.new)) }
     ensures counted { Counts (W.failures writer.old) (W.failures writer.new) (is_write result) }

@@ -2,6 +2,8 @@
 
 ghost use Rattle.std.specs.Prelude.{◌≡◌, ◌≤◌, ◌<◌, ◌+◌, ◌^◌, length, IfOk, IfErr, IfSome, OnOk};
 ghost use Rattle.std.specs.Io.KnownBytes.{Appends};
+ghost use Rattle.wl_world.specs.Entries.{script_entries};
+ghost use Rattle.wl_world.specs.Journals.{Grow};
 ghost use Rattle.wl_world.specs.World.{opening};
 ghost use Rattle.wl_script.specs.Streams.{Counts, GrewBy, GrewAtMostBy};
 ghost use Rattle.wl_script.specs.Faults.{is_read, is_write, IsTooManyTurns};
@@ -41,6 +43,9 @@ fn finish<A: Answerer, W: Output>(
         (transcript (A.world answerer.old) (last_line progress.now.unfinished.items))) }
     ensures world { OnOk result (A.world answerer.new
         ≡ after (A.world answerer.old) (last_line progress.now.unfinished.items)) }
+    ensures entries { OnOk result (Grow (A.journals answerer.old)
+        (λ key. script_entries key (A.world answerer.old) (last_line progress.now.unfinished.items))
+        (A.journals answerer.new)) }
     ensures err { IfErr result (λ fault. BreaksAtEnd
         (moment progress.now.unfinished.items progress.now.answered (A.world answerer.old) (W.held writer.old))
         fault (W.held writer.new)) }
@@ -69,6 +74,8 @@ fn run_reads<A: Answerer, R: Input, W: Output>(
         × Answered limits.line (A.world answerer.old) (lines input) (W.held writer.old) (W.held writer.new))) }
     ensures world { OnOk result (IfSome (R.rest reader.old) (λ input.
         A.world answerer.new ≡ after (A.world answerer.old) (lines input))) }
+    ensures entries { OnOk result (IfSome (R.rest reader.old) (λ input. Grow (A.journals answerer.old)
+        (λ key. script_entries key (A.world answerer.old) (lines input)) (A.journals answerer.new))) }
     ensures err { IfErr result (λ fault. IfSome (R.rest reader.old) (λ input.
         Leaves limits.line (A.world answerer.old) (lines input) fault (W.held writer.old) (W.held writer.new))) }
     ensures at_once { IfErr result (λ fault. AnswersAtOnce fault (R.rest reader.old) (R.rest reader.new)) }
@@ -110,6 +117,8 @@ pub fn run_lines<A: Answerer, R: Input, W: Output>(
         × Answered limits.line (A.world answerer.old) (lines input) (W.held writer.old) (W.held writer.new))) }
     ensures world { OnOk result (IfSome (R.rest reader.old) (λ input.
         A.world answerer.new ≡ after (A.world answerer.old) (lines input))) }
+    ensures entries { OnOk result (IfSome (R.rest reader.old) (λ input. Grow (A.journals answerer.old)
+        (λ key. script_entries key (A.world answerer.old) (lines input)) (A.journals answerer.new))) }
     // As many lines were answered as the fault says.
     ensures err { IfErr result (λ fault. IfSome (R.rest reader.old) (λ input.
         Leaves limits.line (A.world answerer.old) (lines input) fault (W.held writer.old) (W.held writer.new))) }

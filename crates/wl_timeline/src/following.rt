@@ -1,7 +1,7 @@
 //! Answers a script's lines, and follows what becomes of its requests.
 
 ghost use Rattle.std.specs.Prelude.{None};
-ghost use Rattle.wl_world.specs.Worlds.{world_of};
+ghost use Rattle.wl_world.specs.Worlds.{journals_in, world_of};
 
 use crate::history::History;
 use std::alloc::Global;
@@ -32,7 +32,9 @@ impl Follower {
 }
 
 impl Answerer for Follower {
-    ghost world = { λ follower. world_of None follower.engine };
+    ghost world = { λ follower. world_of follower.engine };
+
+    ghost journals = { λ follower. journals_in None follower.engine };
 
     fn answer(&mut self, line: &[u8]) -> Result<String, Memory> {
         let reply = self.engine.answer(line)?;

@@ -23,7 +23,7 @@ use Rattle.wl_types.specs.declared.answers.TakeAnswer.TheVariants as took
 use Rattle.std.proofs.Common.{map}
 use Rattle.wl_world.specs.Requests.{after_answer, after_collect}
 use Rattle.wl_world.specs.inner.Requests.{IsRising}
-use Rattle.wl_world.specs.Origins.{Core, Origin, Acted, act, admitted, after, is_granted, outcome_of, stepped}
+use Rattle.wl_world.specs.Origins.{Origin, Acted, act, admitted, is_granted, outcome_of, stepped}
 use Rattle.wl_world.specs.Origins.{take_observed}
 use Rattle.wl_world.specs.inner.Views.{act_result_of}
 use Rattle.wl_world.proofs.Rising.{added, filtered, higher, with_changes_rising, collect_rising}
@@ -116,15 +116,15 @@ listed_rising (reply.Refused x) b agent low high requests le r = higher 0 low hi
 
 -- an origin whose requests are in order
 abbrev pub InOrder : Origin → Type 0
-InOrder o = IsRising 0 o.core.state.next.request o.requests
+InOrder o = IsRising 0 o.state.next.request o.requests
 
 stepped_in_order : (o : Origin) (agent : ℕ) (b : Body) (c : Command) → InOrder o → InOrder (stepped o agent b c).origin
 stepped_in_order o agent b c r =
-    unfold stepped in with_changes_rising 0 (machine.step o.core.state c).state.next.request
-    (machine.step o.core.state c).changes (after_answer agent (outcome_of b (machine.step o.core.state c).reply)
+    unfold stepped in with_changes_rising 0 (machine.step o.state c).state.next.request
+    (machine.step o.state c).changes (after_answer agent (outcome_of b (machine.step o.state c).reply)
     o.requests)
-    (listed_rising (machine.step o.core.state c).reply b agent o.core.state.next.request
-    (machine.step o.core.state c).state.next.request o.requests (step_counted o.core.state c) r)
+    (listed_rising (machine.step o.state c).reply b agent o.state.next.request
+    (machine.step o.state c).state.next.request o.requests (step_counted o.state c) r)
 
 act_in_order : (o : Origin) (agent : ℕ) (b : Body) → InOrder o → InOrder (act o agent b).origin
 act_in_order o agent (body.Enter url kind bucket) r = r
@@ -148,30 +148,28 @@ opened_in_order old new kind o is r = subst (λ (x : Acted). InOrder x.origin) (
     (stepped_in_order old 0 (body.Enter [] kind []) (command.Enter kind) r)
 
 -- a take numbers nothing
-take_next : (core : Core) (observation : RequestPhase) → (take_observed core observation).state.next ≡ core.state.next
-take_next core observation = granted (is_granted observation.1)
+take_next : (s : State) (observation : RequestPhase) → (take_observed s observation).next ≡ s.next
+take_next s observation = granted (is_granted observation.1)
   where
-    untaken : (c : Bool) → (if c then machine.no_changes (record
-        core.state { held = map (machine.with_taken observation.0) core.state.held }) (reply.Took took.Taken)
-        else machine.no_changes core.state (reply.Took took.NotGranted)).state.next ≡ core.state.next
+    untaken : (c : Bool) → (if c then machine.no_changes
+        (record s { held = map (machine.with_taken observation.0) s.held }) (reply.Took took.Taken)
+        else machine.no_changes s (reply.Took took.NotGranted)).state.next ≡ s.next
     untaken true = refl
     untaken false = refl
 
-    granted : (c : Bool) → (if c then after core (machine.step core.state (command.Take observation.0))
-        else core).state.next ≡ core.state.next
-    granted true = untaken (list_any (machine.is_untaken observation.0) core.state.held)
+    granted : (c : Bool) → (if c then (machine.step s (command.Take observation.0)).state else s).next ≡ s.next
+    granted true = untaken (list_any (machine.is_untaken observation.0) s.held)
     granted false = refl
 
-takes_next : (core : Core) (observed : List RequestPhase) → (fold take_observed core observed).state.next
-    ≡ core.state.next
-takes_next core [] = refl
-takes_next core (observation ∷ observed) = takes_next (take_observed core observation) observed
-    ∙ take_next core observation
+takes_next : (s : State) (observed : List RequestPhase) → (fold take_observed s observed).next ≡ s.next
+takes_next s [] = refl
+takes_next s (observation ∷ observed) = takes_next (take_observed s observation) observed
+    ∙ take_next s observation
 
-pub collect_in_order : (agent : ℕ) (s t : Core) (observed : List RequestPhase) (old new : List Request)
+pub collect_in_order : (agent : ℕ) (s t : State) (observed : List RequestPhase) (old new : List Request)
     → t ≡ fold take_observed s observed → new ≡ after_collect agent old
-    → IsRising 0 s.state.next.request old → IsRising 0 t.state.next.request new
+    → IsRising 0 s.next.request old → IsRising 0 t.next.request new
 collect_in_order agent s t observed old new is mark r =
-    subst (λ (n : Numbers). IsRising 0 n.request new) (sym (ap (λ (core : Core). core.state.next) is
+    subst (λ (n : Numbers). IsRising 0 n.request new) (sym (ap (λ (s : State). s.next) is
     ∙ takes_next s observed))
-    (subst (IsRising 0 s.state.next.request) (sym mark) (collect_rising agent 0 s.state.next.request old r))
+    (subst (IsRising 0 s.next.request) (sym mark) (collect_rising agent 0 s.next.request old r))

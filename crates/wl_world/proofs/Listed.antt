@@ -1,11 +1,11 @@
--- The cores that a map of origins holds are those of its realm, in whatever order they are listed.
+-- What a map of managers holds stands at its keys, in whatever order it is listed.
 use Rattle.std.proofs.Common.{◌≡◌, ◌+◌, ◌<◌, ℕ, true, false, refl, ap, sym, subst, ◌∙◌, List, [], ◌∷◌, length, get_or}
-use Rattle.std.proofs.Common.{Option, Some, None, map, arith}
+use Rattle.std.proofs.Common.{Option, Some, None, arith}
 use Rattle.std.specs.Prelude.{Result, Ok, Err, IfOk, OnOk}
 use Rattle.std.specs.List.{IsDistinct}
 use Rattle.std.specs.List.Sorted.{IsPermutation, IsSortedByKey, IsStrictlySortedBy}
 use Rattle.std.specs.Map.{keys_of, lookup}
-use Rattle.std.specs.Option.{option_map}
+use Rattle.std.specs.Option.{option_map, unwrap_or}
 use Rattle.std.specs.Ordering.{eq_by_cmp, is_eq, is_lt, ordering_reverse}
 use Rattle.std.specs.Cmp.{IsEquivalence}
 use Rattle.std.specs.declared.cmp.Ordering.{Ordering}
@@ -21,11 +21,10 @@ use Rattle.std.proofs.lemmas.Option.{none-some}
 use mathlib.Core.Path.{fun_ext}
 use Rattle.wl_origin.specs.Manager.{exact_managers, manager_cmp, manager_cmp_total}
 use Rattle.wl_origin.specs.declared.manager_key.ManagerKey.{ManagerKey}
-use Rattle.wl_machine.specs.State.{State}
-use Rattle.wl_world.specs.Cores.{AreCoresOf, core_list, or_unused}
-use Rattle.wl_world.specs.Origins.{Core, Origin}
-use Rattle.wl_world.specs.Realms.{seen}
-use Rattle.wl_world.specs.World.{World}
+use Rattle.wl_world.specs.Cores.{IsListOf, seen_by}
+use Rattle.wl_world.specs.Managers.{Manager}
+use Rattle.wl_world.specs.Origins.{unused}
+use Rattle.wl_world.specs.Realms.{entries_in, origin_in}
 
 -- ---- keys in order
 
@@ -89,60 +88,61 @@ same_lookup {X} es fs moved apart apart2 q = by (lookup (eq_by_cmp manager_cmp q
     by None (Some w) h k = absurd (none-some w (sym h ∙ back w k))
     by None None h k = h ∙ sym k
 
--- ---- the cores
+-- ---- what is listed
 
--- the cores of these origins
-abbrev pub cores_of : List (ManagerKey × Origin) → List (ManagerKey × Core)
-cores_of origins = map (λ entry. (entry.0, entry.1.core)) origins
-
--- what stands at a key has the core that is listed for it
-core_of : (entries : Option ℕ) (o : Option Origin) → (seen entries o).core
-    ≡ or_unused entries (option_map (λ origin. origin.core) o)
-core_of entries None = refl
-core_of entries (Some origin) = refl
-
--- cores that were listed, and then sorted by their keys
-pub sorted_cores : {C : Type 0} (state : C → State) (entries : C → Option ℕ) (origins : List (ManagerKey × Origin))
-    (cores cores2 : List (ManagerKey × C)) → IsDistinct (eq_by_cmp manager_cmp) (keys_of origins)
-    → core_list state entries cores ≡ cores_of origins → IsPermutation cores cores2
+-- a list that was made of these managers, and then sorted by its keys
+pub sorted_list : {C X : Type 0} (see : C → X) (at : Manager → X) (managers : List (ManagerKey × Manager))
+    (cores cores2 : List (ManagerKey × C)) → IsDistinct (eq_by_cmp manager_cmp) (keys_of managers)
+    → seen_by see cores ≡ seen_by at managers → IsPermutation cores cores2
     → IsSortedByKey (λ entry. entry.0) manager_cmp cores2
-    → IsStrictlySortedBy manager_cmp (keys_of (core_list state entries cores2))
-sorted_cores {C} state entries origins cores cores2 distinct are moved sorted =
-    let core : C → Core = λ c. record { state = state c; entries = entries c } in
-    let same : keys_of cores ≡ keys_of origins = sym (keys_of-map_values core cores) ∙ ap keys_of are
-    ∙ keys_of-map_values (λ (origin : Origin). origin.core) origins in
+    → IsStrictlySortedBy manager_cmp (keys_of cores2)
+sorted_list {C} see at managers cores cores2 distinct are moved sorted =
+    let same : keys_of cores ≡ keys_of managers = sym (keys_of-map_values see cores) ∙ ap keys_of are
+    ∙ keys_of-map_values at managers in
     let apart = IsDistinct-IsPermutation (eq_by_cmp manager_cmp) equiv.symm (keys_of cores) (keys_of cores2)
     (IsPermutation-map (λ (entry : ManagerKey × C). entry.0) cores cores2 moved)
     (subst (IsDistinct (eq_by_cmp manager_cmp)) (sym same) distinct) in
-    subst (IsStrictlySortedBy manager_cmp) (sym (keys_of-map_values core cores2)) (strictly cores2 sorted apart)
+    strictly cores2 sorted apart
 
-pub moved_cores : {C : Type 0} (state : C → State) (entries : C → Option ℕ) (origins : List (ManagerKey × Origin))
+pub moved_list : {C X : Type 0} (see : C → X) (at : Manager → X) (managers : List (ManagerKey × Manager))
     (cores cores2 : List (ManagerKey × C))
-    → core_list state entries cores ≡ cores_of origins → IsPermutation cores cores2
-    → IsPermutation (cores_of origins) (core_list state entries cores2)
-moved_cores {C} state entries origins cores cores2 are moved =
-    subst (λ l. IsPermutation l (core_list state entries cores2)) are
+    → seen_by see cores ≡ seen_by at managers → IsPermutation cores cores2
+    → IsPermutation (seen_by at managers) (seen_by see cores2)
+moved_list {C} see at managers cores cores2 are moved =
+    subst (λ l. IsPermutation l (seen_by see cores2)) are
     (IsPermutation-map (λ (entry : ManagerKey × C). (
       entry.0,
-      record { state = state entry.1; entries = entries entry.1 },
+      see entry.1,
     )) cores cores2 moved)
 
-pub stands : {T E : Type 0} (cores_in : T → List (ManagerKey × Core)) (entries : Option ℕ) (world : World)
-    (origins : List (ManagerKey × Origin)) (result : Result T E)
-    → world.realm ≡ (λ key. seen entries (lookup (eq_by_cmp manager_cmp key) origins))
-    → OnOk result (IsDistinct (eq_by_cmp manager_cmp) (keys_of origins))
+-- what stands at each key, where `all` says it of what the map of managers has there
+pub stands : {T E C X : Type 0} (cores_in : T → List (ManagerKey × C)) (see : C → X) (at : Manager → X)
+    (all : Option Manager → X) (managers : List (ManagerKey × Manager)) (result : Result T E)
+    → ((o : Option Manager) → all o ≡ unwrap_or (option_map at o) (all None))
+    → OnOk result (IsDistinct (eq_by_cmp manager_cmp) (keys_of managers))
     → IfOk result (λ cores. IsStrictlySortedBy manager_cmp (keys_of (cores_in cores)))
-    → IfOk result (λ cores. IsPermutation (cores_of origins) (cores_in cores))
-    → IfOk result (λ cores. AreCoresOf entries world (cores_in cores))
-stands cores_in entries world origins (Err e) realm distinct sorted moved = tt
-stands cores_in entries world origins (Ok cores) realm distinct sorted moved =
+    → IfOk result (λ cores. IsPermutation (seen_by at managers) (seen_by see (cores_in cores)))
+    → IfOk result (λ cores. IsListOf (all None) (λ key. all (lookup (eq_by_cmp manager_cmp key) managers))
+    (seen_by see (cores_in cores)))
+stands cores_in see at all managers (Err e) of_none distinct sorted moved = tt
+stands cores_in see at all managers (Ok cores) of_none distinct sorted moved =
+    let in_order = subst (IsStrictlySortedBy manager_cmp) (sym (keys_of-map_values see (cores_in cores))) sorted in
     let apart = subst (IsDistinct (eq_by_cmp manager_cmp)) (sym
-    (keys_of-map_values (λ (origin : Origin). origin.core) origins)) distinct in
-    let apart2 = IsDistinct-from_sorted manager_cmp (keys_of (cores_in cores)) sorted in
+    (keys_of-map_values at managers)) distinct in
+    let apart2 = IsDistinct-from_sorted manager_cmp (keys_of (seen_by see (cores_in cores))) in_order in
     record {
-      in_order = sorted;
-      each = fun_ext (λ key. ap (λ realm. (realm key).core) realm
-          ∙ core_of entries (lookup (eq_by_cmp manager_cmp key) origins)
-          ∙ ap (or_unused entries) (sym (lookup-map_values (λ origin. origin.core) (eq_by_cmp manager_cmp key) origins)
-          ∙ same_lookup (cores_of origins) (cores_in cores) moved apart apart2 key));
+      in_order = in_order;
+      each = fun_ext (λ key. of_none (lookup (eq_by_cmp manager_cmp key) managers)
+          ∙ ap (λ found. unwrap_or found (all None)) (sym (lookup-map_values at (eq_by_cmp manager_cmp key) managers)
+          ∙ same_lookup (seen_by at managers) (seen_by see (cores_in cores)) moved apart apart2 key));
     }
+
+pub origins_listed : (o : Option Manager)
+    → (origin_in o).state ≡ unwrap_or (option_map (λ m. m.origin.state) o) unused.state
+origins_listed None = refl
+origins_listed (Some m) = refl
+
+pub entries_listed : (start : Option ℕ) (o : Option Manager)
+    → entries_in start o ≡ unwrap_or (option_map (λ m. m.entries) o) start
+entries_listed start None = refl
+entries_listed start (Some m) = refl

@@ -1,5 +1,5 @@
 -- What an operation gives, from what the machine gave.
-use Rattle.std.proofs.Common.{◌≡◌, refl, ap, ap₂, sym, subst, ◌∙◌, Option, Some, None, List, [], ℕ, false}
+use Rattle.std.proofs.Common.{◌≡◌, refl, ap, sym, subst, ◌∙◌, Option, Some, None, List, [], ℕ}
 use Rattle.wl_types.specs.Refusals.{refused_or_memory}
 use Rattle.wl_types.specs.declared.refusal.Refusal.{Refusal}
 use Rattle.wl_types.specs.declared.refusal.Refusal.TheVariants.{Memory}
@@ -7,7 +7,6 @@ use Rattle.wl_types.specs.declared.words.Kind.{Kind}
 use Rattle.wl_types.specs.declared.phases.Change.{Change}
 use Rattle.wl_machine.specs.State.{State}
 use Rattle.wl_machine.specs.Step as machine
-use Rattle.wl_machine.specs.Recorded.{is_recorded, with_entry}
 use Rattle.wl_machine.specs.Refusals.{refusal}
 use Rattle.wl_machine.specs.declared.command.Command.{Command}
 use Rattle.wl_machine.specs.declared.command.Command.TheVariants as command
@@ -19,42 +18,29 @@ use Rattle.wl_codec.specs.declared.reply.Outcome.{Outcome}
 use Rattle.wl_codec.specs.declared.reply.Outcome.TheVariants as outcome
 use Rattle.wl_world.specs.declared.requests.Request.{Request}
 use Rattle.wl_world.specs.Requests.{with_changes, after_answer}
-use Rattle.wl_world.specs.Origins.{Acted, Core, Origin, act, admitted, stepped, noting, outcome_of}
-use Rattle.wl_world.specs.inner.Views.{IsRefused, Operates, AnswersRefusal, core, act_result, act_result_of, origin}
-use Rattle.std.specs.Prelude.{Result, Ok, Err, IfOk, IsErrAnd, ◌+◌, if◌then◌else◌}
+use Rattle.wl_world.specs.Origins.{Acted, Origin, act, admitted, stepped, noting, outcome_of}
+use Rattle.wl_world.specs.inner.Views.{IsRefused, Operates, AnswersRefusal, act_result, act_result_of, origin}
+use Rattle.std.specs.Prelude.{Result, Ok, Err, IfOk, IsErrAnd}
 use Rattle.wl_types.specs.declared.infos.Snapshot.{Snapshot}
 use Rattle.wl_types.specs.declared.memory.Memory as memory
 
--- what is not recorded leaves the number of entries
-pub unrecorded : (answer : Reply) (entries : Option ℕ) → is_recorded answer ≡ false
-    → with_entry answer entries ≡ entries
-unrecorded answer None quiet = refl
-unrecorded answer (Some count) quiet = ap (λ recorded. Some (if recorded then count + 1 else count)) quiet
-
 -- what was accepted, where the outcome is that of the machine's reply
-pub accepted : (old : State) (before : Option ℕ) (agent : ℕ) (b : Body) (c : Command) (new : State) (entries : Option ℕ)
-    (answer : Reply) (changes : List Change)
-    → machine.Gives old c new answer changes → entries ≡ with_entry answer before → (requests : List Request)
-    → act_result (core new entries) (with_changes changes (after_answer agent (outcome_of b answer) requests))
-    (outcome_of b answer) ≡ stepped (origin (core old before) requests) agent b c
-accepted old before agent b c new entries answer changes gives recorded requests =
-    ap (λ e. act_result (core new e) (with_changes changes (after_answer agent (outcome_of b answer) requests))
-    (outcome_of b answer)) recorded
-    ∙ unfold stepped in ap (noting (origin (core old before) requests) agent b) (sym gives)
+pub accepted : (old : State) (agent : ℕ) (b : Body) (c : Command) (new : State) (answer : Reply) (changes : List Change)
+    → machine.Gives old c new answer changes → (requests : List Request)
+    → act_result new (with_changes changes (after_answer agent (outcome_of b answer) requests))
+    (outcome_of b answer) ≡ stepped (origin old requests) agent b c
+accepted old agent b c new answer changes gives requests = unfold stepped in ap (noting (origin old requests) agent b)
+    (sym gives)
 
 -- what was refused
-pub refused : (old : State) (before : Option ℕ) (agent : ℕ) (b : Body) (c : Command) (new : State) (entries : Option ℕ)
-    (r : Refusal)
-    → r ≡ refused_or_memory (refusal old c) → new ≡ old → entries ≡ before
-    → IsRefused (λ requests. stepped (origin (core old before) requests) agent b c) (core old before) (core new entries)
-    r
-refused old before agent b c new entries r first same kept = record {
-  same = ap₂ core same kept;
-  done = λ not_memory requests. unfold stepped in ap (λ s. act_result (core s entries) requests (outcome.Refused r))
+pub refused : (old : State) (agent : ℕ) (b : Body) (c : Command) (new : State) (r : Refusal)
+    → r ≡ refused_or_memory (refusal old c) → new ≡ old
+    → IsRefused (λ requests. stepped (origin old requests) agent b c) old new r
+refused old agent b c new r first same = record {
+  same = same;
+  done = λ not_memory requests. unfold stepped in ap (λ s. act_result s requests (outcome.Refused r))
       same
-      ∙ ap (λ e. act_result (core old e) requests (outcome.Refused r))
-      (kept ∙ sym (unrecorded (reply.Refused r) before refl))
-      ∙ ap (noting (origin (core old before) requests) agent b) (sym (by_refusal not_memory (refusal old c) first));
+      ∙ ap (noting (origin old requests) agent b) (sym (by_refusal not_memory (refusal old c) first));
 }
   where
     by_refusal : (r ≡ Memory → ⊥) → (found : Option Refusal) → r ≡ refused_or_memory found
@@ -63,7 +49,7 @@ refused old before agent b c new entries r first same kept = record {
     by_refusal not_memory None e = absurd (not_memory e)
 
 -- a refusal that is handed on
-pub handed_on : (old new : Core) (agent : ℕ) (b : Body) (changes : List Change) (result : Result Outcome Refusal)
+pub handed_on : (old new : State) (agent : ℕ) (b : Body) (changes : List Change) (result : Result Outcome Refusal)
     (r : Refusal)
     → IsErrAnd result (λ e. e ≡ r) → IsRefused (λ requests. act (origin old requests) agent b) old new r
     → Operates old agent b new changes result
@@ -72,7 +58,7 @@ handed_on old new agent b changes (Err e) r is refusal = subst
     (IsRefused (λ requests. act (origin old requests) agent b) old new) (sym is) refusal
 
 -- the outcome of what was refused
-pub refusal_is : (acts : List Request → Acted) (old new : Core) (r : Refusal) (result : Result Outcome memory.Memory)
+pub refusal_is : (acts : List Request → Acted) (old new : State) (r : Refusal) (result : Result Outcome memory.Memory)
     (requests : List Request)
     → IsRefused acts old new r → AnswersRefusal r result → IfOk result (λ o. act_result new requests o ≡ acts requests)
 refusal_is acts old new r (Err e) requests refusal told = tt
@@ -83,7 +69,7 @@ pub or_memory : (found : Option Refusal) (r : Refusal) → found ≡ Some r → 
 or_memory found r e = sym (ap refused_or_memory e)
 
 -- the outcome of what was done, with the requests that its changes found
-pub done_is : (acts : List Request → Acted) (new : Core) (changes : List Change) (agent : ℕ) (o : Outcome)
+pub done_is : (acts : List Request → Acted) (new : State) (changes : List Change) (agent : ℕ) (o : Outcome)
     (was requests : List Request)
     → ((requests : List Request) → act_result new (with_changes changes (after_answer agent o requests)) o
     ≡ acts requests) → requests ≡ with_changes changes (after_answer agent o was)
@@ -91,25 +77,22 @@ pub done_is : (acts : List Request → Acted) (new : Core) (changes : List Chang
 done_is acts new changes agent o was requests done is = ap (λ requests. act_result new requests o) is ∙ done was
 
 -- a query changes nothing
-pub queried : (old : State) (before : Option ℕ) (agent : ℕ) (seen : Snapshot)
+pub queried : (old : State) (agent : ℕ) (seen : Snapshot)
     → machine.Gives old (command.Query agent) old (reply.Seen seen) [] → (requests : List Request)
-    → act_result (core old before) requests (outcome.Seen seen)
-    ≡ stepped (origin (core old before) requests) agent body.Query (command.Query agent)
-queried old before agent seen gives = accepted old before agent body.Query (command.Query agent) old before
-    (reply.Seen seen) [] gives (sym (unrecorded (reply.Seen seen) before refl))
+    → act_result old requests (outcome.Seen seen)
+    ≡ stepped (origin old requests) agent body.Query (command.Query agent)
+queried old agent seen gives = accepted old agent body.Query (command.Query agent) old (reply.Seen seen) [] gives
 
 -- an agent that enters changes no request
-pub label_of : (old : State) (before : Option ℕ) (kind : Kind) (new : State) (entries : Option ℕ) (agent : ℕ)
+pub label_of : (old : State) (kind : Kind) (new : State) (agent : ℕ)
     (changes : List Change)
-    → machine.Gives old (command.Enter kind) new (reply.Agent agent) changes
-    → entries ≡ with_entry (reply.Agent agent) before → (requests : List Request)
-    → act_result (core new entries) requests (outcome.Client (Some agent))
-    ≡ admitted (origin (core old before) requests) kind
-label_of old before kind new entries agent changes gives recorded requests =
-    ap (λ changes. act_result (core new entries) (with_changes changes requests) (outcome.Client (Some agent)))
+    → machine.Gives old (command.Enter kind) new (reply.Agent agent) changes → (requests : List Request)
+    → act_result new requests (outcome.Client (Some agent))
+    ≡ admitted (origin old requests) kind
+label_of old kind new agent changes gives requests =
+    ap (λ changes. act_result new (with_changes changes requests) (outcome.Client (Some agent)))
     (sym (by_refusal (refusal old (command.Enter kind))) ∙ ap (λ (o : machine.StepResult). o.changes) gives)
-    ∙ accepted old before 0 (body.Enter [] kind []) (command.Enter kind) new entries (reply.Agent agent) changes gives
-    recorded requests
+    ∙ accepted old 0 (body.Enter [] kind []) (command.Enter kind) new (reply.Agent agent) changes gives requests
   where
     by_refusal : (found : Option Refusal) → (machine.unless_refused found old (command.Enter kind)).changes ≡ []
     by_refusal (Some r) = refl

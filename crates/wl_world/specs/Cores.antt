@@ -1,29 +1,21 @@
--- The cores of a world, as a list (own).
-use Rattle.std.specs.Prelude.{◌≡◌, ℕ, List, map, Option, Some, None}
+-- What stands at each key, as a list (own).
+use Rattle.std.specs.Prelude.{◌≡◌, List, map}
 use Rattle.std.specs.List.Sorted.{IsStrictlySortedBy}
 use Rattle.std.specs.Map.{keys_of, lookup}
+use Rattle.std.specs.Option.{unwrap_or}
 use Rattle.std.specs.Ordering.{is_eq}
 use Rattle.wl_origin.specs.Manager.{manager_cmp}
 use Rattle.wl_origin.specs.declared.manager_key.ManagerKey.{ManagerKey}
-use Rattle.wl_machine.specs.State.{State}
-use Rattle.wl_world.specs.Origins.{Core, unused}
-use Rattle.wl_world.specs.World.{World}
 
--- the core that was found, or an unused one, which has so many entries
-abbrev pub or_unused : Option ℕ → Option Core → Core
-or_unused entries None = (unused entries).core
-or_unused entries (Some core) = core
+-- what is listed for a key, or what stands at those that are not listed
+abbrev pub listed_at : {X : Type 0} → X → List (ManagerKey × X) → ManagerKey → X
+listed_at others list = λ key. unwrap_or (lookup (λ other. is_eq (manager_cmp key other)) list) others
 
--- the core of a key
-abbrev pub core_at : Option ℕ → List (ManagerKey × Core) → ManagerKey → Core
-core_at entries cores = λ key. or_unused entries (lookup (λ other. is_eq (manager_cmp key other)) cores)
+-- What stands at each key is listed in the order of the keys, each once; `others` stands at those that are not listed.
+pub record IsListOf {X : Type 0} (others : X) (at : ManagerKey → X) (list : List (ManagerKey × X)) : Type 0 where
+  pub in_order : IsStrictlySortedBy manager_cmp (keys_of list)
+  pub each : at ≡ listed_at others list
 
--- The cores are listed in the order of their keys, each once. Those that are not listed are unused.
-pub record AreCoresOf (entries : Option ℕ) (world : World) (cores : List (ManagerKey × Core)) : Type 0 where
-  pub in_order : IsStrictlySortedBy manager_cmp (keys_of cores)
-  pub each : (λ key. (world.realm key).core) ≡ core_at entries cores
-
--- what is seen of the listed cores
-abbrev pub core_list : {C : Type 0} → (C → State) → (C → Option ℕ) → List (ManagerKey × C) → List (ManagerKey × Core)
-core_list state entries cores = map (λ entry. (entry.0, record { state = state entry.1; entries = entries entry.1 }))
-    cores
+-- what is seen of each that is listed
+abbrev pub seen_by : {C X : Type 0} → (C → X) → List (ManagerKey × C) → List (ManagerKey × X)
+seen_by see list = map (λ entry. (entry.0, see entry.1)) list

@@ -3,8 +3,11 @@ pub mod Origins
 pub mod Agents
 pub mod Labels
 pub mod World
+pub mod Managers
+pub mod Journals
 pub mod Realms
 pub mod Worlds
 pub mod Cores
 pub mod Isolation
+pub mod Entries
 pub mod inner

@@ -1,6 +1,6 @@
 -- The manager of one bucket of an origin, and what an agent's operation makes of it (own; the operations are Web
 -- Locks').
-use Rattle.std.specs.Prelude.{ℕ, List, [], Option, Some, if◌then◌else◌, Bool, true, false}
+use Rattle.std.specs.Prelude.{ℕ, List, [], Option, Some, None, if◌then◌else◌, Bool, true, false}
 use Rattle.std.specs.List.{fold}
 use Rattle.wl_types.specs.declared.phases.Numbers.{Numbers}
 use Rattle.wl_types.specs.declared.words.Kind.{Kind}
@@ -8,7 +8,6 @@ use Rattle.wl_types.specs.declared.phases.Phase.{Phase}
 use Rattle.wl_types.specs.declared.phases.Phase.TheVariants.{Pending, Granted, Taken, Unavailable, Aborted, Released}
 use Rattle.wl_types.specs.declared.phases.Phase.TheVariants.{Stolen}
 use Rattle.wl_machine.specs.State.{State, opening}
-use Rattle.wl_machine.specs.Recorded.{with_entry}
 use Rattle.wl_machine.specs.Step as machine
 use Rattle.wl_machine.specs.declared.command.Command.{Command}
 use Rattle.wl_machine.specs.declared.command.Command.TheVariants as command
@@ -22,21 +21,16 @@ use Rattle.wl_session.specs.LastReported.{RequestPhase}
 use Rattle.wl_world.specs.declared.requests.Request.{Request}
 use Rattle.wl_world.specs.Requests.{with_changes, after_answer, after_collect}
 
--- what is seen of a core: the machine's state, and how many entries its journal has had, where it keeps one
-pub record Core : Type 0 where
-  pub state : State
-  pub entries : Option ℕ
-
--- a core, and the requests whose ends were not reported
+-- the machine's state, and the requests whose ends were not reported
 pub record Origin : Type 0 where
-  pub core : Core
+  pub state : State
   pub requests : List Request
 
 abbrev pub ones : Numbers
 ones = record { agent = 1; request = 1; signal = 1 }
 
-abbrev pub unused : Option ℕ → Origin
-unused entries = record { core = record { state = opening ones; entries = entries }; requests = [] }
+abbrev pub unused : Origin
+unused = record { state = opening ones; requests = [] }
 
 -- an origin after an operation, and what the operation answers
 pub record Acted : Type 0 where
@@ -60,15 +54,11 @@ outcome_of b reply.Done = done b
 outcome_of b (reply.Seen snapshot) = outcome.Seen snapshot
 outcome_of b (reply.Refused refusal) = outcome.Refused refusal
 
--- a core after what the machine gave
-abbrev pub after : Core → machine.StepResult → Core
-after core gives = record { state = gives.state; entries = with_entry gives.reply core.entries }
-
 -- what the machine gave is noted
 abbrev pub noting : Origin → ℕ → Body → machine.StepResult → Acted
 noting o agent b gives = record {
   origin = record {
-    core = after o.core gives;
+    state = gives.state;
     requests = with_changes gives.changes
         (after_answer agent (outcome_of b gives.reply) o.requests);
   };
@@ -77,24 +67,38 @@ noting o agent b gives = record {
 
 -- the machine's step
 unfoldable pub stepped : Origin → ℕ → Body → Command → Acted
-stepped o agent b c = noting o agent b (machine.step o.core.state c)
+stepped o agent b c = noting o agent b (machine.step o.state c)
 
 -- A new agent. The machine numbers it, so 0 stands in for its number, and sees nothing of what it opened, so empty
 -- texts stand in for that.
 abbrev pub admitted : Origin → Kind → Acted
 admitted o kind = stepped o 0 (body.Enter [] kind []) (command.Enter kind)
 
--- what an agent's operation makes of its origin; `poll` has no step
+-- the command of an agent's operation; of an open agent's `enter`, and of `poll`, there is none
+abbrev pub command_of : ℕ → Body → Option Command
+command_of agent (body.Enter url kind bucket) = None
+command_of agent body.Signal = Some (command.NewSignal agent)
+command_of agent (body.Request ask) = Some (command.Request agent ask)
+command_of agent (body.Release number) = Some (command.Release agent number)
+command_of agent (body.Abort number reason) = Some (command.Abort agent number reason)
+command_of agent (body.Active active) = Some (command.SetActive agent active)
+command_of agent body.Query = Some (command.Query agent)
+command_of agent body.Poll = None
+command_of agent body.Close = Some (command.Terminate agent)
+
+-- what is answered where there is no command
+abbrev pub answer_of : Body → Outcome
+answer_of body.Poll = outcome.Polled
+answer_of _ = outcome.AlreadyOpen
+
+-- what a command makes of an origin, if there is one
+abbrev pub act_by : Option Command → Origin → ℕ → Body → Acted
+act_by None o agent b = record { origin = o; outcome = answer_of b }
+act_by (Some c) o agent b = stepped o agent b c
+
+-- what an agent's operation makes of its origin
 abbrev pub act : Origin → ℕ → Body → Acted
-act o agent (body.Enter url kind bucket) = record { origin = o; outcome = outcome.AlreadyOpen }
-act o agent body.Signal = stepped o agent body.Signal (command.NewSignal agent)
-act o agent (body.Request ask) = stepped o agent (body.Request ask) (command.Request agent ask)
-act o agent (body.Release number) = stepped o agent (body.Release number) (command.Release agent number)
-act o agent (body.Abort number reason) = stepped o agent (body.Abort number reason) (command.Abort agent number reason)
-act o agent (body.Active active) = stepped o agent (body.Active active) (command.SetActive agent active)
-act o agent body.Query = stepped o agent body.Query (command.Query agent)
-act o agent body.Poll = record { origin = o; outcome = outcome.Polled }
-act o agent body.Close = stepped o agent body.Close (command.Terminate agent)
+act o agent b = act_by (command_of agent b) o agent b
 
 abbrev pub is_granted : Phase → Bool
 is_granted Pending = false
@@ -106,9 +110,9 @@ is_granted Released = false
 is_granted Stolen = false
 
 -- a lock that is granted is taken, as its agent is told of it now
-abbrev pub take_observed : Core → RequestPhase → Core
-take_observed core observation = if is_granted observation.1
-    then after core (machine.step core.state (command.Take observation.0)) else core
+abbrev pub take_observed : State → RequestPhase → State
+take_observed s observation =
+    if is_granted observation.1 then (machine.step s (command.Take observation.0)).state else s
 
 abbrev pub as_taken : RequestPhase → RequestPhase
 as_taken observation = (observation.0, (if is_granted observation.1 then Taken else observation.1))
@@ -116,6 +120,6 @@ as_taken observation = (observation.0, (if is_granted observation.1 then Taken e
 -- The agent's changed requests are collected: each granted lock among them is taken, in order of number.
 unfoldable pub origin_after_collect : ℕ → List RequestPhase → Origin → Origin
 origin_after_collect agent changed o = record {
-  core = fold take_observed o.core changed;
+  state = fold take_observed o.state changed;
   requests = after_collect agent o.requests;
 }

@@ -1,12 +1,12 @@
 //! The cores of all managers, in the end.
 
-ghost use Rattle.std.specs.Prelude.{◌≡◌, IfOk, OnOk, map};
+ghost use Rattle.std.specs.Prelude.{◌≡◌, IfOk, OnOk};
 ghost use Rattle.std.specs.List.{IsDistinct};
 ghost use Rattle.std.specs.List.Sorted.{IsPermutation, IsSortedByKey, IsStrictlySortedBy};
 ghost use Rattle.std.specs.Map.{keys_of};
 ghost use Rattle.std.specs.Ordering.{eq_by_cmp};
 ghost use Rattle.wl_origin.specs.Manager.{manager_cmp};
-ghost use Rattle.wl_world.specs.Cores.{core_list};
+ghost use Rattle.wl_world.specs.Cores.{seen_by};
 
 use crate::origin::Origin;
 use std::alloc::Global;
@@ -21,8 +21,10 @@ fn list_cores<C: LockCore>(
     realm: HashMap<ManagerKey, Origin<C>>,
 ) -> Result<Vec<(ManagerKey, C)>, Memory>
     ensures distinct { OnOk result (IsDistinct (eq_by_cmp manager_cmp) (keys_of realm.entries)) }
-    ensures cores { IfOk result (λ cores. core_list C.state C.entries cores.items
-        ≡ map (λ entry. (entry.0, entry.1.core)) realm.entries) }
+    ensures states { IfOk result (λ cores.
+        seen_by C.state cores.items ≡ seen_by (λ m. m.origin.state) realm.entries) }
+    ensures entries { IfOk result (λ cores.
+        seen_by C.entries cores.items ≡ seen_by (λ m. m.entries) realm.entries) }
 {
     let mut cores = Vec::with_capacity(alloc, realm.len())?;
     for (key, origin) in realm {
@@ -45,10 +47,11 @@ pub(crate) fn take_cores<C: LockCore>(
     realm: HashMap<ManagerKey, Origin<C>>,
 ) -> Result<Vec<(ManagerKey, C)>, Memory>
     ensures distinct { OnOk result (IsDistinct (eq_by_cmp manager_cmp) (keys_of realm.entries)) }
-    ensures in_order { IfOk result (λ cores. IsStrictlySortedBy manager_cmp
-        (keys_of (core_list C.state C.entries cores.items))) }
-    ensures cores { IfOk result (λ cores. IsPermutation (map (λ entry. (entry.0, entry.1.core)) realm.entries)
-        (core_list C.state C.entries cores.items)) }
+    ensures in_order { IfOk result (λ cores. IsStrictlySortedBy manager_cmp (keys_of cores.items)) }
+    ensures states { IfOk result (λ cores.
+        IsPermutation (seen_by (λ m. m.origin.state) realm.entries) (seen_by C.state cores.items)) }
+    ensures entries { IfOk result (λ cores.
+        IsPermutation (seen_by (λ m. m.entries) realm.entries) (seen_by C.entries cores.items)) }
 {
     let mut cores = list_cores(alloc, realm)?;
     sort_cores(&mut cores);

@@ -1,9 +1,13 @@
 //! What answers the lines of a script.
 
 ghost use Rattle.std.specs.Prelude.{◌≡◌, IfOk, OnOk, string_bytes};
-ghost use Rattle.wl_world.specs.Cores.{AreCoresOf, core_list};
-ghost use Rattle.wl_world.specs.World.{next, opening_with, reply};
-ghost use Rattle.wl_world.specs.Worlds.{world_of};
+ghost use Rattle.wl_codec.specs.Reading.{line_reading};
+ghost use Rattle.wl_world.specs.Cores.{IsListOf, seen_by};
+ghost use Rattle.wl_world.specs.Entries.{line_entries};
+ghost use Rattle.wl_world.specs.Journals.{Grow};
+ghost use Rattle.wl_world.specs.Origins.{unused};
+ghost use Rattle.wl_world.specs.World.{next, opening, reply};
+ghost use Rattle.wl_world.specs.Worlds.{journals_in, world_of};
 
 use crate::answer::plain_text;
 use crate::cores::take_cores;
@@ -32,7 +36,8 @@ pub struct Engine<C: LockCore> {
 impl<S: Copy + Drop, C: LockCore<Seed = S>> Engine<C> {
     /// A world in which nobody has opened. Each core in it is made with this seed.
     pub fn new(alloc: Global, seed: S) -> Engine<C>
-        ensures { world_of C.no_entries result ≡ opening_with C.no_entries }
+        ensures world { world_of result ≡ opening }
+        ensures entries { journals_in C.no_entries result ≡ λ key. C.no_entries }
     {
         Engine {
             supplies: Supplies { alloc, seed },
@@ -46,8 +51,10 @@ impl<S: Copy + Drop, C: LockCore<Seed = S>> Engine<C> {
     /// promises nothing more.
     #[tactic(auto, unfolding(crate::specs::World::answered, crate::specs::World::next, crate::specs::World::reply))]
     pub fn answer(&mut self, line: &[u8]) -> Result<String, Memory>
-        ensures reply { IfOk result (λ text. string_bytes text ≡ reply (world_of C.no_entries self.old) line.now) }
-        ensures next { OnOk result (world_of C.no_entries self.new ≡ next (world_of C.no_entries self.old) line.now) }
+        ensures reply { IfOk result (λ text. string_bytes text ≡ reply (world_of self.old) line.now) }
+        ensures next { OnOk result (world_of self.new ≡ next (world_of self.old) line.now) }
+        ensures entries { OnOk result (Grow (journals_in C.no_entries self.old)
+            (λ key. line_entries key (world_of self.old) (line_reading line.now)) (journals_in C.no_entries self.new)) }
     {
         let alloc = self.supplies.alloc;
         match read_line_with(alloc, line, &mut self.scratch)? {
@@ -68,8 +75,10 @@ impl<S: Copy + Drop, C: LockCore<Seed = S>> Engine<C> {
 
     /// The cores of the managers in which agents opened, in the order of their keys.
     pub fn into_cores(self) -> Result<Vec<(ManagerKey, C)>, Memory>
-        ensures { IfOk result (λ cores. AreCoresOf C.no_entries (world_of C.no_entries self)
-            (core_list C.state C.entries cores.items)) }
+        ensures states { IfOk result (λ cores.
+            IsListOf unused.state (λ key. ((world_of self).realm key).state) (seen_by C.state cores.items)) }
+        ensures entries { IfOk result (λ cores.
+            IsListOf C.no_entries (journals_in C.no_entries self) (seen_by C.entries cores.items)) }
     {
         take_cores(self.supplies.alloc, self.realm)
     }

@@ -2,8 +2,10 @@
 
 ghost use Rattle.std.specs.Prelude.{◌≡◌, IfOk, OnOk, string_bytes, Some, None};
 ghost use Rattle.wl_codec.specs.Replies.{reply_text};
+ghost use Rattle.wl_world.specs.Entries.{entries_at};
+ghost use Rattle.wl_world.specs.Journals.{Grow};
 ghost use Rattle.wl_world.specs.Labels.{label_of, from_unopened, plain};
-ghost use Rattle.wl_world.specs.Realms.{realm_of};
+ghost use Rattle.wl_world.specs.Realms.{realm_of, journals_of};
 
 use crate::answer::plain_text;
 use crate::label::Label;
@@ -57,11 +59,13 @@ pub(crate) fn open_label<S: Copy + Drop, C: LockCore<Seed = S>>(
     body: Body,
 ) -> Result<Opening, Memory>
     ensures text { IfOk result (λ opening. string_bytes opening.text
-        ≡ reply_text (from_unopened (realm_of C.no_entries realm.old) id body).reply) }
+        ≡ reply_text (from_unopened (realm_of realm.old) id body).reply) }
     ensures label { IfOk result (λ opening. opening.label
-        ≡ (from_unopened (realm_of C.no_entries realm.old) id body).label) }
-    ensures realm { OnOk result (realm_of C.no_entries realm.new
-        ≡ (from_unopened (realm_of C.no_entries realm.old) id body).realm) }
+        ≡ (from_unopened (realm_of realm.old) id body).label) }
+    ensures realm { OnOk result (realm_of realm.new
+        ≡ (from_unopened (realm_of realm.old) id body).realm) }
+    ensures entries { OnOk result (Grow (journals_of C.no_entries realm.old)
+        (λ k. entries_at k (realm_of realm.old) None body) (journals_of C.no_entries realm.new)) }
 {
     let Body::Enter { url, kind, bucket } = body else {
         return refuse(supplies.alloc, id, Outcome::NotOpen);

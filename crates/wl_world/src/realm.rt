@@ -1,14 +1,19 @@
 //! The managers of all buckets of all origins.
 
-ghost use Rattle.std.specs.Prelude.{◌≡◌, IfOk, OnOk, Some, string_bytes};
+ghost use Rattle.std.specs.Prelude.{◌≡◌, if◌then◌else◌, IfOk, OnOk, Some, string_bytes};
 ghost use Rattle.std.specs.HashMap.{get};
 ghost use Rattle.std.specs.Ordering.{eq_by_cmp};
 ghost use Rattle.wl_codec.specs.Replies.{reply_text};
+ghost use Rattle.wl_machine.specs.declared.command.Command.TheVariants as command;
 ghost use Rattle.wl_origin.specs.Manager.{manager_cmp};
 ghost use Rattle.wl_world.specs.Agents.{serve_result};
+ghost use Rattle.wl_world.specs.declared.label.Label.TheVariants.{Agent};
+ghost use Rattle.wl_world.specs.Entries.{command_entries, entries_at};
+ghost use Rattle.wl_world.specs.Isolation.{is_key};
+ghost use Rattle.wl_world.specs.Journals.{Grow};
 ghost use Rattle.wl_world.specs.Labels.{closes, with_origin};
 ghost use Rattle.wl_world.specs.Origins.{admitted};
-ghost use Rattle.wl_world.specs.Realms.{realm_of};
+ghost use Rattle.wl_world.specs.Realms.{realm_of, journals_of};
 
 use crate::answer::{Answer, closes};
 use crate::origin::Origin;
@@ -28,8 +33,9 @@ fn seat<S: Copy + Drop, C: LockCore<Seed = S>>(
     key: &ManagerKey,
 ) -> Result<(), Memory>
     ensures there { OnOk result (get (eq_by_cmp manager_cmp) realm.new key.now
-        ≡ Some (realm_of C.no_entries realm.old key.now)) }
-    ensures same { OnOk result (realm_of C.no_entries realm.new ≡ realm_of C.no_entries realm.old) }
+        ≡ Some (record { origin = realm_of realm.old key.now; entries = journals_of C.no_entries realm.old key.now })) }
+    ensures same { OnOk result (realm_of realm.new ≡ realm_of realm.old) }
+    ensures journals { OnOk result (journals_of C.no_entries realm.new ≡ journals_of C.no_entries realm.old) }
 {
     if realm.contains_key(key) {
         return Ok(());
@@ -51,13 +57,16 @@ pub(crate) fn serve_at<S: Copy + Drop, C: LockCore<Seed = S>>(
     body: &Body,
 ) -> Result<Answer, Memory>
     ensures text { IfOk result (λ answer. string_bytes answer.text
-        ≡ reply_text (serve_result (realm_of C.no_entries realm.old key.now) agent session.old id body.now).reply) }
+        ≡ reply_text (serve_result (realm_of realm.old key.now) agent session.old id body.now).reply) }
     ensures closed { IfOk result (λ answer. answer.closed
-        ≡ closes (serve_result (realm_of C.no_entries realm.old key.now) agent session.old id body.now).outcome) }
-    ensures realm { OnOk result (realm_of C.no_entries realm.new ≡ with_origin (realm_of C.no_entries realm.old) key.now
-        (serve_result (realm_of C.no_entries realm.old key.now) agent session.old id body.now).origin) }
+        ≡ closes (serve_result (realm_of realm.old key.now) agent session.old id body.now).outcome) }
+    ensures realm { OnOk result (realm_of realm.new ≡ with_origin (realm_of realm.old) key.now
+        (serve_result (realm_of realm.old key.now) agent session.old id body.now).origin) }
     ensures session { OnOk result (session.new
-        ≡ (serve_result (realm_of C.no_entries realm.old key.now) agent session.old id body.now).session) }
+        ≡ (serve_result (realm_of realm.old key.now) agent session.old id body.now).session) }
+    ensures entries { OnOk result (Grow (journals_of C.no_entries realm.old)
+        (λ k. entries_at k (realm_of realm.old) (Some (Agent key.now agent session.old)) body.now)
+        (journals_of C.no_entries realm.new)) }
 {
     seat(supplies, realm, key)?;
     let Some(origin) = realm.get_mut(key) else {
@@ -81,10 +90,13 @@ pub(crate) fn open_agent_at<S: Copy + Drop, C: LockCore<Seed = S>>(
     key: &ManagerKey,
     kind: Kind,
 ) -> Result<Outcome, Memory>
-    ensures outcome { IfOk result (λ outcome. outcome ≡ (admitted (realm_of C.no_entries realm.old key.now)
+    ensures outcome { IfOk result (λ outcome. outcome ≡ (admitted (realm_of realm.old key.now)
         kind).outcome) }
-    ensures realm { OnOk result (realm_of C.no_entries realm.new ≡ with_origin (realm_of C.no_entries realm.old) key.now
-        (admitted (realm_of C.no_entries realm.old key.now) kind).origin) }
+    ensures realm { OnOk result (realm_of realm.new ≡ with_origin (realm_of realm.old) key.now
+        (admitted (realm_of realm.old key.now) kind).origin) }
+    ensures entries { OnOk result (Grow (journals_of C.no_entries realm.old)
+        (λ k. if is_key k key.now then command_entries (realm_of realm.old k).state (Some (command.Enter kind)) else 0)
+        (journals_of C.no_entries realm.new)) }
 {
     seat(supplies, realm, key)?;
     match realm.get_mut(key) {

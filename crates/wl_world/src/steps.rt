@@ -2,10 +2,11 @@
 
 ghost use Rattle.std.specs.Prelude.{◌≡◌, List, [], IfOk, OnErr, OnOk};
 ghost use Rattle.wl_world.specs.declared.requests.Request.{Request};
+ghost use Rattle.wl_world.specs.Origins.{command_of};
 ghost use Rattle.wl_world.specs.Requests.{with_changes, after_answer};
 ghost use Rattle.wl_world.specs.inner.Requests.{IsRising};
 ghost use Rattle.wl_world.specs.inner.AgentIndex.{IsNewest};
-ghost use Rattle.wl_world.specs.inner.Views.{core as seen, fresh, Operates, AnswersRefusal};
+ghost use Rattle.wl_world.specs.inner.Views.{fresh, Operates, Records, AnswersRefusal};
 
 use crate::requests::Requests;
 use wl_codec::{Body, Outcome};
@@ -18,8 +19,9 @@ pub(crate) fn operate<C: LockCore>(
     agent: u64,
     body: &Body,
 ) -> Result<Outcome, Refusal>
-    ensures done { Operates (seen (C.state core.old) (C.entries core.old)) agent body.now
-        (seen (C.state core.new) (C.entries core.new)) (C.recent core.new) result }
+    ensures done { Operates (C.state core.old) agent body.now (C.state core.new) (C.recent core.new) result }
+    ensures entries { Records (C.state core.old) (command_of agent body.now)
+        (C.entries core.old) (C.entries core.new) result }
     ensures newest { IfOk result (λ outcome. (requests : List Request)
         → IsRising 0 (C.state core.old).next.request requests → IsNewest outcome requests) }
 {

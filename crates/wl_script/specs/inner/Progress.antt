@@ -1,8 +1,11 @@
 -- How far a run has come: what the parts of the driver say to each other (own).
 use Rattle.std.specs.Prelude.{ℕ, List, ◌∷◌, ◌++◌, ◌≡◌, ◌<◌, ◌≤◌, ◌+◌, length, Option, All}
 use Rattle.std.specs.Io.KnownBytes.{Appends, Keeps}
+use Rattle.wl_origin.specs.declared.manager_key.ManagerKey.{ManagerKey}
+use Rattle.wl_world.specs.Entries.{script_entries}
+use Rattle.wl_world.specs.Journals.{Journals, with_more}
 use Rattle.wl_world.specs.World.{World}
-use Rattle.wl_script.specs.Lines.{HasNoLf, with_lfs}
+use Rattle.wl_script.specs.Lines.{HasNoLf, lines, with_lfs}
 use Rattle.wl_script.specs.Transcript.{after, reply_line}
 use Rattle.wl_script.specs.Leaves.{Answered}
 use Rattle.wl_script.specs.declared.fault.ScriptFault.{ScriptFault}
@@ -74,5 +77,15 @@ IsNotKept limit count line (TooManyTurns n) = ⊥
 
 -- the run ended at a last line without LF
 abbrev pub BreaksAtEnd : Moment → ScriptFault → Option (List ℕ) → Type 0
-BreaksAtEnd old fault new = (0 < length old.unfinished) × IsUnanswered old.count old.world old.unfinished old.held fault
-    new
+BreaksAtEnd old fault new = (0 < length old.unfinished)
+    × IsUnanswered old.count old.world old.unfinished old.held fault new
+
+-- how many entries the journals will have had when the lines of these bytes are answered
+abbrev pub entries_then : World → Journals → List ℕ → Journals
+entries_then world journals bytes = λ key. with_more (script_entries key world (lines bytes)) (journals key)
+
+-- Some of the bytes were taken, and the journals will have had as many entries, whatever bytes follow.
+pub record CountsOn (old : World) (before : Journals) (bytes : List ℕ) (new : World) (after : Journals) (left : List ℕ)
+    : Type 0 where
+  pub same : (key : ManagerKey) (rest : List ℕ)
+      → entries_then new after (left ++ rest) key ≡ entries_then old before (bytes ++ rest) key

@@ -1,7 +1,7 @@
 //! Readers, writers and an answerer in memory, which fail where they are told to.
 
 ghost use Rattle.std.specs.Prelude.{None, Some};
-ghost use Rattle.wl_world.specs.Worlds.{world_of};
+ghost use Rattle.wl_world.specs.Worlds.{journals_in, world_of};
 
 use std::alloc::{AllocError, Global};
 use wl_core::PlainCore;
@@ -152,7 +152,9 @@ pub struct Refusing {
 }
 
 impl Answerer for Refusing {
-    ghost world = { λ s. world_of None s.inner };
+    ghost world = { λ s. world_of s.inner };
+
+    ghost journals = { λ s. journals_in None s.inner };
 
     fn answer(&mut self, line: &[u8]) -> Result<String, Memory> {
         if self.left == 0 {

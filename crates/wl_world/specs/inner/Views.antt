@@ -9,18 +9,18 @@ use Rattle.wl_codec.specs.declared.message.Body.{Body}
 use Rattle.wl_codec.specs.declared.reply.Outcome.{Outcome}
 use Rattle.wl_codec.specs.declared.reply.Outcome.TheVariants as outcome
 use Rattle.wl_machine.specs.State.{State}
-use Rattle.wl_world.specs.Origins.{Core, Origin, Acted, act}
-use Rattle.wl_world.specs.Requests.{inbox, after_answer}
+use Rattle.wl_machine.specs.declared.command.Command.{Command}
+use Rattle.wl_world.specs.Origins.{Origin, Acted, act}
+use Rattle.wl_world.specs.Requests.{with_changes, after_answer}
+use Rattle.wl_world.specs.Journals.{with_more}
+use Rattle.wl_world.specs.Entries.{command_entries}
 
-abbrev pub core : State → Option ℕ → Core
-core state entries = record { state = state; entries = entries }
-
-abbrev pub origin : Core → List Request → Origin
-origin core requests = record { core = core; requests = requests }
+abbrev pub origin : State → List Request → Origin
+origin state requests = record { state = state; requests = requests }
 
 -- an origin of these parts, and an outcome
-abbrev pub act_result : Core → List Request → Outcome → Acted
-act_result core requests outcome = record { origin = origin core requests; outcome = outcome }
+abbrev pub act_result : State → List Request → Outcome → Acted
+act_result state requests outcome = record { origin = origin state requests; outcome = outcome }
 
 abbrev pub act_result_of : Origin → Outcome → Acted
 act_result_of o outcome = record { origin = o; outcome = outcome }
@@ -33,15 +33,21 @@ fresh outcome.AlreadyOpen changes = []
 fresh o changes = changes
 
 -- a refusal changes nothing, and is the outcome where it isn't for want of memory
-pub record IsRefused (acts : List Request → Acted) (old new : Core) (r : Refusal) : Type 0 where
+pub record IsRefused (acts : List Request → Acted) (old new : State) (r : Refusal) : Type 0 where
   pub same : new ≡ old
   pub done : (r ≡ Memory → ⊥) → (requests : List Request) → act_result new requests (outcome.Refused r) ≡ acts requests
 
 -- what a core's call for an operation is, whatever requests there are
-abbrev pub Operates : Core → ℕ → Body → Core → List Change → Result Outcome Refusal → Type 0
+abbrev pub Operates : State → ℕ → Body → State → List Change → Result Outcome Refusal → Type 0
 Operates old agent b new changes (Ok o) = (requests : List Request)
-    → act_result new (inbox (fresh o changes) (after_answer agent o requests)) o ≡ act (origin old requests) agent b
+    → act_result new (with_changes (fresh o changes) (after_answer agent o requests)) o
+    ≡ act (origin old requests) agent b
 Operates old agent b new changes (Err r) = IsRefused (λ requests. act (origin old requests) agent b) old new r
+
+-- a command has its entry, if any; one that was refused for want of memory has none
+abbrev pub Records : State → Option Command → Option ℕ → Option ℕ → Result Outcome Refusal → Type 0
+Records state c old new (Ok o) = new ≡ with_more (command_entries state c) old
+Records state c old new (Err r) = (r ≡ Memory → ⊥) → new ≡ with_more (command_entries state c) old
 
 -- a refusal other than for want of memory is the outcome
 pub record IsRefusalOf (r : Refusal) (o : Outcome) : Type 0 where

@@ -3,17 +3,18 @@ use Rattle.wl_script.proofs.auditing.audit.Goals as goal
 
 pub returns-clause-ok : goal.returns-clause-ok
 returns-clause-ok g c =
-    audit_ends (g.R.Input.rest c.args.reader.now) _ _ _ c.deref.result.now c.in_ok-lines.lines c.write_origins.result _
-    _
-    c.new-engine.ensures c.in_ok-lines.ensures.ok c.in_ok-lines.ensures.world c.in-Ok-into_cores.ensures
-    c.deref.ensures.value c.write_origins.ensures.ok
+    audit_ends (g.R.Input.rest c.args.reader.now) _ _ _ _ c.deref.result.now c.in_ok-lines.lines c.write_origins.result
+    _ _
+    c.new-engine.ensures.world c.new-engine.ensures.entries c.in_ok-lines.ensures.ok c.in_ok-lines.ensures.entries
+    c.in-Ok-into_cores.ensures.entries c.deref.ensures.value c.write_origins.ensures.ok
 
 pub returns-clause-err : goal.returns-clause-err
 returns-clause-err g c =
-    audit_breaks (g.R.Input.rest c.args.reader.now) _ _ _ c.deref.result.now c.in_ok-lines.lines c.write_origins.result
+    audit_breaks (g.R.Input.rest c.args.reader.now) _ _ _ _ c.deref.result.now c.in_ok-lines.lines
+    c.write_origins.result
     _ _
-    c.new-engine.ensures c.in_ok-lines.ensures.ok c.in_ok-lines.ensures.world c.in-Ok-into_cores.ensures
-    c.deref.ensures.value c.write_origins.ensures.err
+    c.new-engine.ensures.world c.new-engine.ensures.entries c.in_ok-lines.ensures.ok c.in_ok-lines.ensures.entries
+    c.in-Ok-into_cores.ensures.entries c.deref.ensures.value c.write_origins.ensures.err
 
 pub returns-clause-at_once : goal.returns-clause-at_once
 returns-clause-at_once g c =

@@ -1,6 +1,7 @@
 use Rattle.std.proofs.Common.{rules}
 use Rattle.std.proofs.KnownBytes.{Keeps-refl}
 use Rattle.wl_script.proofs.Pieces.{handed_on, no_front, Breaks-long, Breaks-memory, Breaks-line, Fed-line}
+use Rattle.wl_script.proofs.Entries.{counted_line}
 use Rattle.wl_script.proofs.feeding.end_line.Goals as goal
 use Rattle.wl_script.proofs.feeding.end_line.Goals.{then-is_empty+in_ok-answer_line}
 use Rattle.wl_script.proofs.feeding.end_line.Goals.{else-is_empty+in-Ok+in_ok-answer_line-2}
@@ -34,4 +35,12 @@ returns-clause-fed g c = elim c.if-is_empty.branch [
       w.deref-else-is_empty.result.now _ c.requires.open_end c.requires.no_lf (search rules) (search rules)
       (search rules)
       (search rules) (search rules) (search rules)
+]
+
+pub returns-clause-entries : goal.returns-clause-entries
+returns-clause-entries g c = elim c.if-is_empty.branch [
+  | then-is_empty+in_ok-answer_line w ↦ counted_line _ _ _ _ _ c.args.bytes.now c.args.bytes.now _ c.requires.open_end
+      c.requires.no_lf (no_front _ _ (search rules)) (search rules) (search rules) (search rules)
+  | else-is_empty+in-Ok+in_ok-answer_line-2 w ↦ counted_line _ _ _ _ _ c.args.bytes.now w.deref-else-is_empty.result.now
+      _ c.requires.open_end c.requires.no_lf (search rules) (search rules) (search rules) (search rules)
 ]

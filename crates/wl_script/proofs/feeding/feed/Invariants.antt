@@ -1,6 +1,6 @@
 use Rattle.std.proofs.Common.{◌≡◌, ◌≤◌, ◌+◌, ◌++◌, List, ℕ, length}
 use Rattle.wl_script.specs.Lines.{HasNoLf}
-use Rattle.wl_script.specs.inner.Progress.{moment, Fed}
+use Rattle.wl_script.specs.inner.Progress.{moment, Fed, CountsOn}
 use Rattle.wl_script.proofs.feeding.feed.Given as goal
 
 abbrev pub invariant-loop-line : goal.invariant-loop-line
@@ -11,6 +11,10 @@ invariant-loop-line g l = record {
       (g.W.Output.held l.fn.writer)) front
       (moment l.progress.unfinished.items l.progress.answered (g.A.Answerer.world l.answerer)
       (g.W.Output.held l.writer));
+  -- what is to be counted yet
+  entries : CountsOn (g.A.Answerer.world l.fn.answerer) (g.A.Answerer.journals l.fn.answerer)
+      (l.fn.progress.unfinished.items ++ l.piece)
+      (g.A.Answerer.world l.answerer) (g.A.Answerer.journals l.answerer) (l.progress.unfinished.items ++ l.rest);
   open_end : HasNoLf l.progress.unfinished.items;
   count : l.progress.answered + length l.rest ≤ l.fn.progress.answered + length l.piece;
   same : g.W.Output.failures l.writer ≡ g.W.Output.failures l.fn.writer;

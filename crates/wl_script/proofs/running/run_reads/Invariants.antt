@@ -1,7 +1,7 @@
 use Rattle.std.proofs.Common.{◌≡◌, ◌≤◌, ◌*◌, List, [], ℕ, length}
 use Rattle.std.specs.Io.KnownBytes.{Consumes}
 use Rattle.wl_script.specs.Streams.{GrewBy}
-use Rattle.wl_script.specs.inner.Progress.{moment, Fed}
+use Rattle.wl_script.specs.inner.Progress.{moment, Fed, CountsOn}
 use Rattle.wl_script.proofs.running.run_reads.Given as goal
 
 abbrev pub invariant-loop-turn : goal.invariant-loop-turn
@@ -11,7 +11,9 @@ invariant-loop-turn g l = record {
       × Fed l.limits.line (moment [] 0 (g.A.Answerer.world l.fn.answerer) (g.W.Output.held l.fn.writer)) bytes
       (moment l.progress.unfinished.items l.progress.answered (g.A.Answerer.world l.answerer)
       (g.W.Output.held l.writer))
-      × (l.turn ≤ length bytes);
+      × (l.turn ≤ length bytes)
+      × CountsOn (g.A.Answerer.world l.fn.answerer) (g.A.Answerer.journals l.fn.answerer) bytes
+      (g.A.Answerer.world l.answerer) (g.A.Answerer.journals l.answerer) l.progress.unfinished.items;
   short : length l.progress.unfinished.items ≤ l.limits.line;
   count : l.progress.answered ≤ 65536 * l.turn;
   reads : GrewBy (g.R.Input.reads l.fn.reader) (g.R.Input.reads l.reader) l.turn;

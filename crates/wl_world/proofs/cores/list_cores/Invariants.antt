@@ -1,10 +1,12 @@
-use Rattle.std.proofs.Common.{◌≡◌, ◌++◌, map}
-use Rattle.wl_world.specs.Cores.{core_list}
+use Rattle.std.proofs.Common.{◌≡◌, ◌++◌}
+use Rattle.wl_world.specs.Cores.{seen_by}
 use Rattle.wl_world.proofs.cores.list_cores.Given as goal
 
--- the cores of the origins so far, and those of the others
+-- what is seen of the cores so far, and of the managers that are left
 abbrev pub invariant-loop-key : goal.invariant-loop-key
-invariant-loop-key g l =
-    core_list g.C.LockCore.state g.C.LockCore.entries l.cores.items
-    ++ map (λ entry. (entry.0, entry.1.core)) l.key-iterator
-    ≡ map (λ entry. (entry.0, entry.1.core)) l.fn.realm.entries
+invariant-loop-key g l = record {
+  states : seen_by g.C.LockCore.state l.cores.items ++ seen_by (λ m. m.origin.state) l.key-iterator ≡ seen_by
+      (λ m. m.origin.state) l.fn.realm.entries;
+  entries : seen_by g.C.LockCore.entries l.cores.items ++ seen_by (λ m. m.entries) l.key-iterator ≡ seen_by
+      (λ m. m.entries) l.fn.realm.entries;
+}

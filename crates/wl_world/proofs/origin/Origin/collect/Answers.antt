@@ -3,7 +3,6 @@ use Rattle.std.proofs.lemmas.Grind.{common_steps}
 use Rattle.wl_session.specs.LastReported.{IsByNumber}
 use Rattle.wl_world.specs.Requests.{changed_requests}
 use Rattle.wl_world.specs.inner.Requests.{IsRising}
-use Rattle.wl_world.specs.inner.Views.{core}
 use Rattle.wl_world.proofs.Counted.{collect_in_order}
 use Rattle.wl_world.proofs.Rising.{changed_rising, taken_rising}
 use Rattle.wl_world.proofs.origin.Origin.collect.Goals as goal
@@ -14,10 +13,9 @@ invariant_of-self g c = subst (IsRising 0 (g.C.LockCore.state c.self.inside.core
 
 pub invariant_of-self-2 : goal.invariant_of-self-2
 invariant_of-self-2 g c =
-    collect_in_order c.args.agent (core (g.C.LockCore.state c.self.inside.core)
-    (g.C.LockCore.entries c.self.inside.core)) (core (g.C.LockCore.state c.take_all.new.core)
-    (g.C.LockCore.entries c.take_all.new.core)) c.deref_mut.result.now c.self.inside.requests c.collect.new.self
-    c.take_all.ensures.core c.in_ok-changed.ensures.ok c.self.invariant
+    collect_in_order c.args.agent (g.C.LockCore.state c.self.inside.core)
+    (g.C.LockCore.state c.take_all.new.core) c.deref_mut.result.now c.self.inside.requests c.collect.new.self
+    c.take_all.ensures.state c.in_ok-changed.ensures.ok c.self.invariant
 
 pub returns-clause-by_number : goal.returns-clause-by_number
 returns-clause-by_number g c =
