@@ -3,7 +3,8 @@ use Rattle.std.specs.Prelude.{ℕ, List, [], ◌∷◌, ◌++◌, ◌≡◌, ◌
 use Rattle.std.specs.Prelude.{option_map, Result, Ok, Err}
 use Rattle.wl_world.specs.World.{World, next, reply, opening}
 use Rattle.wl_world.specs.Worlds.{world_of}
-use Rattle.wl_script.specs.Lines.{HasNoLf, lines}
+use Rattle.wl_codec.specs.Lines.{HasNoLf}
+use Rattle.wl_script.specs.Lines.{lines}
 use Rattle.wl_script.specs.Audits.{Audited}
 use Rattle.wl_c.specs.declared.world.Live.{Live}
 use Rattle.wl_c.specs.declared.fault.Fault.{Fault}

@@ -7,8 +7,8 @@ ghost use Rattle.wl_c.specs.Handles.{IsBarred};
 ghost use Rattle.wl_c.specs.declared.fault.Fault.TheVariants.{Null};
 
 use crate::fault::{Fault, code_of};
-use crate::world::LONGEST;
 use std::ptr::NonNull;
+use wl_codec::LONGEST_LINE;
 
 /// Whether a pointer leads anywhere.
 fn leads<T>(pointer: *mut T) -> bool
@@ -41,14 +41,14 @@ pub fn can_answer(
         && leads(line.cast_mut())
         && leads(reply)
         && leads(reply_length)
-        && length <= LONGEST
+        && length <= LONGEST_LINE
 }
 
 /// Why a call with a line can't be made.
 pub fn code_of_line(length: usize) -> i32
     ensures { IsBarred length result }
 {
-    if length > LONGEST {
+    if length > LONGEST_LINE {
         return code_of(Err(Fault::TooLong));
     }
     code_of(Err(Fault::Null))

@@ -8,17 +8,12 @@ ghost use Rattle.wl_c.specs.inner.Worlds.{MayBeAnswered};
 
 use crate::fault::Fault;
 use crate::seed::Seed;
-use memchr::memchr;
 use std::alloc::Global;
+use wl_codec::{LF, LONGEST_LINE, split_line};
 use wl_index::{IndexCore, random_seed};
 use wl_script::{Reader, Writer, audit};
 use wl_types::Memory;
 use wl_world::Engine;
-
-/// The most bytes of a line, as in a script.
-pub const LONGEST: usize = 65_536;
-
-const LF: u8 = 10;
 
 /// What a world is until a growth is refused.
 #[derive(Drop)]
@@ -54,10 +49,10 @@ fn no_lines(alloc: Global, keeps_books: bool) -> Option<Vec<u8>>
 fn fault_of_line(line: &[u8]) -> Result<(), Fault>
     ensures { MayBeAnswered line.now result }
 {
-    if line.len() > LONGEST {
+    if line.len() > LONGEST_LINE {
         return Err(Fault::TooLong);
     }
-    match memchr(LF, line) {
+    match split_line(line) {
         None => Ok(()),
         Some(_) => Err(Fault::LineFeed),
     }

@@ -6,7 +6,8 @@ use Rattle.std.proofs.lemmas.List.Sums.{sum_by-cons, sum_by-append}
 use Rattle.std.specs.Io.KnownBytes.{Consumes, IsAtEnd}
 use Rattle.std.proofs.KnownBytes.{Consumes-nil, Consumes-trans}
 use Rattle.std.specs.Prelude.{take, false}
-use Rattle.wl_script.specs.Lines.{HasNoLf, is_lf, line_feeds, with_lfs}
+use Rattle.wl_codec.specs.Lines.{HasNoLf, is_lf}
+use Rattle.wl_script.specs.Lines.{line_feeds, with_lfs}
 use Rattle.wl_world.specs.Journals.{Journals}
 use Rattle.wl_world.specs.World.{World}
 use Rattle.wl_script.specs.Streams.{one_more, GrewBy, GrewAtMostBy}

@@ -8,7 +8,8 @@ use Rattle.std.proofs.lemmas.List.Splits.{slice_split_at, slice_split_none, leng
 use Rattle.std.specs.List.{slice_split}
 use Rattle.std.specs.Io.KnownBytes.{Appends, Consumes, Keeps, IsAtEnd}
 use Rattle.std.proofs.KnownBytes.{Appends-trans, Appends-kept, Consumes-trans, Consumes-whole, Keeps-refl}
-use Rattle.wl_script.specs.Lines.{HasNoLf, is_lf, lines, lines_of_parts, last_line, with_lfs}
+use Rattle.wl_codec.specs.Lines.{HasNoLf, is_lf}
+use Rattle.wl_script.specs.Lines.{lines, lines_of_parts, last_line, with_lfs}
 use Rattle.wl_world.specs.World.{World}
 use Rattle.wl_script.specs.Transcript.{transcript, after, reply_line}
 use Rattle.wl_script.specs.Leaves.{Answered, AnsweredFirst, AnsweredWithin, IsTooLong, Leaves}

@@ -9,7 +9,8 @@ use Rattle.wl_world.specs.Entries.{line_entries, script_entries}
 use Rattle.wl_world.specs.Journals.{Grow, Journals, with_more}
 use Rattle.wl_world.specs.World.{World, next}
 use Rattle.wl_world.proofs.Entries.{more_twice, no_more}
-use Rattle.wl_script.specs.Lines.{HasNoLf, is_lf, last_line, lines}
+use Rattle.wl_codec.specs.Lines.{HasNoLf, is_lf}
+use Rattle.wl_script.specs.Lines.{last_line, lines}
 use Rattle.wl_script.specs.inner.Progress.{CountsOn, entries_then}
 use Rattle.wl_script.proofs.Ends.{last_line_some, lines_at, lines_none}
 

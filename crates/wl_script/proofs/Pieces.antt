@@ -6,7 +6,8 @@ use Rattle.std.proofs.lemmas.List.Elements.{All-nil, All-cons, All-append}
 use Rattle.std.proofs.lemmas.Grind.{flat_map-append}
 use Rattle.std.specs.Io.KnownBytes.{Appends, Keeps}
 use Rattle.std.proofs.KnownBytes.{Appends-nil, Appends-trans, Keeps-refl}
-use Rattle.wl_script.specs.Lines.{HasNoLf, is_lf, with_lfs}
+use Rattle.wl_codec.specs.Lines.{HasNoLf, is_lf}
+use Rattle.wl_script.specs.Lines.{with_lfs}
 use Rattle.wl_world.specs.World.{World, next}
 use Rattle.wl_script.specs.Transcript.{transcript, after, reply_line}
 use Rattle.wl_script.specs.Leaves.{Answered}

@@ -17,7 +17,8 @@ use Rattle.wl_codec.specs.Reading.{line_reading}
 use Rattle.wl_origin.specs.declared.manager_key.ManagerKey.{ManagerKey}
 use Rattle.wl_world.specs.Isolation.{is_of, lines_of, replies, replies_to, Isolated}
 use Rattle.wl_world.specs.World.{World, next, reply, answered, opening}
-use Rattle.wl_script.specs.Lines.{HasNoLf, is_lf, lines, with_lfs}
+use Rattle.wl_codec.specs.Lines.{HasNoLf, is_lf}
+use Rattle.wl_script.specs.Lines.{lines, with_lfs}
 use Rattle.wl_script.specs.Transcript.{transcript}
 use Rattle.wl_script.specs.Laws.{written_to, replies_among, RunsAreIsolated}
 use Rattle.wl_script.proofs.Ends.{lines_after}

@@ -4,7 +4,8 @@ use Rattle.std.proofs.Common.{true, false, take, All, eqb-true}
 use Rattle.std.proofs.lemmas.List.Elements.{All-nil, All-cons, All-head, All-tail}
 use Rattle.std.proofs.lemmas.List.{take_more}
 use Rattle.std.proofs.lemmas.Option.{slice_get_within, get_or_from_slice_get}
-use Rattle.wl_script.specs.Lines.{HasNoLf, is_lf, lines, last_line, with_lfs}
+use Rattle.wl_codec.specs.Lines.{HasNoLf, is_lf}
+use Rattle.wl_script.specs.Lines.{lines, last_line, with_lfs}
 use Rattle.wl_world.specs.Isolation.{replies}
 use Rattle.wl_world.specs.World.{World, next}
 use Rattle.wl_script.specs.Transcript.{transcript, after, reply_line}

@@ -3,7 +3,8 @@ use Rattle.std.specs.Prelude.{◌≡◌, ℕ, List, [], ◌∷◌, ◌++◌, ◌
 use Rattle.wl_origin.specs.declared.manager_key.ManagerKey.{ManagerKey}
 use Rattle.wl_world.specs.Isolation.{is_of, lines_of, replies}
 use Rattle.wl_world.specs.World.{World, next, opening}
-use Rattle.wl_script.specs.Lines.{HasNoLf, lines, last_line, with_lfs}
+use Rattle.wl_codec.specs.Lines.{HasNoLf}
+use Rattle.wl_script.specs.Lines.{lines, last_line, with_lfs}
 use Rattle.wl_script.specs.Transcript.{transcript, after, reply_line}
 
 -- a script is its lines, each with its LF, and then a last one without LF, if that has a byte

@@ -1,17 +1,11 @@
 -- The lines of a script (own). Each ends with LF, byte 10. What stands after the last LF is a line if it has a byte.
-use Rattle.std.specs.Prelude.{ℕ, List, [], ◌∷◌, ◌++◌, ◌≡◌, ◌==◌, Bool, false, All, count_by}
+use Rattle.std.specs.Prelude.{ℕ, List, [], ◌∷◌, ◌++◌, count_by}
 use Rattle.std.specs.List.{slice_split, flat_map}
-
-abbrev pub is_lf : ℕ → Bool
-is_lf byte = byte == 10
+use Rattle.wl_codec.specs.Lines.{is_lf}
 
 -- how many of the bytes are LF
 abbrev pub line_feeds : List ℕ → ℕ
 line_feeds bytes = count_by is_lf bytes
-
--- none of the bytes is LF
-abbrev pub HasNoLf : List ℕ → Type 0
-HasNoLf bytes = All (λ byte. is_lf byte ≡ false) bytes
 
 -- what stands after the last LF, if it has a byte
 abbrev pub last_line : List ℕ → List (List ℕ)

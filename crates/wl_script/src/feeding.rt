@@ -1,17 +1,14 @@
 //! Takes a piece of the input, and answers the lines that end in it.
 
-ghost use Rattle.std.specs.Prelude.{◌≡◌, ◌↔◌, ◌≤◌, ◌<◌, ◌+◌, ◌^◌, ◌++◌, ◌∷◌, [], length, None, IfSome, IfErr, OnOk};
-ghost use Rattle.std.specs.Prelude.{IsTrue};
-ghost use Rattle.wl_script.specs.Lines.{HasNoLf};
+ghost use Rattle.std.specs.Prelude.{◌≡◌, ◌↔◌, ◌≤◌, ◌<◌, ◌+◌, ◌^◌, ◌++◌, ◌∷◌, [], length, IfErr, OnOk, IsTrue};
+ghost use Rattle.wl_codec.specs.Lines.{HasNoLf};
 ghost use Rattle.wl_script.specs.Streams.{Counts};
 ghost use Rattle.wl_script.specs.Faults.{is_write};
 ghost use Rattle.wl_script.specs.inner.Progress.{moment, Fed, Breaks, CountsOn, IsNotKept};
 
 use crate::replying::answer_line;
 use crate::{Answerer, Output, ScriptFault};
-use memchr::memchr;
-
-const LF: u8 = 10;
+use wl_codec::split_line;
 
 /// How far a run has come.
 #[derive(Drop)]
@@ -20,15 +17,6 @@ pub struct Progress {
     pub unfinished: Vec<u8>,
     /// The lines answered.
     pub answered: u64,
-}
-
-/// The first line and what follows its LF, if there is an LF.
-fn split_line(bytes: &[u8]) -> Option<(&[u8], &[u8])>
-    ensures none { result ≡ None → HasNoLf bytes.now }
-    ensures some { IfSome result (λ parts. HasNoLf parts.0.now × (bytes.now ≡ parts.0.now ++ 10 ∷ parts.1.now)) }
-{
-    let at = memchr(LF, bytes)?;
-    Some((&bytes[..at], &bytes[at + 1..]))
 }
 
 /// Whether the line that begins with these two parts is longer than the limit.

@@ -5,7 +5,8 @@ use Rattle.std.proofs.Common.{inl, inr, suc, add-one}
 use Rattle.std.specs.Io.KnownBytes.{Consumes, Keeps, IsAtEnd, prepend_known}
 use Rattle.std.proofs.KnownBytes.{Consumes-trans, Consumes-kept}
 use Rattle.std.proofs.lemmas.List.Elements.{All-nil, All-append}
-use Rattle.wl_server.specs.Lines.{HasNoLf, is_lf, GivesLine, GivesTooLong}
+use Rattle.wl_codec.specs.Lines.{HasNoLf, is_lf}
+use Rattle.wl_server.specs.Lines.{GivesLine, GivesTooLong}
 use Rattle.wl_server.specs.inner.Lines.{GivesPart}
 
 drop_from : (part rest : List ℕ) → drop (suc (length part)) (part ++ 10 ∷ rest) ≡ rest

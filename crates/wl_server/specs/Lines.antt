@@ -1,15 +1,9 @@
 -- The lines of a reader, as far as its bytes are known (own). Each ends with LF, byte 10; what stands after the last LF
 -- is a line if it has a byte.
-use Rattle.std.specs.Prelude.{◌≡◌, ◌⊎◌, ◌<◌, ◌==◌, ℕ, List, [], ◌∷◌, ◌++◌, Bool, false, All, length, Option}
+use Rattle.std.specs.Prelude.{◌⊎◌, ◌<◌, ℕ, List, [], ◌∷◌, ◌++◌, length, Option}
 use Rattle.std.specs.Io.KnownBytes.{Consumes, IsAtEnd, prepend_known}
+use Rattle.wl_codec.specs.Lines.{HasNoLf}
 use Rattle.wl_server.specs.declared.lines.Lines.{Lines}
-
-abbrev pub is_lf : ℕ → Bool
-is_lf byte = byte == 10
-
--- none of the bytes is LF
-abbrev pub HasNoLf : List ℕ → Type 0
-HasNoLf bytes = All (λ byte. is_lf byte ≡ false) bytes
 
 -- the bytes that were left begin with this line, and lose it
 abbrev pub GivesLine : Option (List ℕ) → List ℕ → Option (List ℕ) → Type 0

@@ -1,21 +1,15 @@
 //! The lines of a reader.
 
-ghost use Rattle.std.specs.Prelude.{◌≡◌, ◌≤◌, ◌<◌, ◌∷◌, ◌++◌, [], length, true, false, Ok, Err, None, Option, ℕ, List};
-ghost use Rattle.std.specs.Prelude.{IfSome, OnOk};
+ghost use Rattle.std.specs.Prelude.{◌≡◌, ◌≤◌, ◌<◌, ◌∷◌, ◌++◌, [], length, true, false, Ok, Err, Option, ℕ, List, OnOk};
 ghost use Rattle.std.specs.Io.KnownBytes.{IsAtEnd};
-ghost use Rattle.wl_server.specs.Lines.{HasNoLf, GivesLine, GivesTooLong, to_come};
+ghost use Rattle.wl_server.specs.Lines.{GivesLine, GivesTooLong, to_come};
 ghost use Rattle.wl_server.specs.inner.Lines.{GivesPart};
 
 use crate::piece::Piece;
-use memchr::memchr;
 use std::alloc::Global;
 use std::io::Read;
 use std::sync::Wait;
-
-/// The bytes of a line at most, without its LF.
-const LIMIT: usize = 65_536;
-
-const LF: u8 = 10;
+use wl_codec::{LONGEST_LINE, split_line};
 
 /// Why there is no next line.
 #[derive(Clone, Copy, Debug, PartialEq, Eq, Drop)]
@@ -23,15 +17,6 @@ pub enum NoLine {
     TooLong,
     Read,
     Memory,
-}
-
-/// The first line and what follows its LF, if there is an LF.
-fn split_line(bytes: &[u8]) -> Option<(&[u8], &[u8])>
-    ensures none { result ≡ None → HasNoLf bytes.now }
-    ensures some { IfSome result (λ parts. HasNoLf parts.0.now × (bytes.now ≡ parts.0.now ++ 10 ∷ parts.1.now)) }
-{
-    let at = memchr(LF, bytes)?;
-    Some((&bytes[..at], &bytes[at + 1..]))
 }
 
 /// Adds bytes to a line.
@@ -44,7 +29,7 @@ fn add(line: &mut Vec<u8>, part: &[u8]) -> Result<(), NoLine>
     if line.extend_from_slice(part).is_err() {
         return Err(NoLine::Memory);
     }
-    if line.len() > LIMIT {
+    if line.len() > LONGEST_LINE {
         return Err(NoLine::TooLong);
     }
     Ok(())

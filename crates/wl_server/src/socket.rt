@@ -15,9 +15,7 @@ use std::io::{ErrorKind, Read, Write};
 use std::sync::Wait;
 use tungstenite::handshake::HandshakeError;
 use tungstenite::{Error, MaskKeys, Message, NoMask, WebSocket, WebSocketConfig};
-
-/// The bytes of a message at most.
-const LIMIT: usize = 65_536;
+use wl_codec::LONGEST_LINE;
 
 /// The bytes of one read of the stream.
 const READ: usize = 8_192;
@@ -84,8 +82,8 @@ pub fn accept<S: Read + Write + Drop>(alloc: Global, stream: S) -> Result<Socket
             let mut inner = accepted;
             inner.set_config(
                 WebSocketConfig::default()
-                    .max_message_size(Some(LIMIT))
-                    .max_frame_size(Some(LIMIT))
+                    .max_message_size(Some(LONGEST_LINE))
+                    .max_frame_size(Some(LONGEST_LINE))
                     .read_buffer_size(READ),
             );
             Ok(Socket {

@@ -1,6 +1,6 @@
 -- What only the code of this crate says (own), beside `Worlds`.
 use Rattle.std.specs.Prelude.{ℕ, List, ◌≤◌, ◌<◌, length, Result, Ok, Err}
-use Rattle.wl_script.specs.Lines.{HasNoLf}
+use Rattle.wl_codec.specs.Lines.{HasNoLf}
 use Rattle.wl_c.specs.declared.fault.Fault.{Fault}
 use Rattle.wl_c.specs.declared.fault.Fault.TheVariants.{Memory, Spent, NoBooks, Null, TooLong, LineFeed}
 

@@ -5,7 +5,8 @@ use Rattle.wl_origin.specs.declared.manager_key.ManagerKey.{ManagerKey}
 use Rattle.wl_world.specs.Entries.{script_entries}
 use Rattle.wl_world.specs.Journals.{Journals, with_more}
 use Rattle.wl_world.specs.World.{World}
-use Rattle.wl_script.specs.Lines.{HasNoLf, lines, with_lfs}
+use Rattle.wl_codec.specs.Lines.{HasNoLf}
+use Rattle.wl_script.specs.Lines.{lines, with_lfs}
 use Rattle.wl_script.specs.Transcript.{after, reply_line}
 use Rattle.wl_script.specs.Leaves.{Answered}
 use Rattle.wl_script.specs.declared.fault.ScriptFault.{ScriptFault}

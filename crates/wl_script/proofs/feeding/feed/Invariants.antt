@@ -1,5 +1,5 @@
 use Rattle.std.proofs.Common.{◌≡◌, ◌≤◌, ◌+◌, ◌++◌, List, ℕ, length}
-use Rattle.wl_script.specs.Lines.{HasNoLf}
+use Rattle.wl_codec.specs.Lines.{HasNoLf}
 use Rattle.wl_script.specs.inner.Progress.{moment, Fed, CountsOn}
 use Rattle.wl_script.proofs.feeding.feed.Given as goal
 
