@@ -1,9 +1,6 @@
--- What a client is, and what the client of an opaque origin is answered (own); what its requests and queries are
--- refused is the machine's `no_storage`.
-use Rattle.std.specs.Prelude.{ℕ, Bool, Option, Some, None, Result, Ok, Err, if◌then◌else◌}
+-- What a client is (own). What the client of an opaque origin is answered is the machine's `no_storage` and `activity`.
+use Rattle.std.specs.Prelude.{ℕ, Bool, Option, Some, None, if◌then◌else◌}
 use Rattle.wl_types.specs.declared.words.Kind.{Kind}
-use Rattle.wl_types.specs.declared.refusal.Refusal.{Refusal}
-use Rattle.wl_types.specs.declared.refusal.Refusal.TheVariants.{NotAWindow}
 use Rattle.wl_machine.specs.Refusals.{is_window}
 
 -- an agent of its origin's manager, by its number there; or an opaque one, and whether it is active
@@ -16,10 +13,7 @@ abbrev pub number_of : Who → Option ℕ
 number_of (Managed n) = Some n
 number_of (Opaque kind active) = None
 
--- what making an opaque client active or inactive is answered, and what the client is then
-abbrev pub activity : Kind → Result Unit Refusal
-activity kind = if is_window kind then Ok tt else Err NotAWindow
-
+-- whether an opaque client is active once it was made active or inactive
 abbrev pub active_after : Kind → Bool → Bool → Bool
 active_after kind active wanted = if is_window kind then wanted else active
 

@@ -3,16 +3,17 @@
 ghost use Rattle.std.specs.Prelude.{◌≡◌, ◌⊎◌, [], true, false, Err, IfErr, is_some};
 ghost use Rattle.wl_types.specs.declared.refusal.Refusal.TheVariants.{NoSuchAgent, NoSuchSignal, Security};
 ghost use Rattle.wl_types.specs.declared.answers.ReleaseAnswer.TheVariants.{NotHeld};
-ghost use Rattle.wl_machine.specs.Refusals.{no_storage};
+ghost use Rattle.wl_machine.specs.Refusals.{activity, no_storage};
 ghost use Rattle.wl_machine.specs.declared.command.Command.TheVariants as command;
 ghost use Rattle.wl_manager.specs.Agents.{MayRefuse};
-ghost use Rattle.wl_service.specs.Clients.{Managed, Opaque, IfManaged, IfOpaque, activity, made_active, number_of};
+ghost use Rattle.wl_service.specs.Clients.{Managed, Opaque, IfManaged, IfOpaque, made_active, number_of};
 
 use crate::directory::Core;
 use crate::opaque::OpaqueAgent;
 use std::marker::Model;
 use std::sync::Wait;
 use wl_journal::Sight;
+use wl_machine::no_storage;
 use wl_manager::{Agent, Recent};
 use wl_origin::ManagerKey;
 use wl_types::{AbortAnswer, Ask, Kind, Reason, Refusal, ReleaseAnswer};
@@ -116,7 +117,7 @@ impl Client {
     {
         match &mut self.side {
             Side::Managed(agent) => agent.request(rt, ask),
-            Side::Opaque(agent) => Err(agent.no_storage()),
+            Side::Opaque(agent) => Err(no_storage(agent.kind, agent.active)),
         }
     }
 
@@ -186,7 +187,7 @@ impl Client {
     {
         match &mut self.side {
             Side::Managed(agent) => agent.query(rt),
-            Side::Opaque(agent) => Err(agent.no_storage()),
+            Side::Opaque(agent) => Err(no_storage(agent.kind, agent.active)),
         }
     }
 

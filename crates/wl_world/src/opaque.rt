@@ -2,29 +2,13 @@
 
 ghost use Rattle.std.specs.Prelude.{◌≡◌, IfOk, OnOk, Some, string_bytes};
 ghost use Rattle.wl_codec.specs.Replies.{reply_text};
-ghost use Rattle.wl_machine.specs.Refusals.{is_window, no_storage};
 ghost use Rattle.wl_world.specs.Labels.{active_after, closes, opaque_outcome, plain};
 
 use crate::answer::{Answer, closes, plain_text};
 use std::alloc::Global;
 use wl_codec::{Body, Outcome};
+use wl_machine::{activity, no_storage};
 use wl_types::{Kind, Memory, Refusal, ReleaseAnswer};
-
-fn is_window(kind: Kind) -> bool
-    ensures { result ≡ is_window kind }
-{
-    matches!(kind, Kind::Window)
-}
-
-fn no_storage(kind: Kind, active: bool) -> Refusal
-    ensures { result ≡ no_storage kind active }
-{
-    if is_window(kind) && !active {
-        Refusal::InvalidState
-    } else {
-        Refusal::Security
-    }
-}
 
 /// What an opaque agent is answered.
 fn opaque_outcome(kind: Kind, active: bool, body: &Body) -> Outcome
@@ -36,13 +20,10 @@ fn opaque_outcome(kind: Kind, active: bool, body: &Body) -> Outcome
         Body::Request(_) | Body::Query => Outcome::Refused(no_storage(kind, active)),
         Body::Release(_) => Outcome::Release(ReleaseAnswer::NotHeld),
         Body::Abort(_, _) => Outcome::Refused(Refusal::NoSuchSignal),
-        Body::Active(wanted) => {
-            if is_window(kind) {
-                Outcome::Active(*wanted)
-            } else {
-                Outcome::Refused(Refusal::NotAWindow)
-            }
-        }
+        Body::Active(wanted) => match activity(kind) {
+            Ok(()) => Outcome::Active(*wanted),
+            Err(refusal) => Outcome::Refused(refusal),
+        },
         Body::Poll => Outcome::Polled,
         Body::Close => Outcome::Closed,
     }
