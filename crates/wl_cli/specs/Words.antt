@@ -12,8 +12,6 @@ use Rattle.wl_cli.specs.declared.job.Job.TheVariants.{Run, Audit, Timeline, Serv
 use Rattle.wl_cli.specs.Endpoints.{HasWrongEndpoint}
 use Rattle.wl_cli.specs.Daemon.{AsksFor, HasNoAddress, HasNoLevel, HasTwoEpochs, daemon_app}
 pub use Rattle.wl_cli.specs.Numbers.{HasNumber}
-use Rattle.wl_cli.specs.declared.arguments.OptionFault.{OptionFault}
-use Rattle.wl_cli.specs.declared.arguments.OptionFault.TheVariants as fault
 use Rattle.wl_cli.specs.declared.job.UsageFault.{UsageFault}
 use Rattle.wl_cli.specs.declared.job.UsageFault.TheVariants.{Usage, Memory}
 

@@ -3,6 +3,10 @@ use Rattle.std.specs.Prelude.{◌≡◌}
 use Rattle.clap.specs.Values.{kind_of}
 use Rattle.clap.specs.declared.error.kind.ErrorKind.{ErrorKind}
 use Rattle.clap.specs.declared.error.kind.ErrorKind.TheVariants.{ArgumentConflict, ValueValidation}
+use Rattle.wl_cli.specs.declared.arguments.OptionFault.{OptionFault}
+use Rattle.wl_cli.specs.declared.arguments.OptionFault.TheVariants as fault
+use Rattle.wl_cli.specs.declared.job.UsageFault.{UsageFault}
+use Rattle.wl_cli.specs.declared.job.UsageFault.TheVariants.{Usage, Memory}
 
 abbrev pub kind_for : OptionFault → ErrorKind
 kind_for fault.TwoEpochs = ArgumentConflict
