@@ -1,13 +1,15 @@
 -- Looks at the requests of a map, one after another.
 use Rattle.std.proofs.Common.{◌≡◌, ◌≢◌, ◌∙◌, All, Contains, ap₂, arith, get_or, length, ℕ, zero, suc, ◌+◌, ◌<◌, ◌≤◌}
 use Rattle.std.proofs.Common.{List, [], ◌∷◌, ◌++◌, sym, Less}
+use Rattle.std.specs.Prelude.{slice_index}
 use Rattle.std.specs.Cmp.{ranked}
 use Rattle.std.specs.List.{AllByRecursion}
-use Rattle.std.specs.List.Sorted.{IsStrictlySortedBy}
+use Rattle.std.specs.List.Sorted.{IsStrictlyIncreasing, IsStrictlySortedBy}
 use Rattle.std.specs.Map.{keys_of}
 use Rattle.std.specs.Ordering.{nat_cmp}
 use Rattle.std.proofs.lemmas.List.{get_or_default}
 use Rattle.std.proofs.lemmas.List.Elements.{All-append, All-push}
+use Rattle.std.proofs.lemmas.List.Kept.{AllPairs-from_increasing}
 use Rattle.wl_types.specs.declared.phases.Phase.{Phase}
 use Rattle.wl_types.specs.declared.phases.Phase.TheVariants.{Granted, Taken}
 use Rattle.wl_session.specs.LastReported.{RequestPhase, IsFrom, IsByNumber}
@@ -83,20 +85,25 @@ rises_from (e ∷ es) low h sorted = (h.0, rises_from es (e.0 + 1) (above e.0 (k
 pub at_first : {X : Type 0} (es : List (ℕ × X)) → IsStrictlySortedBy nat_cmp (keys_of es) → AreToCome [] es
 at_first es sorted = (0, tt, rises_from es 0 (any (keys_of es)) sorted)
 
--- an observation of a number that none has yet, and none above it
-pub one_more : (observed : List RequestPhase) (least number : ℕ) (p : Phase) → IsByNumber observed
-    → AreBelow least observed → least ≤ number
-    → IsByNumber (observed ++ (number, p) ∷ []) × AreBelow (number + 1) (observed ++ (number, p) ∷ [])
-one_more observed least number p by_number below le =
-    let under : AreBelow number observed = below_higher observed least number le below in (
-      from_more observed (number, p) 0 by_number under (omega arith),
-      below_more observed (number, p) (number + 1) (below_higher observed number (number + 1) (omega arith) under)
-          (omega arith),
-    )
+-- each number from that place on is above those observed
+abbrev pub AreBelowAll : List ℕ → ℕ → List RequestPhase → Type 0
+AreBelowAll numbers at observed = (k : ℕ) → at ≤ k → k < length numbers → AreBelow (slice_index numbers k) observed
 
-pub none_more : (observed : List RequestPhase) (least number : ℕ) → AreBelow least observed → least ≤ number
-    → AreBelow (number + 1) observed
-none_more observed least number below le = below_higher observed least (number + 1) (omega (arith, le)) below
+-- an observation of the number at that place
+pub one_more : (observed : List RequestPhase) (numbers : List ℕ) (at : ℕ) (p : Phase) → IsStrictlyIncreasing numbers
+    → at < length numbers → IsByNumber observed → AreBelowAll numbers at observed
+    → IsByNumber (observed ++ (slice_index numbers at, p) ∷ [])
+    × AreBelowAll numbers (at + 1) (observed ++ (slice_index numbers at, p) ∷ [])
+one_more observed numbers at p rising lt by_number below = (
+  from_more observed (slice_index numbers at, p) 0 by_number (below at (omega arith) lt) (omega arith),
+  λ k le within. below_more observed (slice_index numbers at, p) (slice_index numbers k)
+      (below k (omega (arith, le)) within)
+      (AllPairs-from_increasing numbers rising at k 0 (omega (arith, le)) within),
+)
+
+pub none_more : (observed : List RequestPhase) (numbers : List ℕ) (at : ℕ) → AreBelowAll numbers at observed
+    → AreBelowAll numbers (at + 1) observed
+none_more observed numbers at below = λ k le. below k (omega (arith, le))
 
 -- and one that was taken, where it was granted
 pub taken_more : (observed : List RequestPhase) (number : ℕ) (p : Phase)

@@ -142,7 +142,7 @@ impl Peer {
             .requests
             .observe(self.open_client.as_ref(), &self.session, &outcome)?;
         let text = self.session.finish_changed(id, outcome, &observed)?;
-        self.requests.report(&observed);
+        self.requests.remove_ended(&observed);
         Ok(text)
     }
 
@@ -178,7 +178,7 @@ impl Peer {
             return Ok(None);
         }
         let text = self.session.finish_changed(None, outcome, &observed)?;
-        self.requests.report(&observed);
+        self.requests.remove_ended(&observed);
         Ok(Some(text))
     }
 

@@ -1,6 +1,7 @@
 //! The requests of an agent whose end wasn't reported to it.
 
 ghost use Rattle.std.specs.Prelude.{◌≡◌, ◌≢◌, All, Contains, IfOk, IfSome, OnOk};
+ghost use Rattle.std.specs.List.Sorted.{IsStrictlyIncreasing};
 ghost use Rattle.wl_types.specs.declared.phases.Phase.TheVariants.{Granted, Taken};
 ghost use Rattle.wl_session.specs.LastReported.{Fits, IsByNumber};
 
@@ -11,14 +12,13 @@ use std::collections::BTreeMap;
 use wl_cell::Taking;
 use wl_codec::Outcome;
 use wl_service::{Client, Ticket};
-use wl_session::{Session, carries_notices};
+use wl_session::{Session, arrange, carries_notices};
 use wl_types::{Memory, Phase};
 
-/// A request, and the phase that was last reported. Of a new one nothing was.
+/// A request. The session has the phase of it that was last reported.
 #[derive(Drop)]
 pub struct Request {
     pub ticket: Ticket,
-    last_reported: Option<Phase>,
     // Of its lock, once that was taken, where there are fences.
     token: Option<u64>,
 }
@@ -38,7 +38,7 @@ impl Request {
             × (phase ≢ Granted)) }
     {
         let phase = observe_phase(&mut self.ticket, counter, &mut self.token);
-        let is_reported = self.last_reported == Some(phase);
+        let is_reported = session.phase_of(number) == Some(phase);
         if is_reported || !session.fits(outcome, (number, phase)) {
             return None;
         }
@@ -106,7 +106,7 @@ fn change_of(
     request.change(counter, session, outcome, number)
 }
 
-/// The changed requests of these numbers, which rise. One that comes again is passed over.
+/// The changed requests of these numbers, which rise.
 fn observe_changed(
     alloc: Global,
     requests: &mut BTreeMap<u64, Request>,
@@ -115,21 +115,16 @@ fn observe_changed(
     outcome: &Outcome,
     numbers: &[u64],
 ) -> Result<Vec<(u64, Phase)>, Memory>
+    requires { IsStrictlyIncreasing numbers.now }
     ensures by_number { IfOk result (λ observed. IsByNumber observed.items) }
     ensures fit { IfOk result (λ observed. All (Fits outcome.now session.now.last_reported) observed.items) }
     ensures taken { IfOk result (λ observed. All (λ observation. observation.1 ≢ Granted) observed.items) }
 {
     let mut observed = Vec::new(alloc);
-    let mut least = 0;
     for number in numbers {
-        // No request has the greatest number.
-        if *number < least || *number == u64::MAX {
-            continue;
-        }
         if let Some(phase) = change_of(requests, counter, session, outcome, *number) {
             observed.push((*number, phase))?;
         }
-        least = *number + 1;
     }
     Ok(observed)
 }
@@ -156,7 +151,6 @@ impl Requests {
         let number = ticket.number();
         let request = Request {
             ticket,
-            last_reported: None,
             token: None,
         };
         match self.by_number.insert(number, request) {
@@ -241,7 +235,7 @@ impl Requests {
         if let Outcome::Request(number) = outcome {
             self.numbers.push(*number)?;
         }
-        self.numbers.sort_unstable();
+        arrange(&mut self.numbers);
         observe_changed(
             self.alloc,
             &mut self.by_number,
@@ -275,13 +269,11 @@ impl Requests {
         self.by_number.get(&number)?.token
     }
 
-    /// What was observed is reported. An end leaves the requests.
-    pub fn report(&mut self, observed: &[(u64, Phase)]) {
-        for observation in observed {
+    /// The requests whose end was reported leave.
+    pub fn remove_ended(&mut self, reported: &[(u64, Phase)]) {
+        for observation in reported {
             if observation.1.is_end() {
                 let _ = self.by_number.remove(&observation.0);
-            } else if let Some(request) = self.by_number.get_mut(&observation.0) {
-                request.last_reported = Some(observation.1);
             }
         }
     }

@@ -4,17 +4,12 @@ use Rattle.std.proofs.Common.{filter, fold, eqb, refl, sym, ap, subst, inl, inr,
 use Rattle.std.proofs.lemmas.Bool.{ne_eqb, eq-eqb, cases_eq, cases_lt}
 use Rattle.wl_types.specs.declared.phases.Phase.{Phase}
 use Rattle.wl_types.specs.declared.phases.Phase.TheVariants.{Released}
-use Rattle.wl_session.specs.LastReported.{RequestPhase, IsFrom, IsByNumber, is_live, put, as_released, with_released}
-use Rattle.wl_session.specs.LastReported.{notice}
+use Rattle.wl_session.specs.LastReported.{RequestPhase, IsFrom, IsByNumber, found_in, is_live, put, as_released}
+use Rattle.wl_session.specs.LastReported.{with_released, notice}
 use Rattle.wl_session.specs.Laws.{ObservedAreLeft, ObservedDecideNotices}
 use Rattle.wl_session.proofs.Order.{from_filter, from_released, put_behind, put_over, put_ahead, by_number_put}
 use Rattle.wl_session.proofs.Order.{by_number_fold}
 use Rattle.wl_session.proofs.DueNotices.{is_due}
-
--- the phase of a number, where it stands in the list
-abbrev found_in : List RequestPhase → ℕ → Option Phase
-found_in [] n = None
-found_in (l ∷ ls) n = cond (eqb l.0 n) (Some l.1) (found_in ls n)
 
 abbrev or_else : Option Phase → Option Phase → Option Phase
 or_else None other = other
@@ -27,7 +22,7 @@ later_found : (l : RequestPhase) (ls : List RequestPhase) (n : ℕ) → l.0 ≢ 
 later_found l ls n other = rw (ne_eqb l.0 n other) refl
 
 -- nothing below the first
-absent : (ls : List RequestPhase) (low n : ℕ) → n < low → IsFrom low ls → found_in ls n ≡ None
+pub absent : (ls : List RequestPhase) (low n : ℕ) → n < low → IsFrom low ls → found_in ls n ≡ None
 absent [] low n lt h = refl
 absent (l ∷ ls) low n lt h = later_found l ls n (λ e. omega (arith, h.0))
     ∙ absent ls (l.0 + 1) n (omega (arith, h.0)) h.1

@@ -11,6 +11,7 @@ use Rattle.wl_types.specs.declared.phases.Phase.TheVariants.{Pending}
 use Rattle.wl_session.specs.LastReported.{RequestPhase, IsFrom, IsByNumber}
 use Rattle.wl_session.specs.inner.Places.{IsAt, IsGapFor}
 use Rattle.wl_session.proofs.Order.{at_least, rises, below}
+use Rattle.wl_session.proofs.Lookup.{absent}
 
 -- any look, for what stands past a list's end
 abbrev none : RequestPhase
@@ -30,6 +31,7 @@ at_behind l ls n at lt p =
       higher = let next : suc at + 1 ≡ suc (at + 1) = omega arith in rw (next, is.1) p.higher;
       number = λ d. p.number d;
       phase = λ d. rw is.2 (p.phase d);
+      found = λ d. rw is.2 (p.found d);
     }
 
 pub found_at : (ls : List RequestPhase) (low n at : ℕ) → IsFrom low ls → at < length ls → (get_or ls at none).0 ≡ n
@@ -46,6 +48,7 @@ found_at (l ∷ ls) low n zero h lt same =
       higher = rw (not_beyond, b.all_beyond) refl;
       number = λ d. same;
       phase = λ d. rw here refl;
+      found = λ d. rw here refl;
     }
 found_at (l ∷ ls) low n (suc at) h lt same =
     let more : l.0 + 1 ≤ (get_or ls at none).0 = at_least ls (l.0 + 1) at none (omega arith) h.1 in
@@ -61,18 +64,31 @@ gap_behind l ls n at lt p =
       lower = rw is.0 (ap (λ (xs : List RequestPhase). l ∷ xs) p.lower);
       higher = rw is.1 p.higher;
       phase = rw is.2 p.phase;
+      none_found = rw is.2 p.none_found;
     }
 
 pub gap_at : (ls : List RequestPhase) (low n at : ℕ) → IsFrom low ls → at ≤ length ls
     → ((j : ℕ) → j < at → (get_or ls j none).0 < n)
     → ((j : ℕ) → at ≤ j → j < length ls → n < (get_or ls j none).0) → IsGapFor ls n at
-gap_at [] low n zero h le smaller greater = record { in_range = le; lower = refl; higher = refl; phase = refl }
+gap_at [] low n zero h le smaller greater = record {
+  in_range = le;
+  lower = refl;
+  higher = refl;
+  phase = refl;
+  none_found = refl;
+}
 gap_at [] low n (suc at) h le smaller greater = absurd (omega arith)
 gap_at (l ∷ ls) low n zero h le smaller greater =
     let less : n < l.0 = greater 0 (omega arith) (omega arith) in
     let all : IsFrom l.0 (l ∷ ls) = (omega arith, h.1) in
     let b = below (l ∷ ls) l.0 n less all in
-    record { in_range = le; lower = sym b.none_before; higher = sym b.all_beyond; phase = b.not_reported }
+    record {
+      in_range = le;
+      lower = sym b.none_before;
+      higher = sym b.all_beyond;
+      phase = b.not_reported;
+      none_found = absent (l ∷ ls) l.0 n less all;
+    }
 gap_at (l ∷ ls) low n (suc at) h le smaller greater =
     gap_behind l ls n at (smaller 0 (omega arith)) (gap_at ls (l.0 + 1) n at h.1 (omega arith)
     (λ j lt. smaller (suc j) (omega arith)) (λ j from lt. greater (suc j) (omega arith) (omega arith)))

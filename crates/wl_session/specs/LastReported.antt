@@ -1,7 +1,7 @@
 -- What was last reported of requests, and which notices are due (own; Web Locks runs a callback and settles its
 -- promise).
 use Rattle.std.specs.Prelude.{◌≡◌, ◌⊎◌, ℕ, ◌+◌, ◌≤◌, List, [], ◌∷◌, ◌++◌, ◌==◌, nat_lt, Bool, true, false, not, map}
-use Rattle.std.specs.Prelude.{filter, fold, Any, if◌then◌else◌}
+use Rattle.std.specs.Prelude.{filter, fold, Any, Option, Some, None, if◌then◌else◌}
 use Rattle.std.specs.List.{list_any}
 use Rattle.wl_types.specs.declared.phases.Phase.{Phase}
 use Rattle.wl_types.specs.declared.phases.Phase.TheVariants.{Pending, Granted, Taken, Unavailable, Aborted, Released}
@@ -45,6 +45,11 @@ put ls l = before l.0 ls ++ l ∷ beyond l.0 ls
 abbrev pub phase_in : List RequestPhase → ℕ → Phase
 phase_in [] n = Pending
 phase_in (l ∷ ls) n = if l.0 == n then l.1 else phase_in ls n
+
+-- the phase that the list has of the request, if it is there
+abbrev pub found_in : List RequestPhase → ℕ → Option Phase
+found_in [] n = None
+found_in (l ∷ ls) n = if l.0 == n then Some l.1 else found_in ls n
 
 -- whether the reply is the answer to that request itself
 abbrev pub is_new : Outcome → ℕ → Bool

@@ -8,7 +8,7 @@ ghost use Rattle.std.specs.Prelude.{◌≡◌, ◌+◌, ◌<◌, ◌≤◌, leng
 ghost use Rattle.std.specs.Prelude.{IsTrue};
 ghost use Rattle.wl_types.specs.Phases.{Reaches};
 ghost use Rattle.wl_session.specs.inner.Places.{IsAt, IsGapFor};
-ghost use Rattle.wl_session.specs.LastReported.{Fits, IsByNumber, is_live, put, phase_in, reported_phase};
+ghost use Rattle.wl_session.specs.LastReported.{Fits, IsByNumber, found_in, is_live, put, phase_in, reported_phase};
 ghost use Rattle.wl_session.specs.LastReported.{is_notice_due, has_due_notices, due_notices, as_released};
 ghost use Rattle.wl_session.specs.LastReported.{with_released, with_observed};
 ghost use Rattle.wl_session.specs.inner.LastReported.{IsReportedList};
@@ -29,6 +29,17 @@ fn place(list: &[(u64, Phase)], number: u64) -> Result<usize, usize>
     ensures absent { IfErr result (λ at. IsGapFor list.now number at) }
 {
     list.binary_search_by_key(&number, |observation| observation.0)
+}
+
+/// The phase that a list has of a request, if it is there.
+pub(crate) fn found_in(list: &[(u64, Phase)], number: u64) -> Option<Phase>
+    requires { IsByNumber list.now }
+    ensures { result ≡ found_in list.now number }
+{
+    match place(list, number) {
+        Ok(at) => Some(list[at].1),
+        Err(_) => None,
+    }
 }
 
 /// Of a request whose end was reported, nothing was reported since.

@@ -6,11 +6,13 @@
 
 mod last_reported;
 pub mod laws;
+mod numbers;
 mod outcomes;
 mod plan;
 mod session;
 mod upkeep;
 
+pub use numbers::arrange;
 pub use outcomes::carries_notices;
 pub use plan::{Action, Plan};
 pub use session::{Session, SessionOf};

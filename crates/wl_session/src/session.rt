@@ -5,10 +5,10 @@ ghost use Rattle.std.specs.Prelude.{vec_capacity, string_bytes};
 ghost use Rattle.wl_codec.specs.Replies.{reply_text};
 ghost use Rattle.wl_session.specs.Planned.{plan_for};
 ghost use Rattle.wl_session.specs.Step.{reply, after, carries_notices, last_reported_after, notices, closed};
-ghost use Rattle.wl_session.specs.LastReported.{Fits, IsByNumber, has_due_notices, is_live, with_released};
+ghost use Rattle.wl_session.specs.LastReported.{Fits, IsByNumber, found_in, has_due_notices, is_live, with_released};
 ghost use Rattle.wl_session.specs.inner.Upkeep.{IsKept};
 
-use crate::last_reported::{due_notices, fits, has_due_notices, with_released};
+use crate::last_reported::{due_notices, fits, found_in, has_due_notices, with_released};
 use crate::outcomes::{carries_notices, opens};
 use crate::plan::{Plan, plan_for};
 use crate::upkeep::{AtOnce, Upkeep, make_room, report};
@@ -93,6 +93,13 @@ impl Session {
         ensures live { All (λ observation. is_live observation ≡ true) result.now }
     {
         &self.last_reported
+    }
+
+    /// The phase that was last reported of a request. None where nothing was, or its end.
+    pub fn phase_of(&self, number: u64) -> Option<Phase>
+        ensures { result ≡ found_in self.now.last_reported number }
+    {
+        found_in(self.live(), number)
     }
 
     /// Whether what was found of a request fits what was last reported. `finish` and `finish_changed` take other

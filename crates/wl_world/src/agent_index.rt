@@ -2,7 +2,7 @@
 
 ghost use Rattle.std.specs.Prelude.{◌≡◌, ◌∷◌, ◌++◌, [], map, filter, is_some, true, IfOk, IsSome, OnOk, Some, None, ℕ};
 ghost use Rattle.std.specs.List.{Contains, flat_map};
-ghost use Rattle.std.specs.List.Sorted.{IsStrictlyIncreasing, IsStrictlySortedBy};
+ghost use Rattle.std.specs.List.Sorted.{IsStrictlySortedBy};
 ghost use Rattle.std.specs.Map.{keys_of, values_of};
 ghost use Rattle.std.specs.Ordering.{nat_cmp};
 ghost use Rattle.wl_world.specs.Requests.{changed_requests, with_changes, after_collect, waiting, with_change, without};
@@ -13,6 +13,7 @@ ghost use Rattle.wl_world.specs.inner.AgentIndex.{coming, found, close_one, obse
 use crate::requests::Request;
 use std::alloc::Global;
 use wl_number_map::NumberMap;
+use wl_session::arrange;
 use wl_types::{Change, Memory, Phase};
 
 /// As a request comes, an agent's list has at most about twice as many numbers as its agent has live requests, and
@@ -186,30 +187,6 @@ pub(crate) fn add(
     };
     live.insert(number, request)?;
     Ok(())
-}
-
-/// Whether each number is greater than the one before.
-fn is_rising(numbers: &[u64]) -> bool
-    ensures { result ≡ true → IsStrictlyIncreasing numbers.now }
-{
-    for place in 1..numbers.len() {
-        if numbers[place] <= numbers[place - 1] {
-            return false;
-        }
-    }
-    true
-}
-
-/// The numbers in order, each once. Most stand so already.
-fn arrange(numbers: &mut Vec<u64>)
-    ensures sorted { IsStrictlySortedBy nat_cmp numbers.new.items }
-    ensures all { (number : ℕ) → Contains numbers.old.items number → Contains numbers.new.items number }
-{
-    if is_rising(numbers) {
-        return;
-    }
-    numbers.sort_unstable();
-    numbers.dedup();
 }
 
 /// What a request came to is added at the end of a list, if it is the agent's, and it leaves if it has ended.

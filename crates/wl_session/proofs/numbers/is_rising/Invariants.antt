@@ -1,6 +1,6 @@
 use Rattle.std.proofs.Common.{ℕ, ◌<◌, ◌+◌}
 use Rattle.std.specs.Prelude.{slice_index}
-use Rattle.wl_world.proofs.agent_index.is_rising.Given as goal
+use Rattle.wl_session.proofs.numbers.is_rising.Given as goal
 
 -- the numbers so far rise
 abbrev pub invariant-loop-place : goal.invariant-loop-place
