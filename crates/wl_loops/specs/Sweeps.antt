@@ -1,7 +1,7 @@
 -- What a look at all connections of a loop does (own).
 use Rattle.std.specs.Prelude.{◌≡◌, ℕ, Option, None, Some, IfSome}
 use Rattle.slab.specs.Slab.{Slab, get}
-use Rattle.wl_liveness.specs.Liveness.{due_of, pinged}
+use Rattle.wl_liveness.specs.Liveness.{due_of, after_ping}
 use Rattle.wl_liveness.specs.declared.limits.Limits.{Limits}
 use Rattle.wl_liveness.specs.declared.liveness.Due.{Due}
 use Rattle.wl_liveness.specs.declared.liveness.Due.TheVariants.{Nothing, Ping, End}
@@ -12,7 +12,7 @@ module _ {C : Type 0} (liveness_of : C → Liveness) where
   -- was.
   abbrev pub Does : Due → C → Option C → Type 0
   Does End old new = new ≡ None
-  Does Ping old new = IfSome new (λ one. liveness_of one ≡ pinged (liveness_of old))
+  Does Ping old new = IfSome new (λ one. liveness_of one ≡ after_ping (liveness_of old))
   Does Nothing old new = new ≡ Some old
 
   -- what is due for the connection of a key is done, and there is no other

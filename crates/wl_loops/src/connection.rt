@@ -1,7 +1,7 @@
 //! One connection of a loop.
 
 ghost use Rattle.std.specs.Prelude.{◌≡◌, true, false};
-ghost use Rattle.wl_liveness.specs.Liveness.{due_of, new_liveness, pinged};
+ghost use Rattle.wl_liveness.specs.Liveness.{due_of, new_liveness, after_ping};
 ghost use Rattle.wl_liveness.specs.declared.liveness.Due.TheVariants.{Nothing, Ping, End};
 
 use crate::affinity::Affinity;
@@ -257,7 +257,7 @@ impl<'a, R: Wait, H: Host> Connection<'a, R, H> {
     /// Pings a peer that is silent, and answers whether the connection is over.
     pub fn watch(&mut self, now: u64, limits: &Limits) -> bool
         ensures over { due_of self.old.liveness now limits.now ≡ End → result ≡ true }
-        ensures pinged { due_of self.old.liveness now limits.now ≡ Ping → self.new.liveness ≡ pinged self.old.liveness }
+        ensures pinged { due_of self.old.liveness now limits.now ≡ Ping → self.new.liveness ≡ after_ping self.old.liveness }
         ensures kept { due_of self.old.liveness now limits.now ≡ Nothing → result ≡ false }
         ensures same { due_of self.old.liveness now limits.now ≡ Nothing → self.new ≡ self.old }
     {

@@ -4,7 +4,7 @@
 //! The calls are `came`, `blocked`, `flush`, `ping`, `close` as a server does that ends, and `turn`.
 
 use super::echo::Echo;
-use super::greeted;
+use super::greet;
 use super::script::{Script, script_of, show_frames};
 use crate::lists::{Scene, assert_lists};
 use std::alloc::Global;
