@@ -186,11 +186,13 @@ class Candidate:
         return peer
 
     def token(self) -> str:
-        """That of a lock which is granted now."""
+        """That of a lock, once it is granted: it may still be held by a peer that was just dropped."""
         peer = self.peer()
-        token = token_in(peer.ask('{"id":1,"op":"request","name":"db"}'))
+        text = peer.ask('{"id":1,"op":"request","name":"db"}')
+        while "fences" not in json.loads(text):
+            text = peer.get()
         peer.drop()
-        return token
+        return token_in(text)
 
 
 def token_in(text: str) -> str:
