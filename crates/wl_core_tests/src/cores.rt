@@ -8,4 +8,4 @@ mod refusals;
 mod runs;
 mod seeds;
 
-pub use lists::{LISTS, came};
+pub use lists::{LISTS, run_list};

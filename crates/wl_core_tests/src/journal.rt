@@ -2,7 +2,7 @@
 
 mod growth;
 
-use crate::cores::{LISTS, came};
+use crate::cores::{LISTS, run_list};
 use std::alloc::Global;
 use std::test::Fail;
 use wl_core::{Command, LockCore, PlainCore, ReleaseAnswer, Reply, TakeAnswer};
@@ -14,7 +14,7 @@ use wl_types::{Kind, Memory};
 fn a_book_does_the_lists(rt: HostRuntime) -> Result<(), Fail> {
     for list in LISTS {
         assert_eq!(rt;
-            came::<Book<PlainCore>>(rt.alloc(), (), list)?.as_str(),
+            run_list::<Book<PlainCore>>(rt.alloc(), (), list)?.as_str(),
             list
         );
     }
@@ -46,7 +46,7 @@ fn word(entry: &Entry) -> &'static str {
 /// there are `count` (how many entries it has, and how many it has had), `entries`, `cut` (the entries that it hands
 /// out),
 /// `audit` (of the entries, from the base), `base` (whether that is the state) and `sight` (of the first agent).
-fn done_by_book(alloc: Global, list: &str) -> Result<String, Memory> {
+fn run_by_book(alloc: Global, list: &str) -> Result<String, Memory> {
     let mut book: Book<PlainCore> = opening(alloc, ());
     let mut came = String::new(alloc);
     for line in list.lines() {
@@ -131,7 +131,7 @@ count -> 5 of 5
 #[test]
 fn a_book_records_what_was_accepted(rt: HostRuntime) -> Result<(), Fail> {
     for list in [ONE_LOCK, NOTHING_HAPPENS] {
-        assert_eq!(rt; done_by_book(rt.alloc(), list)?.as_str(), list);
+        assert_eq!(rt; run_by_book(rt.alloc(), list)?.as_str(), list);
     }
     Ok(())
 }

@@ -124,13 +124,13 @@ fn show_manager(
     found: &Result<Option<ManagerKey>, ManagerFault>,
 ) -> Result<String, Memory> {
     match found {
-        Ok(Some(key)) => key_told(alloc, key),
+        Ok(Some(key)) => show_key(alloc, key),
         Ok(None) => Ok("opaque".to_string(alloc)?),
         Err(fault) => Ok(format!(in alloc; "{fault}")?),
     }
 }
 
-fn key_told(alloc: Global, key: &ManagerKey) -> Result<String, Memory> {
+fn show_key(alloc: Global, key: &ManagerKey) -> Result<String, Memory> {
     let origin = key.origin.text(alloc)?;
     Ok(format!(in alloc; "{origin} {}", key.bucket.as_str())?)
 }

@@ -8,7 +8,7 @@ use wl_test_support::{do_list, do_list_often, letters, opening};
 use wl_types::{Memory, Numbers};
 
 /// The list as it comes out of a core that has done this call so often.
-fn done_after<C: LockCore>(
+fn run_after<C: LockCore>(
     alloc: Global,
     core: &mut C,
     first: &str,
@@ -50,12 +50,12 @@ fn agents_and_signals_have_limits(rt: HostRuntime) -> Result<(), Fail> {
     for (first, often, list) in LIMITS {
         let mut plain: PlainCore = opening(rt.alloc(), ());
         assert_eq!(rt;
-            done_after(rt.alloc(), &mut plain, first, often, list)?.as_str(),
+            run_after(rt.alloc(), &mut plain, first, often, list)?.as_str(),
             list
         );
         let mut index: IndexCore = opening(rt.alloc(), random_seed(&rt)?);
         assert_eq!(rt;
-            done_after(rt.alloc(), &mut index, first, often, list)?.as_str(),
+            run_after(rt.alloc(), &mut index, first, often, list)?.as_str(),
             list
         );
     }
@@ -76,7 +76,7 @@ request 1 db -> Limit/requests
 #[test]
 fn at_most_65536_requests_are_live(rt: HostRuntime) -> Result<(), Fail> {
     let mut core: IndexCore = opening(rt.alloc(), random_seed(&rt)?);
-    let came = done_after(
+    let came = run_after(
         rt.alloc(),
         &mut core,
         "open window",
@@ -99,7 +99,7 @@ fn long_names(alloc: Global) -> Result<String, Memory> {
 fn a_name_has_at_most_1024_letters(rt: HostRuntime) -> Result<(), Fail> {
     let list = long_names(rt.alloc())?;
     let mut core: PlainCore = opening(rt.alloc(), ());
-    let came = done_after(rt.alloc(), &mut core, "open window", (0, ""), list.as_str())?;
+    let came = run_after(rt.alloc(), &mut core, "open window", (0, ""), list.as_str())?;
     assert_eq!(rt; came.as_str(), list.as_str());
     Ok(())
 }

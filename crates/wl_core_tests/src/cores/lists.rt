@@ -168,7 +168,7 @@ pub const LISTS: [&str; 10] = [
 ];
 
 /// A list as it comes out of a new core of the kind.
-pub fn came<C: LockCore>(alloc: Global, seed: C::Seed, list: &str) -> Result<String, Memory> {
+pub fn run_list<C: LockCore>(alloc: Global, seed: C::Seed, list: &str) -> Result<String, Memory> {
     let mut core: C = opening(alloc, seed);
     do_list(alloc, &mut core, list)
 }
@@ -176,7 +176,7 @@ pub fn came<C: LockCore>(alloc: Global, seed: C::Seed, list: &str) -> Result<Str
 #[test]
 fn the_plain_core_does_the_lists(rt: HostRuntime) -> Result<(), Fail> {
     for list in LISTS {
-        assert_eq!(rt; came::<PlainCore>(rt.alloc(), (), list)?.as_str(), list);
+        assert_eq!(rt; run_list::<PlainCore>(rt.alloc(), (), list)?.as_str(), list);
     }
     Ok(())
 }
@@ -185,7 +185,7 @@ fn the_plain_core_does_the_lists(rt: HostRuntime) -> Result<(), Fail> {
 fn the_indexed_core_does_the_lists(rt: HostRuntime) -> Result<(), Fail> {
     for list in LISTS {
         assert_eq!(rt;
-            came::<IndexCore>(rt.alloc(), random_seed(&rt)?, list)?.as_str(),
+            run_list::<IndexCore>(rt.alloc(), random_seed(&rt)?, list)?.as_str(),
             list
         );
     }

@@ -151,7 +151,7 @@ impl Table {
     }
 
     /// Whether the requests are at these phases, without memory.
-    fn looks(&mut self, wanted: &[Phase]) -> bool {
+    fn has_phases(&mut self, wanted: &[Phase]) -> bool {
         let mut places = 0..wanted.len();
         places.all(|place| match self.tickets.get_mut(place) {
             Some(ticket) => wanted.get(place) == Some(&ticket.look()),
@@ -171,8 +171,8 @@ fn abort_ends_what_waits<R: Wait>(rt: &R, alloc: Global) -> Result<bool, Fail> {
     table.request(rt, 1, "db", Mode::Shared, Some(signal))?;
     table.request(rt, 2, "db", Mode::Shared, None)?;
     let answer = table.agent(1)?.abort(rt, signal, Reason::AbortError);
-    let looks = [Phase::Granted, ABORTED, ABORTED, Phase::Granted];
-    Ok(answer == Ok(AbortAnswer::Done) && table.looks(&looks))
+    let wanted = [Phase::Granted, ABORTED, ABORTED, Phase::Granted];
+    Ok(answer == Ok(AbortAnswer::Done) && table.has_phases(&wanted))
 }
 
 /// The end of the third agent needs no memory: its lock is released, its request aborted, and what waited is granted.
@@ -188,7 +188,7 @@ fn an_end_ends_all<R: Wait>(rt: &R, alloc: Global) -> Result<bool, Fail> {
     };
     drop(last.terminate(rt));
     let granted = Phase::Granted;
-    Ok(table.looks(&[granted, Phase::Released, ABORTED, granted, granted]))
+    Ok(table.has_phases(&[granted, Phase::Released, ABORTED, granted, granted]))
 }
 
 #[test]

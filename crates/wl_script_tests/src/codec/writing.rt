@@ -131,10 +131,10 @@ fn each_error_has_its_name_and_rule(rt: HostRuntime) -> Result<(), Fail> {
     Ok(())
 }
 
-const NEWS_TOLD: &str =
+const NOTICES_TEXT: &str =
     r#"{"id":2,"notices":[{"phase":"granted","request":3},{"phase":"unavailable","request":1},{"phase":"aborted","reason":"AbortError","request":4},{"phase":"aborted","reason":0,"request":6},{"phase":"aborted","reason":65535,"request":2},{"phase":"stolen","request":5}],"ok":{}}"#;
 
-fn news(alloc: Global) -> Result<Notices, Memory>
+fn all_notices(alloc: Global) -> Result<Notices, Memory>
     ensures { IfOk result (λ notices. All (λ n. IsReported n.phase) notices) }
 {
     let mut notices = Notices::new(alloc);
@@ -169,11 +169,11 @@ fn news(alloc: Global) -> Result<Notices, Memory>
 fn notices_keep_their_order(rt: HostRuntime) -> Result<(), Fail> {
     let reply = WireReply {
         id: Some(2),
-        notices: news(rt.alloc())?,
+        notices: all_notices(rt.alloc())?,
         outcome: Outcome::Polled,
     };
     assert_eq!(rt; reply.notices.as_slice().len(), 6);
-    assert_eq!(rt; write_reply(rt.alloc(), &reply)?.as_str(), NEWS_TOLD);
+    assert_eq!(rt; write_reply(rt.alloc(), &reply)?.as_str(), NOTICES_TEXT);
     Ok(())
 }
 

@@ -50,7 +50,7 @@ pub fn in_pieces(rest: &[u8], piece: usize) -> Pieces<'_> {
 }
 
 /// The same, with a failure in place of the end.
-pub fn then_failing(rest: &[u8], piece: usize) -> Pieces<'_> {
+pub fn pieces_and_a_fault(rest: &[u8], piece: usize) -> Pieces<'_> {
     Pieces {
         rest,
         piece,

@@ -1,7 +1,7 @@
 //! What each fault says and leaves.
 
 use super::fakes::{Full, REPLIES, Refusing, SCRIPT, in_pieces, slow_writer};
-use super::runs::{AMPLE, Ended, ending, plain};
+use super::runs::{AMPLE, Ended, end_of, plain};
 use std::alloc::{AllocError, Global};
 use std::test::Fail;
 use wl_core::PlainCore;
@@ -59,7 +59,7 @@ fn ends_after(alloc: Global, left: u64) -> Result<Ended, AllocError> {
     let mut reader = in_pieces(SCRIPT, 100);
     let mut writer = slow_writer(alloc, AMPLE, AMPLE, Full::Fails)?;
     let result = run_lines(alloc, &mut answerer, &mut reader, &mut writer, limits);
-    Ok(ending(result, &writer, REPLIES))
+    Ok(end_of(result, &writer, REPLIES))
 }
 
 #[test]

@@ -1,6 +1,6 @@
 //! A run in memory, and how it ends.
 
-use super::fakes::{Full, Pieces, Room, in_pieces, slow_writer, then_failing};
+use super::fakes::{Full, Pieces, Room, in_pieces, pieces_and_a_fault, slow_writer};
 use std::alloc::{AllocError, Global};
 use std::random::RandomSource;
 use wl_script::{Limits, ScriptFault, audit, run, run_with};
@@ -47,7 +47,7 @@ pub fn plain(script: &[u8], piece: usize) -> Run<'_> {
 impl<'a> Run<'a> {
     fn reader(&self) -> Pieces<'a> {
         if self.fails {
-            then_failing(self.script, self.piece)
+            pieces_and_a_fault(self.script, self.piece)
         } else {
             in_pieces(self.script, self.piece)
         }
@@ -72,7 +72,7 @@ impl<'a> Run<'a> {
             }
             None => run(rt, &mut reader, &mut writer),
         };
-        Ok(ending(result, &writer, wanted))
+        Ok(end_of(result, &writer, wanted))
     }
 
     /// The same of an audit.
@@ -84,11 +84,11 @@ impl<'a> Run<'a> {
         let mut reader = self.reader();
         let mut writer = self.writer(rt.alloc())?;
         let result = audit(rt, &mut reader, &mut writer);
-        Ok(ending(result, &writer, wanted))
+        Ok(end_of(result, &writer, wanted))
     }
 }
 
-pub fn ending(answer: Result<u64, ScriptFault>, writer: &Room, wanted: &str) -> Ended {
+pub fn end_of(answer: Result<u64, ScriptFault>, writer: &Room, wanted: &str) -> Ended {
     let written = writer.bytes.as_slice();
     let is_wanted = wanted.as_bytes().starts_with(written);
     Ended {

@@ -8,12 +8,12 @@ use wl_types::{Kind, Memory};
 /// The id that the message's reply has, and what is to be done.
 pub fn plan(alloc: Global, session: &Session, message: &str) -> Result<String, Memory> {
     let plan = session.plan(read_message(alloc, message.as_bytes())?);
-    Ok(format!(in alloc; "{:?} {}", plan.id, action_told(&plan.action))?)
+    Ok(format!(in alloc; "{:?} {}", plan.id, show_action(&plan.action))?)
 }
 
-fn action_told(action: &Action) -> &'static str {
+fn show_action(action: &Action) -> &'static str {
     match action {
-        Action::Act(body) => act_told(body),
+        Action::Act(body) => show_act(body),
         Action::Answer(Outcome::NotOpen) => "NotOpen",
         Action::Answer(Outcome::AlreadyOpen) => "AlreadyOpen",
         Action::Answer(Outcome::Fault(CodecFault::BadOp)) => "BadOp",
@@ -22,7 +22,7 @@ fn action_told(action: &Action) -> &'static str {
     }
 }
 
-fn act_told(body: &Body) -> &'static str {
+fn show_act(body: &Body) -> &'static str {
     match body {
         Body::Enter { url, kind, bucket } => {
             if *kind == Kind::Window

@@ -25,7 +25,7 @@ fn request<U: Upkeep>(
 }
 
 /// The request that ends as this one comes: of each two, the later one ends first.
-fn leaving(number: u64) -> u64
+fn earlier_of_two(number: u64) -> u64
     requires { 15 < number }
     ensures { result + 14 ≤ number }
 {
@@ -42,7 +42,7 @@ fn request_often<U: Upkeep>(session: &mut SessionOf<U>, text: &mut String) -> Re
         request(session, text, number, &[(number, Phase::Taken)])?;
     }
     for number in 16..301 {
-        let left = (leaving(number), Phase::Stolen);
+        let left = (earlier_of_two(number), Phase::Stolen);
         let last = (number - 1, Phase::Taken);
         request(session, text, number, &[left, last, (number, Phase::Taken)])?;
     }

@@ -24,7 +24,7 @@ fn open_heard<R: Wait>(
 }
 
 /// Whether the client was rung, and the places that its bell added; none where some are missing.
-fn heard(alloc: Global, client: &Client, ring: &Arc<Ring>) -> (bool, Option<Vec<u64>>) {
+fn hearing_of(alloc: Global, client: &Client, ring: &Arc<Ring>) -> (bool, Option<Vec<u64>>) {
     let mut places = Vec::new(alloc);
     let is_rung = client.is_rung();
     let are_all = ring.collect(&mut places);
@@ -42,12 +42,12 @@ fn a_bell_rings_when_a_request_changes(rt: HostRuntime) -> Result<(), Fail> {
     let mut held = other.request(&rt, &asked)?;
     let waiting = client.request(&rt, &asked)?;
     assert_eq!(rt;
-        heard(rt.alloc(), &client, &ring),
+        hearing_of(rt.alloc(), &client, &ring),
         (false, Some(Vec::new(rt.alloc())))
     );
     other.release(&rt, &mut held);
     assert_eq!(rt;
-        heard(rt.alloc(), &client, &ring),
+        hearing_of(rt.alloc(), &client, &ring),
         (true, Some(vec![in rt.alloc(); PLACE]?))
     );
     let mut changed = Vec::new(rt.alloc());

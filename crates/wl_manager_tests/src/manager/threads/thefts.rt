@@ -63,7 +63,7 @@ fn assert_thefts<R: Threads + Wait + Abort + Sync>(
     Ok(())
 }
 
-fn stealing(alloc: Global) -> Result<Ask, Memory> {
+fn theft(alloc: Global) -> Result<Ask, Memory> {
     let mut asked = ask(alloc, "db", Mode::Exclusive)?;
     asked.steal = true;
     Ok(asked)
@@ -73,7 +73,7 @@ fn stealing(alloc: Global) -> Result<Ask, Memory> {
 fn a_take_and_a_theft_race_a_thousand_times(rt: HostRuntime) -> Result<(), Fail> {
     let manager = plain(&rt, rt.alloc())?;
     let asked = ask(rt.alloc(), "db", Mode::Exclusive)?;
-    assert_thefts(&rt, &manager, &asked, &stealing(rt.alloc())?)?;
+    assert_thefts(&rt, &manager, &asked, &theft(rt.alloc())?)?;
     assert_eq!(rt; audit_book(&rt, rt.alloc(), &manager), (true, 3002));
     assert_eq!(rt; sum_up(&rt, &manager).takes, 0);
     Ok(())

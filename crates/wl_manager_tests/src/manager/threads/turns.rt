@@ -89,7 +89,7 @@ fn with<T: Count>(left: Vec<Leaving<T>>, leaving: Leaving<T>) -> Result<Vec<Leav
 }
 
 /// What a tally hands back that misses somebody.
-fn handed_back<T: Count, R: Wait>(
+fn hand_back<T: Count, R: Wait>(
     rt: &R,
     manager: &Manager<PlainCore, T>,
     left: Vec<Leaving<T>>,
@@ -116,7 +116,7 @@ fn tallies<T: Count, R: Wait>(
     pair: (Leaving<T>, Leaving<T>),
 ) -> Result<(Option<u64>, Option<u64>), Fail> {
     let (one, two) = pair;
-    let left = handed_back(rt, manager, with(Vec::new(alloc), one)?)?;
+    let left = hand_back(rt, manager, with(Vec::new(alloc), one)?)?;
     let both = with(left, two)?;
     Ok((
         tally_all(rt, manager, both),
