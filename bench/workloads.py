@@ -85,13 +85,13 @@ class Name:
 
     def ask(self, number, shared):
         self.queue.append((number, shared))
-        self.settle()
+        self.process_queue()
 
     def drop(self, number):
         del self.holders[number]
-        self.settle()
+        self.process_queue()
 
-    def settle(self):
+    def process_queue(self):
         while self.queue:
             number, shared = self.queue[0]
             if self.holders and not (shared and all(self.holders.values())):
