@@ -338,5 +338,6 @@ class World:
             (scheme, host, port), bucket = key
             shown = "" if port == PORTS[scheme] else f":{port}"
             named = {} if bucket == "default" else {"bucket": bucket}
-            line = {**named, "entries": self.managers[key].entries, "legal": True, "origin": f"{scheme}://{host}{shown}"}
+            counted = {"entries": self.managers[key].entries, "legal": True}
+            line = {**named, **counted, "origin": f"{scheme}://{host}{shown}"}
             yield json.dumps(line, ensure_ascii=False, separators=(",", ":")).encode()
