@@ -72,7 +72,8 @@ def folder_in_memory():
 
 def find(name, package, places=()):
     """The program of this name, or None where its package isn't installed, which is said."""
-    found = [*filter(None, [shutil.which(name)]), *(it for place in places for it in sorted(glob.glob(f"{place}/{name}")))]
+    elsewhere = (it for place in places for it in sorted(glob.glob(f"{place}/{name}")))
+    found = [*filter(None, [shutil.which(name)]), *elsewhere]
     if not found:
         print(f"not run: {name} isn't here (Debian's package {package})", file=sys.stderr)
         return None

@@ -85,13 +85,13 @@ class Name:
 
     def ask(self, number, shared):
         self.queue.append((number, shared))
-        self.settle()
+        self.process_queue()
 
     def drop(self, number):
         del self.holders[number]
-        self.settle()
+        self.process_queue()
 
-    def settle(self):
+    def process_queue(self):
         while self.queue:
             number, shared = self.queue[0]
             if self.holders and not (shared and all(self.holders.values())):
@@ -269,8 +269,8 @@ def many_names_of_one_agent(s, live):
         pairs[i].append(s.request("a", f"name-{i}"))
 
 
-# Each with what it is, its lines and its crowds. Speed is measured at the last crowd, and growth over all where there are
-# several; those with three are for growth alone.
+# Each with what it is, its lines and its crowds. Speed is measured at the last crowd, and growth over all where there
+# are several; those with three are for growth alone.
 WORKLOADS = {
     one_agent_alone: ("one agent requests and releases, over {} names", 90001, [1000]),
     locks_handed_on: ("{} agents hand 10 names on", 90200, [100]),

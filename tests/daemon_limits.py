@@ -6,13 +6,15 @@ import socket
 import time
 
 from daemon_pushes import asked, request
-from daemon_server import MEGABYTE, PUSH, Daemon, framed, until_true, within
+from daemon_server import MEGABYTE, PUSH, Daemon, framed, handshake, until_true, within
 from running import Wrong, expect
 
 # The origins, one after another, that are opened and closed in one piece.
 BATCH = 500
 # How many of them there are, where no other number is asked for. A million takes minutes.
 ORIGINS = 50_000
+# So many handshakes at once are told that there is no place.
+TURNED_AWAY = 64
 
 def no_place(program):
     with Daemon(program, "--connections", "3") as daemon:
@@ -28,6 +30,22 @@ def no_place_for_an_address(program):
         expect("the statuses", [peer.status for peer in there], [101, 101])
         expect("the status", daemon.peer(source="127.0.0.2").status, 503)
         expect("another's status", daemon.peer(source="127.0.0.3").status, 101)
+
+
+def no_place_to_be_told(program):
+    """Of those for whom there is no place 64 at once are told so. Further connections are closed without an answer."""
+    with Daemon(program, "--connections", "1") as daemon:
+        there = daemon.opened()
+        late = [socket.create_connection(("127.0.0.1", daemon.port), 20) for _ in range(TURNED_AWAY)]
+        with socket.create_connection(("127.0.0.1", daemon.port), 20) as last:
+            expect("what the last one gets", last.recv(100), b"")
+        for peer in late:
+            peer.sendall(handshake())
+            expect("the status", peer.recv(1000)[9:12], b"503")
+            peer.close()
+        expect("another's status", daemon.peer().status, 503)
+        there.leave()
+        expect("whether the log says so", "dropped: no place" in daemon.end()[1], True)
 
 
 def no_files(program):
@@ -182,6 +200,7 @@ def limit_checks(program, origins=ORIGINS):
     for name, check in [
         ("no place for a connection", no_place),
         ("no place for an address", no_place_for_an_address),
+        ("no place to be told that there is none", no_place_to_be_told),
         ("no file for a connection", no_files),
         ("too many buckets", too_many_buckets),
         ("numbers begin at 1 again", numbers_begin_again),

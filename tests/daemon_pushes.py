@@ -284,8 +284,8 @@ class Worker(threading.Thread):
 
 
 def moves_and_ends_at_once(program):
-    """Nothing is lost or doubled where connections hand locks over, move and end, all at once: each waiter is told once,
-    no lock has two owners, and in the end none is held or waited for."""
+    """Nothing is lost or doubled where connections hand locks over, move and end, all at once: each waiter is told
+    once, no lock has two owners, and in the end none is held or waited for."""
     with Daemon(program, "--loops", "4", "--log", "debug") as daemon:
         owners = {}
         run_at_once([Worker(daemon, f"name {n % 3}", owners, 150, n) for n in range(15)])
@@ -333,8 +333,8 @@ def an_end_among_moves(program):
 
 
 def no_wake_for_an_own_change(program):
-    """What a peer changes for itself wakes no loop: the only writes of the daemon beside those to its streams, which the
-    system counts apart, are to wake one."""
+    """What a peer changes for itself wakes no loop: the only writes of the daemon beside those to its streams, which
+    the system counts apart, are to wake one."""
     with Daemon(program, "--loops", "4", "--log", "off") as daemon:
         peers = [daemon.opened(URL, PUSH) for _ in range(8)]
 

@@ -45,7 +45,7 @@ class Daemon:
         return line.removeprefix("listening ").removesuffix("\n")
 
     def peer(self, *headers, **how):
-        """A peer over the socket at the path `unix`, if one is given, or over TCP; over its socket, if it has no port."""
+        """A peer over the socket at the path `unix`, if one is given, or over TCP; without a port over its own."""
         if self.port is None:
             how.setdefault("unix", self.path)
         return Peer(self.port, *headers, host=self.host.strip("[]"), **how)

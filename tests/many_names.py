@@ -1,7 +1,7 @@
 """A script that has many names in use at once, with what is due for it.
 
-The model walks all its lists, and so is no help among 60,000 names. Here names stand in dictionaries, which keep them in
-order of use as well: a name that goes out of use leaves its place, and comes in again as the last.
+The model walks all its lists, and so is no help among 60,000 names. Here names stand in dictionaries, which keep them
+in order of use as well: a name that goes out of use leaves its place, and comes in again as the last.
 """
 
 import resource

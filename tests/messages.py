@@ -1,4 +1,4 @@
-"""A message of a script, by docs/FORMATS.md: its JSON value, its faults, its bucket, and the origin of its URL, if that is simple."""
+"""A message of a script, by docs/FORMATS.md: its JSON value, its faults, its bucket, and the origin of a simple URL."""
 
 import json
 import math

@@ -37,7 +37,7 @@ class Manager:
         self.last[of] += 1
         return self.last[of]
 
-    def settle(self):
+    def process_queues(self):
         for name in self.names:
             for request in self.granted(name):
                 self.pending.remove(request)
@@ -78,7 +78,7 @@ class Manager:
         self.end(lambda request: request.agent == agent, "released", self.held)
         self.signals = {number: it for number, it in self.signals.items() if it["agent"] != agent}
         del self.agents[agent]
-        self.settle()
+        self.process_queues()
 
     def set_active(self, agent, active):
         if self.agents[agent]["kind"] == "worker":
@@ -141,7 +141,7 @@ class Manager:
             self.pending.insert(0, request)
         else:
             self.pending.append(request)
-        self.settle()
+        self.process_queues()
         return request
 
     def take(self, request):
@@ -154,7 +154,7 @@ class Manager:
             return None
         self.held.remove(lock)
         lock.phase = "released"
-        self.settle()
+        self.process_queues()
         return lock
 
     def abort(self, agent, number, reason):
@@ -164,7 +164,7 @@ class Manager:
         signal["reason"] = reason
         self.end(lambda request: request.signal == number, "aborted", self.pending, reason)
         self.end(lambda lock: lock.signal == number and lock.phase == "granted", "aborted", self.held, reason)
-        self.settle()
+        self.process_queues()
         return "done"
 
     def query(self, agent):
@@ -338,5 +338,6 @@ class World:
             (scheme, host, port), bucket = key
             shown = "" if port == PORTS[scheme] else f":{port}"
             named = {} if bucket == "default" else {"bucket": bucket}
-            line = {**named, "entries": self.managers[key].entries, "legal": True, "origin": f"{scheme}://{host}{shown}"}
+            counted = {"entries": self.managers[key].entries, "legal": True}
+            line = {**named, **counted, "origin": f"{scheme}://{host}{shown}"}
             yield json.dumps(line, ensure_ascii=False, separators=(",", ":")).encode()

@@ -1,7 +1,7 @@
 /* Loaded before a program, refuses it one growth of memory, and says so: the call of malloc or realloc whose number,
-   counted from 1, stands in REFUSED_GROWTH, or all calls from that one on, where REFUSED_ON is set too. Where the number
-   of a connection stands in REFUSED_CONNECTION, accepting that one fails for want of memory in the system. What it takes
-   from the C library is declared here, so that the kit's clang needs no headers. */
+   counted from 1, stands in REFUSED_GROWTH, or all calls from that one on, where REFUSED_ON is set too. Where the
+   number of a connection stands in REFUSED_CONNECTION, accepting that one fails for want of memory in the system. What
+   it takes from the C library is declared here, so that the kit's clang needs no headers. */
 typedef unsigned long size;
 
 extern void *__libc_malloc(size bytes);

@@ -1,4 +1,4 @@
-"""Refuses each growth of memory of the built program in turn, as it answers, audits and draws scripts, and serves a client."""
+"""Refuses each growth of memory of the built program in turn, as it answers, audits, draws and serves."""
 
 import re
 from pathlib import Path
@@ -91,7 +91,7 @@ def timeline_is_refused(program, picture, number, refuser):
 
 
 def server_is_refused(program, number, refuser):
-    """It ends before it listens; or it can't start the connection's thread; or that connection fails, and it ends as ever."""
+    """It ends before it listens; or it can't start the connection's thread; or that connection fails."""
     before = ["env", f"LD_PRELOAD={refuser}", f"REFUSED_GROWTH={number}"]
     server = Serving(program, 1, before)
     if not server.line:
@@ -126,6 +126,8 @@ def program_growths(program, refuser):
         yield f"run {name}", lambda p=path: each_growth(lambda n: run_is_refused(program, p, n, refuser))
         yield f"audit {name}", lambda p=path: each_growth(lambda n: audit_is_refused(program, p, n, refuser))
     for picture in PICTURES:
-        yield f"draw {picture.stem}", lambda p=picture: each_growth(lambda n: timeline_is_refused(program, p, n, refuser))
+        yield f"draw {picture.stem}", lambda p=picture: each_growth(
+            lambda n: timeline_is_refused(program, p, n, refuser)
+        )
     yield "serve a client", lambda: each_growth(lambda n: server_is_refused(program, n, refuser))
     yield "serve, and accept no second client", lambda: connection_is_refused(program, refuser)

@@ -142,8 +142,8 @@ def refusal_checks(made: Checkouts, kit: Kit) -> Checks:
         refuses(top, "tools/ship: .build/passed/BUILT can't be read, which says what ./test built\n")
 
     yield "no record", no_record
-    sources = ("crates/wl_types/src/lib.rt", "crates/wl_test_support/src/lib.rt", "crates/wl_c/src/lib.rt", *LIBRARY_PARTS)
-    for name in (*sources, "README.md", "tests/running.py"):
+    sources = [f"crates/{crate}/src/lib.rt" for crate in ("wl_types", "wl_test_support", "wl_c")]
+    for name in (*sources, *LIBRARY_PARTS, "README.md", "tests/running.py"):
         yield f"{name} has changed since", lambda it=name: changed(it)
     yield "files were removed and added since", several
     for name in (BUILT, ".build/passed/weblocks"):

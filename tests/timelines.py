@@ -1,8 +1,8 @@
 """The pictures that `weblocks timeline` draws.
 
-Three are compared with those of tests/timelines, byte by byte. What their bars say is held to what was written down here
-from the scripts and the rules (docs/MACHINE.md), not taken from a picture; and each picture is read as XML, by a reader
-that isn't ours.
+Three are compared with those of tests/timelines, byte by byte. What their bars say is held to what was written down
+here from the scripts and the rules (docs/MACHINE.md), not taken from a picture; and each picture is read as XML, by a
+reader that isn't ours.
 """
 
 import json
@@ -107,8 +107,10 @@ def history_in(picture):
                 for part in parts
                 if part.get("data-phase") is not None
             ],
-            [(part.get("data-end"), line_in(part, "data-line")) for part in parts if part.get("data-end") is not None],
-            [(part.get("data-told"), line_in(part, "data-line")) for part in parts if part.get("data-told") is not None],
+            *(
+                [(part.get(of), line_in(part, "data-line")) for part in parts if part.get(of) is not None]
+                for of in ("data-end", "data-told")
+            ),
         )
     return history
 
@@ -206,7 +208,7 @@ PRINTABLE = re.sub("[\x00-\x1f\x7f-\x9f\ufffe\uffff]", "\ufffd", HOSTILE)
 
 
 def hostile_texts(program):
-    """What XML or a terminal would read otherwise is shown as text, and comes back as it was, but for what can't be printed."""
+    """What XML or a terminal would read otherwise is shown as text, and comes back, but for what can't be printed."""
     picture = drawn(program, says(opens(HOSTILE), requests(HOSTILE, HOSTILE), requests(HOSTILE, "-")))
     is_one_safe_image(picture)
     found = history_in(picture)[1]
@@ -287,7 +289,11 @@ def origins_and_buckets(program):
 def a_long_script(program):
     """Thousands of lines stand closer, and the picture is no wider."""
     turns = [
-        (requests("a", f"name-{n}"), requests("b", f"name-{n}"), does("a", "release", request=2 * n + 1), does("b", "poll"))
+        (
+            *(requests(agent, f"name-{n}") for agent in ("a", "b")),
+            does("a", "release", request=2 * n + 1),
+            does("b", "poll"),
+        )
         for n in range(800)
     ]
     ends = [does("b", "release", request=2 * n + 2) for n in range(800)]

@@ -72,9 +72,9 @@ digest_file() (
     sha256sum <"$1" | cut -c 1-64
 )
 
-# Sets program_built, sources_built, kit_built, library_built, module_built and library_sources_built to what dist/BUILT,
-# or the file that is named, says; fails where that isn't its lines. The last three are empty where a program alone is
-# shipped.
+# Sets program_built, sources_built, kit_built, library_built, module_built and library_sources_built to what
+# dist/BUILT, or the file that is named, says; fails where that isn't its lines. The last three are empty where a
+# program alone is shipped.
 read_built() {
     local text digest='([0-9a-f]{64})' end=$'\n' beside
     { text=$(<"${1:-dist/BUILT}"); } 2>/dev/null || return 1

@@ -8,7 +8,8 @@ import { readSettings } from "./src/settings.js";
  * Makes `navigator.locks` a LockManager of a server, at once: what is asked before there is a connection waits for it.
  * The global classes `LockManager` and `Lock` become those of the package.
  *
- * @param {import("./weblocks.d.ts").ConnectOptions | import("./weblocks.d.ts").PortOptions} options as those of `connect`; `origin` is the page's own if absent
+ * @param {import("./weblocks.d.ts").ConnectOptions | import("./weblocks.d.ts").PortOptions} options as those of
+ *   `connect`; `origin` is the page's own if absent
  * @returns {LockManager} the new `navigator.locks`
  * @throws {TypeError} where an option is wrong
  */

@@ -6,8 +6,8 @@ export function connect(options: ConnectOptions | PortOptions): Promise<LockMana
 /** How to connect to a server. */
 export interface ConnectOptions {
   /**
-   * The server: `ws:` or `wss:`, or in Node with the package `ws` `unix:` and the path of a socket. Where it has no path
-   * and no query of its own, the origin is the target of each handshake, as `/?origin=https%3A%2F%2Fa.test`.
+   * The server: `ws:` or `wss:`, or in Node with the package `ws` `unix:` and the path of a socket. Where it has no
+   * path and no query of its own, the origin is the target of each handshake, as `/?origin=https%3A%2F%2Fa.test`.
    */
   url: string | URL;
   /** Whose locks these are: an origin, or any URL of it. In a page it is the page's own unless it is given. */

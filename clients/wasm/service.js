@@ -7,7 +7,7 @@
 
 import { Life } from "./src/life.js";
 import { isTooLong, lineOf, MESSAGE_BYTES } from "./src/line.js";
-import { mayTouchOthers, readObject } from "./src/news.js";
+import { mayTouchOthers, readObject } from "./src/changes.js";
 import { Peer } from "./src/peer.js";
 
 /** Close codes of WebSockets (RFC 6455, section 7.4.1). */

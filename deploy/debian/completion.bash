@@ -19,8 +19,8 @@ _weblocks() {
         mapfile -t COMPREPLY < <(compgen -W "off error warn info debug trace" -- "$current")
         return
         ;;
-    --listen | --connections | --per-address | --managers | --idle | --loops | --allow-origin | --status | --status-host \
-        | --epoch | --port | --clients)
+    --listen | --connections | --per-address | --managers | --idle | --loops | --allow-origin | --status \
+        | --status-host | --epoch | --port | --clients)
         return
         ;;
     esac

@@ -102,8 +102,8 @@ async function countHandOvers(url, over) {
   };
   await time(HAND_OVER_TIME, pass);
   const { time: one, processor } = await time(HAND_OVER_TIME, pass);
-  console.log(`hand-overs among ${CLIENTS} clients over ${over}: ${one.toFixed(1)} us, ${processor.toFixed(1)} us of the processor, `
-    + `${Math.round(1e6 / one)} a second`);
+  console.log(`hand-overs among ${CLIENTS} clients over ${over}: ${one.toFixed(1)} us, `
+    + `${processor.toFixed(1)} us of the processor, ${Math.round(1e6 / one)} a second`);
   await Promise.all(clients.map((locks) => locks.close()));
 }
 

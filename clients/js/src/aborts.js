@@ -64,7 +64,7 @@ function followerOf(signal) {
   return follower;
 }
 
-/** Nobody else can reach it, and so stop its event. (Node takes a member `aborted` that a page set for the signal's.) */
+/** Nobody else can reach it, and so stop its event. (Node takes an `aborted` that a page set for the signal's own.) */
 function makeFollower(signal) {
   if (typeof AbortSignal.any !== "function") return signal;
   const follower = AbortSignal.any([signal]);

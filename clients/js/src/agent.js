@@ -81,7 +81,7 @@ export class Agent {
     return this.#requests.size === 0 && this.#waiting === 0;
   }
 
-  /** A request was sent, and news of it is waited for. */
+  /** A request was sent, and its next change is waited for. */
   beginWaiting() {
     this.#waiting += 1;
     if (this.#waiting === 1) this.#connection.isWaiting = true;

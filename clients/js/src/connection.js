@@ -53,7 +53,7 @@ export class Connection {
     this.#socket.send(JSON.stringify({ id: this.#lastId, ...message }));
   }
 
-  /** Says whether news is waited for, and so polled for where the server doesn't push. */
+  /** Says whether a change is waited for, and so polled for where the server doesn't push. */
   set isWaiting(isWaiting) {
     this.#isWaiting = isWaiting;
     this.#schedulePoll();

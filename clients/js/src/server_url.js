@@ -46,7 +46,8 @@ function readUnix(given, query) {
   const path = given.replace(/^\/+/, "/");
   const url = parse(`${UNIX_OF_WS}${path}:/${query}`);
   if (path === "" || path.includes(":") || url?.pathname !== `${path}:/`) {
-    throw new TypeError(`'${UNIX}${given}' names no socket: its path has only what a URL leaves as it is, and no colon`);
+    const why = "its path has only what a URL leaves as it is, and no colon";
+    throw new TypeError(`'${UNIX}${given}' names no socket: ${why}`);
   }
   return url.href;
 }

@@ -5,7 +5,7 @@ import { isNode } from "./platform.js";
 import { PortSocket } from "./port_socket.js";
 import { isUnix } from "./server_url.js";
 
-/** The subprotocol of servers that tell news without being asked. */
+/** The subprotocol of servers that tell what changed without being asked. */
 const PUSH = "weblocks.push";
 
 /** That of servers that do so, and tell of each grant its fencing token. */

@@ -151,7 +151,8 @@ test("a server may close a connection for its origin (1008) or for want of room 
 test("an option that is wrong is a TypeError", async () => {
   const good = { url: "ws://127.0.0.1:9", origin: "https://a.test" };
   const wrong = [
-    { url: undefined }, { url: "http://127.0.0.1/" }, { url: "no url" }, { url: "unix:" }, { url: "ws://127.0.0.1/#part" },
+    { url: undefined }, { url: "http://127.0.0.1/" }, { url: "no url" }, { url: "unix:" },
+    { url: "ws://127.0.0.1/#part" },
     { origin: undefined }, { origin: "a".repeat(40_000) },
     { kind: "page" }, { kind: null }, { bucket: "" }, { bucket: "Inbox" }, { bucket: "-a" }, { bucket: "a".repeat(65) },
     { token: "" }, { token: "two words" }, { token: "t\u00e4g" }, { heartbeat: 0 }, { heartbeat: "10" },

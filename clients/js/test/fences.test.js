@@ -232,11 +232,12 @@ test("the resource that README shows takes what is newest, and of readers what i
   }
 });
 
-test("a daemon with an epoch gives tokens that grow, by a reply, a push and a theft, and with the next epoch", async (t) => {
+test("a daemon's tokens grow, by a reply, a push and a theft, and with the next epoch", async (t) => {
   const told = [];
   for (const epoch of ["1234", "1235"]) {
     const server = await startPushing(t, { words: ["--epoch", epoch] });
-    const [first, second] = [await connectTo(t, server, { fences: true }), await connectTo(t, server, { fences: true })];
+    const first = await connectTo(t, server, { fences: true });
+    const second = await connectTo(t, server, { fences: true });
     const holding = await hold(first, "db");
     const waiting = hold(second, "db");
     await untilPending(first, 1);

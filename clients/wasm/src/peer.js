@@ -1,6 +1,6 @@
 /** One port, behind which an agent is: its texts are messages, and objects are of the connection itself. */
 
-import { LiveRequests } from "./news.js";
+import { LiveRequests } from "./changes.js";
 
 export class Peer {
   #port;

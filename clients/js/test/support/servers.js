@@ -37,7 +37,7 @@ export async function startPolled(t, { port } = {}) {
   return server;
 }
 
-/** One of each, by how it tells its news. */
+/** One of each, by how it tells what changed. */
 export const EACH = { pushed: startPushing, polled: startPolled };
 
 /** A server that pushes, behind a relay that writes down what comes, and may be deaf, slow or wrong. */

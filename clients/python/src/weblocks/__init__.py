@@ -4,8 +4,8 @@
         async with locks.request("db", mode="shared", timeout=5) as lock:
             ...
 
-`weblocks.sync` has the same for threads, and `python3 -m weblocks` for the shell. `weblocks.local` has it in one process,
-without a server, for tests.
+`weblocks.sync` has the same for threads, and `python3 -m weblocks` for the shell. `weblocks.local` has it in one
+process, without a server, for tests.
 """
 
 from . import sync

@@ -84,7 +84,7 @@ class Connection:
         return await reply
 
     def want_polls(self, wanted: bool) -> None:
-        """Says whether news is waited for: then a server without pushes is polled."""
+        """Says whether a change is waited for: then a server without pushes is polled."""
         self._polls_wanted = wanted and not self.pushes
         if self._polls_wanted and self._poll_timer is None and self.lost is None:
             self._poll_timer = self._loop.call_later(self._options.poll_interval, self._poll)

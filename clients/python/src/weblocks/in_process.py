@@ -81,10 +81,10 @@ class Local:
         return socket
 
     def tell_others(self, but: int) -> None:
-        """Gives all other agents their news, the oldest agent first."""
+        """Tells all other agents what changed for them, the oldest agent first."""
         for number, socket in self._sockets.items():
-            if number != but and (news := self.answer(socket.head + _POLL)) != _NOTHING:
-                socket.hear(b'{"id":null,' + news.removeprefix(_POLLED))
+            if number != but and (told := self.answer(socket.head + _POLL)) != _NOTHING:
+                socket.hear(b'{"id":null,' + told.removeprefix(_POLLED))
 
     def forget(self, number: int) -> None:
         """An agent has ended."""

@@ -30,7 +30,7 @@ class BadReply(Exception):
 
 @dataclass(slots=True)
 class Reply:
-    """One message of the service: the answer to the message of that id, or news that it pushed, whose id is None.
+    """One message of the service: the answer to the message of that id, or a push of what changed, whose id is None.
 
     `ok` has what was answered, unless `refusal` says why it was refused. `notices` are pairs of a request's number and
     its new phase: granted, unavailable, aborted or stolen. `fences` has the fencing tokens of those that were granted,

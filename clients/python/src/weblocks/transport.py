@@ -22,7 +22,7 @@ UNIX = "unix:"
 """What stands before the path of a Unix socket, in the place of a URL."""
 
 PUSHES = "weblocks.push"
-"""The subprotocol of a server that tells news without being asked."""
+"""The subprotocol of a server that tells what changed without being asked."""
 
 FENCES = "weblocks.fence"
 """That of a server that does so, and tells of each grant its fencing token."""

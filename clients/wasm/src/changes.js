@@ -3,7 +3,7 @@
 /** The phases with which a request has ended. */
 const ENDS = ["unavailable", "aborted", "stolen"];
 
-/** How many requests of one agent are live, by what it was told: it has news to come only while there are some. */
+/** How many requests of one agent are live, by what it was told: only while there are some may one change. */
 export class LiveRequests {
   #count = 0;
 
@@ -41,7 +41,7 @@ export function readObject(text) {
   }
 }
 
-/** Whether what was done may be news for other agents: they wait behind what was released, or held what was stolen. */
+/** Whether what was done may change others' requests: they wait behind what was released, or held what was stolen. */
 export function mayTouchOthers(message, { error }) {
   if (message === null || error !== undefined) return false;
   switch (message.op) {
