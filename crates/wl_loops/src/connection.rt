@@ -218,7 +218,7 @@ impl<'a, R: Wait, H: Host> Connection<'a, R, H> {
             return Err(Ending::Broken);
         };
         let talked = talk.go_on(self.rt, &mut self.may_push);
-        let came = talk.wire.came();
+        let came = talk.wire.byte_count();
         if came != self.came {
             self.came = came;
             self.liveness.hear(now);
@@ -257,7 +257,8 @@ impl<'a, R: Wait, H: Host> Connection<'a, R, H> {
     /// Pings a peer that is silent, and answers whether the connection is over.
     pub fn watch(&mut self, now: u64, limits: &Limits) -> bool
         ensures over { due_of self.old.liveness now limits.now ≡ End → result ≡ true }
-        ensures pinged { due_of self.old.liveness now limits.now ≡ Ping → self.new.liveness ≡ after_ping self.old.liveness }
+        ensures pinged { due_of self.old.liveness now limits.now ≡ Ping
+            → self.new.liveness ≡ after_ping self.old.liveness }
         ensures kept { due_of self.old.liveness now limits.now ≡ Nothing → result ≡ false }
         ensures same { due_of self.old.liveness now limits.now ≡ Nothing → self.new ≡ self.old }
     {

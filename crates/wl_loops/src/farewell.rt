@@ -54,7 +54,7 @@ impl Farewell {
                 }
             }
             Farewell::Draining(stream) => drain(stream),
-            Farewell::Done => done(0),
+            Farewell::Done => last_progress(0),
         }
     }
 }
@@ -69,7 +69,7 @@ pub struct Progress {
     pub may_read: bool,
 }
 
-fn done(dropped: u64) -> Progress {
+fn last_progress(dropped: u64) -> Progress {
     Progress {
         farewell: Farewell::Done,
         dropped,
@@ -92,11 +92,11 @@ fn drain(stream: Transport) -> Progress {
     let mut dropped: u64 = 0;
     for _ in 0..TURN {
         match stream.read(&mut bytes) {
-            Ok(0) => return done(dropped),
+            Ok(0) => return last_progress(dropped),
             Ok(count) => dropped = dropped.saturating_add(count as u64),
             Err(error) => {
                 if error.kind() != ErrorKind::WouldBlock {
-                    return done(dropped);
+                    return last_progress(dropped);
                 }
                 return Progress {
                     farewell: Farewell::Draining(stream),

@@ -48,7 +48,7 @@ impl<S> Counted<S> {
     }
 
     /// How many bytes came, at most 2^64 - 1.
-    pub fn came(&self) -> u64
+    pub fn byte_count(&self) -> u64
         ensures { result ≡ self.now.came }
     {
         self.came

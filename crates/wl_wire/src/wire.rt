@@ -49,10 +49,10 @@ impl<S: Read + Write + Drop> Wire<S> {
     }
 
     /// How many bytes came.
-    pub fn came(&self) -> u64
+    pub fn byte_count(&self) -> u64
         ensures { result ≡ self.now.socket.stream.came }
     {
-        self.socket.get_ref().came()
+        self.socket.get_ref().byte_count()
     }
 
     /// The stream may be ready for something. It is read until it blocks.

@@ -80,10 +80,10 @@ const PUSHED: &str = "pushed";
 /// How far a handshake is, as text.
 fn greeted_text(alloc: Global, script: Script) -> Result<&'static str, AllocError> {
     let greeted = greet(alloc, script)?;
-    Ok(told_of(&greeted))
+    Ok(show_greeted(&greeted))
 }
 
-fn told_of(greeted: &Greeted<Script>) -> &'static str {
+fn show_greeted(greeted: &Greeted<Script>) -> &'static str {
     match greeted {
         Greeted::Waits(_) => "waits",
         Greeted::Open(_, admitted) if admitted.is_pushed() => PUSHED,
@@ -164,9 +164,9 @@ hello 20 -> again waits waits waits 1: x x x x x x x x x x x x x x x x x x x x
     "hello a b; 1 0 -> waits waits waits waits 1: a b
 hello a b c; 2 0 0 0 0 0 -> waits waits waits waits 1: half
 hello ping a; 0 0 -> waits waits waits waits 1: pong a
-pushed mark a -> waits waits waits waits 1: mark a news
-pushed mark wait a -> waits waits waits waits 1: mark news a
-pushed mark wait a; 4 0 0 -> waits waits waits waits 1: mark news a
+pushed mark a -> waits waits waits waits 1: mark a push
+pushed mark wait a -> waits waits waits waits 1: mark push a
+pushed mark wait a; 4 0 0 -> waits waits waits waits 1: mark push a
 hello mark wait a -> waits waits waits waits 1: mark a
 ",
     // Ends.

@@ -19,7 +19,8 @@ module _ {S P : Type 0} (remaining contents : S → Option (List ℕ)) (answers 
     (pushes : P → List ℕ → P → Type 0) (rests : P → P → Type 0) where
   -- where a step lets another follow, nothing waits
   abbrev pub Steps : ℕ → Socket (Counted S) × P → Stepped P → Socket (Counted S) → Type 0
-  Steps most old (stepped.Went speaker) new = Advances remaining contents answers pushes rests most old (new, speaker) × (new.output ≡ [])
+  Steps most old (stepped.Went speaker) new = Advances remaining contents answers pushes rests most old (new, speaker)
+      × (new.output ≡ [])
   Steps most old (stepped.Stops speaker) new = Advances remaining contents answers pushes rests most old (new, speaker)
   Steps most old (stepped.Ended ending) new = Finishes remaining contents answers pushes rests most old ending new
 

@@ -59,7 +59,7 @@ fn make_calls<R: Wait>(
         }
         is_first = false;
         match call {
-            "came" => write!(came, "{}", wire.came())?,
+            "came" => write!(came, "{}", wire.byte_count())?,
             "blocked" => write!(came, "{}", wire.is_blocked())?,
             "flush" => write!(came, "{:?}", wire.flush())?,
             "ping" => write!(came, "{:?}", wire.ping())?,

@@ -55,7 +55,7 @@ impl Speaker for Echo {
             return Ok((echo, None));
         }
         echo.is_marked = false;
-        match String::from_str(echo.alloc, "news") {
+        match String::from_str(echo.alloc, "push") {
             Ok(text) => Ok((echo, Some(text))),
             Err(_) => {
                 echo.end(rt);
