@@ -145,7 +145,7 @@ Options:
       --connections <NUMBER>
           Connections at once, 1 to 1000000 [default: 10000]
       --per-address <NUMBER>
-          Connections at once from one address [default: a quarter of all; all from this machine]
+          Connections at once from one address, 1 to 1000000 [default: a quarter of all; all from this machine]
       --managers <NUMBER>
           Buckets at once that have an agent, 1 to 10000000 [default: 100000]
       --idle <SECONDS>

@@ -96,7 +96,7 @@ pub const LISTEN: &str =
 pub const CONNECTIONS: &str = "Connections at once, 1 to 1000000";
 
 pub const PER_ADDRESS: &str =
-    "Connections at once from one address [default: a quarter of all; all from this machine]";
+    "Connections at once from one address, 1 to 1000000 [default: a quarter of all; all from this machine]";
 
 pub const MANAGERS: &str = "Buckets at once that have an agent, 1 to 10000000";
 
