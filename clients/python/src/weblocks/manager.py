@@ -148,7 +148,7 @@ async def connect(
 
     Each `heartbeat` seconds the server is asked for a sign of life; if it gives none for as long again, the connection
     is lost. That should be at most a third of the server's `--idle`, which is 30 seconds. A server without pushes is
-    asked for news each `poll_interval` seconds while a request waits. `reconnect=False` makes a lost connection the
+    asked what changed each `poll_interval` seconds while a request waits. `reconnect=False` makes a lost connection the
     end of the manager. With `fences` each lock has a fencing token as `lock.fence`, if the server gives them.
     `open_timeout` is how many seconds a connection may take to be made.
 
