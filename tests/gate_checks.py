@@ -65,6 +65,13 @@ def gate_checks(made: Checkouts, kit: Kit) -> Checks:
         expect("standard error", ended.err, b"test: stopped at 'rt ci', which ended with status 1\n")
         expect("the status", ended.status, 1)
 
+    def without_kit() -> None:
+        """It says so before its first step."""
+        top = stubbed()
+        ended = run_in(top, ["./test"], env=kit.around(PATH=str(kit.path[1])))
+        missing = "the command rt of the Rattle kit, which proves the crates, is not on the PATH"
+        expect_end(ended, b"", 1, f"test: nothing is tested: {missing}\n".encode())
+
     def edited_meanwhile() -> None:
         top = stubbed()
         ended = test(top, RT_DOES="edit", RT_EDITS=str(top / "README.md"))
@@ -81,4 +88,5 @@ def gate_checks(made: Checkouts, kit: Kit) -> Checks:
     for step, status in stopped:
         yield f"./test stops at {step}", lambda it=step, number=status: stops(it, number)
     yield "./test stops at rt ci", stops_at_proofs
+    yield "./test without the kit", without_kit
     yield "a file is edited while ./test runs", edited_meanwhile

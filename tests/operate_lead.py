@@ -355,6 +355,9 @@ def wrong_words() -> None:
         ended = subprocess.run([TOP / "deploy/lead", *words], capture_output=True, stdin=subprocess.DEVNULL)
         expect(f"the status of {words}", ended.returncode, 2)
         expect(f"what is said of {words}", ended.stderr.decode().splitlines()[1][:12], "usage: lead ")
+    ended = subprocess.run([TOP / "deploy/lead", "--help"], capture_output=True, stdin=subprocess.DEVNULL)
+    expect("the status of --help", ended.returncode, 0)
+    expect("what --help says", ended.stdout.decode()[:12], "usage: lead ")
 
 
 def missing_commands() -> None:

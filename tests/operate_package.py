@@ -153,6 +153,21 @@ def no_time_is_refused(built: Built) -> None:
     is_refused(built, built.place / "timeless", why + "fatal: not a git repository: '/nowhere'", GIT_DIR="/nowhere")
 
 
+def words_are_looked_at(built: Built) -> None:
+    """Before anything is built."""
+    usage = "usage: deploy/package [FOLDER]\n"
+    nowhere = str(built.place / "nowhere")
+    for words, out, err, status in (
+        (["--help"], usage, "", 0),
+        (["one", "two"], "", usage, 2),
+        ([nowhere], "", f"deploy/package: there is no folder {nowhere}\n", 1),
+    ):
+        ended = ran([built.top / "deploy/package", *words])
+        expect(f"what {words} prints", ended.stdout.decode(), out)
+        expect(f"what is said of {words}", ended.stderr.decode(), err)
+        expect(f"the status of {words}", ended.returncode, status)
+
+
 def lintian_is_silent(built: Built) -> None:
     ended = ran(["lintian", "--allow-root", "--fail-on", "error,warning", built.file], 300)
     found = [it for it in ended.stdout.decode().splitlines() if it[:2] in ("E:", "W:")]
@@ -223,6 +238,7 @@ def package_checks(built: Built, needs: Needs) -> Checks:
     yield "the package is the same again", lambda: is_the_same_again(built)
     yield "another program is refused", lambda: another_program_is_refused(built)
     yield "a checkout without a time is refused", lambda: no_time_is_refused(built)
+    yield "the words of deploy/package are looked at", lambda: words_are_looked_at(built)
     yield "the man page has all options", lambda: page_has_all(built)
     yield "bash completes all words", lambda: bash_knows_all(built)
     zsh = "zsh completes all words"

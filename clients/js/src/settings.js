@@ -4,6 +4,7 @@ import { readServerUrl } from "./server_url.js";
 
 const KINDS = ["window", "worker"];
 const BUCKET = /^[a-z0-9][a-z0-9_-]{0,63}$/;
+const BUCKET_RULE = "1 to 64 of a-z, 0-9, - and _, the first a letter or a digit";
 const TOKEN = /^[!#$%&'*+\-.^_`|~0-9A-Za-z]+$/;
 const MESSAGE_BYTES = 65536;
 
@@ -86,7 +87,7 @@ function readKind(given) {
 
 function readBucket(given = "default") {
   const bucket = String(given);
-  if (!BUCKET.test(bucket)) throw new TypeError(`'${bucket}' isn't the name of a bucket`);
+  if (!BUCKET.test(bucket)) throw new TypeError(`'${bucket}' can't be the name of a bucket: ${BUCKET_RULE}`);
   return bucket;
 }
 

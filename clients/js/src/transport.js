@@ -104,7 +104,10 @@ async function loadSocket(url) {
       return createRequire(import.meta.url)("ws");
     } catch {
       if (isUnix(url)) throw noUnixSockets();
-      throw new TypeError("Here is no WebSocket: install the package ws, or give a class as the option WebSocket");
+      throw new TypeError(
+        "Here is no WebSocket, as Node has from version 22 on: install the package ws, name the folder of a system's " +
+          "by NODE_PATH, or give a class as the option WebSocket",
+      );
     }
   }
 }

@@ -52,7 +52,7 @@ class Words(CommandLineCase):
             (2, "'http://a.test' is no URL of a WebSocket server, such as .*", ("query", "--url", "http://a.test")),
             (77, "the origin 'a.test' is no URL, such as https://a.test", ("query", "--origin", "a.test")),
             (77, "'data:,' is of an opaque origin, which has no locks", ("query", "--origin", "data:,")),
-            (77, "'-' can't be the name of a bucket: .*", ("query", "--bucket=-")),
+            (77, "'-' can't be the name of a bucket: .*, the first a letter or a digit", ("query", "--bucket=-")),
             (2, "the name of a lock has at most 1024 bytes .*", ("with", "n" * 1025, "--", "true")),
         ):
             with self.subTest(text):

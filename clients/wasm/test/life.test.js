@@ -23,15 +23,18 @@ async function useLocks(t) {
 test("a port that answers no ping is ended after three rounds, and its locks pass on", async (t) => {
   const door = doorTo(t, serve(await make(t), { round: ROUND, locks: undefined }));
   const silent = new RawPort(t, door);
+  const pings = () => silent.objects.filter(({ type }) => type === "ping").length;
   await silent.ask(OPEN);
+  const [begun, before] = [performance.now(), pings()];
   await silent.ask(REQUEST);
+  const after = pings();
   const waiting = await connectTo(t, door);
-  const begun = performance.now();
   await hold(waiting, "db");
   const passed = performance.now() - begun;
   assert.ok(passed > 2 * ROUND, `it was ended after ${passed} ms`);
   assert.deepEqual(silent.objects.at(-1), { type: "close", code: 1006, reason: "no sign of life" });
-  assert.equal(silent.objects.filter(({ type }) => type === "ping").length, 3);
+  // (where the machine is busy, a ping goes out before the request comes in)
+  assert.ok(pings() - before >= 3 && pings() - after <= 3, `of ${pings()} pings ${before} and ${after} were before`);
 });
 
 test("a client answers pings by its message handler alone, and keeps its lock", async (t) => {

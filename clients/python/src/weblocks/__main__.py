@@ -14,7 +14,7 @@ from pathlib import Path
 from typing import Any
 
 from .command import BY_SIGNAL, FENCE, CannotRun, Job, NoFence, Signals, complain, run_job
-from .errors import Disconnected, Error, Forbidden, Refused
+from .errors import BUCKET_RULE, Disconnected, Error, Forbidden, Refused
 from .manager import LockManager, connect
 from .table import draw_table
 
@@ -206,7 +206,7 @@ def explain(error: Exception, given: argparse.Namespace) -> str:
         if error.name == "BadUrl":
             return f"the origin {given.origin!r} is no URL, such as https://a.test"
         if error.name == "BadBucket":
-            return f"{given.bucket!r} can't be the name of a bucket: 1 to 64 of a-z, 0-9, - and _"
+            return f"{given.bucket!r} can't be the name of a bucket: {BUCKET_RULE}"
         if error.name == "SecurityError":
             return f"{given.origin!r} is of an opaque origin, which has no locks"
     return str(error)

@@ -2,9 +2,12 @@
 
 from __future__ import annotations
 
+BUCKET_RULE = "1 to 64 of a-z, 0-9, - and _, the first a letter or a digit"
+"""Which texts can be the name of a bucket."""
+
 _WORDS = {
     "url": "the origin is no URL, such as https://a.test",
-    "bucket": "the bucket's name isn't 1 to 64 of a-z, 0-9, - and _, the first a letter or a digit",
+    "bucket": f"the bucket's name isn't {BUCKET_RULE}",
     "opaque-origin": "an opaque origin, as a file's, has no locks",
     "requests": "as many requests are live as it takes",
     "agents": "as many agents are live as it takes",

@@ -147,10 +147,10 @@ async def connect(
     program for, a window or a worker. `token` is what the server wants to see, if it wants one.
 
     Each `heartbeat` seconds the server is asked for a sign of life; if it gives none for as long again, the connection
-    is lost. That should be at most a quarter of the time after which the server ends silent connections. A server
-    without pushes is asked for news each `poll_interval` seconds while a request waits. `reconnect=False` makes a lost
-    connection the end of the manager. With `fences` each lock has a fencing token as `lock.fence`, if the server gives
-    them. `open_timeout` is how many seconds a connection may take to be made.
+    is lost. That should be at most a third of the server's `--idle`, which is 30 seconds. A server without pushes is
+    asked what changed each `poll_interval` seconds while a request waits. `reconnect=False` makes a lost connection the
+    end of the manager. With `fences` each lock has a fencing token as `lock.fence`, if the server gives them.
+    `open_timeout` is how many seconds a connection may take to be made.
 
     Raises ValueError for a bad URL or option, Disconnected where no server answers, Forbidden where it refuses the
     token or the target, and Refused for a bad origin or bucket.
