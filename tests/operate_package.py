@@ -223,7 +223,8 @@ def package_checks(built: Built, needs: Needs) -> Checks:
     yield "the package is the same again", lambda: is_the_same_again(built)
     yield "another program is refused", lambda: another_program_is_refused(built)
     yield "a checkout without a time is refused", lambda: no_time_is_refused(built)
-    yield "the man page has all options", lambda: page_has_all(built)
+    page = "the man page has all options"
+    yield from needs.each(page, ["man-db"], lambda: iter([(page, lambda: page_has_all(built))]))
     yield "bash completes all words", lambda: bash_knows_all(built)
     zsh = "zsh completes all words"
     yield from needs.each(zsh, ["zsh"], lambda: iter([(zsh, lambda: zsh_knows_all(built))]))
