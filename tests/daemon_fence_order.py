@@ -26,7 +26,7 @@ LOCK, EXCHANGES, REGISTERS = 0xF0, (0x86, 0x87), 0xC0
 PREFIXES, WIDE = (0x26, 0x2E, 0x36, 0x3E, 0x64, 0x65, 0x66, 0xF2, 0xF3), range(0x40, 0x50)
 LONGEST = 15
 # The seconds for which the loop is held at most: where it has the manager's lock, others can do nothing meanwhile.
-HELD = 0.5
+HELD = 1.0
 # How often it is looked which thread serves a peer.
 TRIES = 20
 # The seconds of a turn at most, and the places behind which the loop is held at least while others do theirs.

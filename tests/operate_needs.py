@@ -35,6 +35,7 @@ SIGNS = {
     "python3-seccomp": [PYTHON, "-c", "import seccomp"],
     "nodejs": ["node", "-e", NODE],
     "node-ws": ["node", "-e", "require('ws')"],
+    "chromium": ["chromium", "--version"],
 }
 
 
