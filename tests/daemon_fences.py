@@ -5,17 +5,22 @@ thefts of one name are the order of their grants.
 """
 
 import json
+import os
+import re
 import threading
 
 from daemon_pushes import URL, asked, push, release, released, request
-from daemon_server import PUSH, Daemon, framed, run_at_once
+from daemon_server import CLOSE, PUSH, Daemon, framed, run_at_once
 from running import Wrong, expect
 
 FENCE = "Sec-WebSocket-Protocol: weblocks.fence"
 EPOCH = 1234
 # The thefts of one name; tests/run_daemon --grants has others.
 GRANTS = 1_000_000
-PEERS, BATCH = 8, 25
+LOOPS, PEERS = 4, 8
+# The thefts of a connection. With more of them it would be drawn to the loop where all meet that have one lock in turn.
+BATCH = 100
+TOLD = re.compile(rb'"fence":"([0-9a-f]{16}-[0-9a-f]{16})","request":([0-9]+)')
 
 
 def word(token, epoch=EPOCH):
@@ -89,38 +94,58 @@ def counts_of_buckets_are_one(program):
 
 
 class Thief(threading.Thread):
-    """Steals one name again and again, many messages at a time."""
+    """Steals one name again and again, over one connection after another."""
 
     def __init__(self, daemon, count):
         super().__init__()
-        self.peer, self.count = daemon.opened(URL, FENCE), count
-        self.tokens, self.fault = {}, None
+        self.server, self.count = daemon, count
+        self.tokens, self.fault = [], None
 
     def run(self):
-        steal = framed('{"id":1,"op":"request","name":"db","options":{"steal":true}}') * BATCH
         try:
             for _ in range(self.count // BATCH):
-                self.peer.sock.sendall(steal)
-                replies = 0
-                while replies < BATCH:
-                    replies += self.take(json.loads(self.peer.get()))
+                self.tokens += tokens_of_thefts(self.server)
         except Exception as fault:
             self.fault = fault
 
-    def take(self, message):
-        granted = [it["request"] for it in message["notices"] if it["phase"] == "granted"]
-        fences = message.get("fences", [])
-        expect("the requests with tokens", [it["request"] for it in fences], granted)
-        self.tokens.update((it["request"], it["fence"]) for it in fences)
-        return message["id"] is not None
+
+def tokens_of_thefts(daemon):
+    """What a connection was told that steals as often as it stays on its loop, and ends: numbers with their tokens."""
+    peer = daemon.peer(FENCE)
+    steal = framed('{"id":1,"op":"request","name":"db","options":{"steal":true}}')
+    peer.sock.sendall(framed('{"id":0,"op":"open","url":"%s"}' % URL) + steal * BATCH + framed(b"", CLOSE))
+    told = [peer.buffer]
+    while data := peer.sock.recv(65536):
+        told.append(data)
+    peer.drop()
+    text = b"".join(told)
+    expect("the replies", text.count(b'"ok":{"request":'), BATCH)
+    found = [(int(number), token.decode()) for token, number in TOLD.findall(text)]
+    expect("the grants that were told", text.count(b'"phase":"granted"'), len(found))
+    return found
+
+
+def work_of_loops(daemon):
+    """The processor time of each loop so far, in the system's ticks."""
+    ticks = []
+    for thread in os.listdir(f"/proc/{daemon.child.pid}/task"):
+        with open(f"/proc/{daemon.child.pid}/task/{thread}/stat") as file:
+            words = file.read().rpartition(") ")[2].split()
+        ticks.append(int(words[11]) + int(words[12]))
+    return sorted(ticks)[-LOOPS:]
 
 
 def thieves(program, grants):
-    """In the order of the grants the tokens grow, across loops."""
-    with Daemon(program, "--epoch", str(EPOCH), "--loops", "4") as daemon:
+    """In the order of the grants the tokens grow, across loops, all of which are at it."""
+    with Daemon(program, "--epoch", str(EPOCH), "--loops", str(LOOPS)) as daemon:
+        # (its agent keeps the bucket, and so the numbers of its requests)
+        watcher = daemon.opened(URL)
         found = [Thief(daemon, grants // PEERS) for _ in range(PEERS)]
         run_at_once(found)
-    by_number = sorted((number, token) for it in found for number, token in it.tokens.items())
+        work = work_of_loops(daemon)
+        watcher.leave()
+    expect(f"whether each loop did its part, of {work}", min(work) * 4 * LOOPS > sum(work), True)
+    by_number = sorted(told for it in found for told in it.tokens)
     expect("whether most were told", len(by_number) > grants // 2, True)
     for (number, token), (later, greater) in zip(by_number, by_number[1:]):
         if token >= greater:

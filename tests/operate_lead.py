@@ -386,7 +386,7 @@ def lead_checks(built: Built, needs: Needs) -> Checks:
 
     yield "lead's words", wrong_words
     yield "what lead calls is missing", missing_commands
-    packages = ["etcd-server", "etcd-client", "curl", "python3-websockets"]
+    packages = ["etcd-server", "etcd-client", "curl", "procps", "python3-websockets"]
     yield from needs.each("failover by etcd", packages, checks)
     packages += ["systemd", "python3-seccomp"]
     filtered = "a leader under the unit's filter"

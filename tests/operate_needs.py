@@ -19,6 +19,7 @@ MOST = 3600
 NODE = "process.exit(process.versions.node.split('.')[0] >= 18 ? 0 : 1)"
 # By Debian's package: the command that tells whether what is needed of it is here.
 SIGNS = {
+    "man-db": ["man", "--version"],
     "lintian": ["lintian", "--version"],
     "systemd": ["systemd-analyze", "--version"],
     "openssl": ["openssl", "version"],
@@ -28,11 +29,13 @@ SIGNS = {
     "etcd-server": ["etcd", "--version"],
     "etcd-client": ["etcdctl", "version"],
     "curl": ["curl", "--version"],
+    "procps": ["pgrep", "--version"],
     "zsh": ["zsh", "--version"],
     "python3-websockets": [PYTHON, "-c", "import websockets"],
     "python3-seccomp": [PYTHON, "-c", "import seccomp"],
     "nodejs": ["node", "-e", NODE],
     "node-ws": ["node", "-e", "require('ws')"],
+    "chromium": ["chromium", "--version"],
 }
 
 

@@ -239,7 +239,8 @@ def package_checks(built: Built, needs: Needs) -> Checks:
     yield "another program is refused", lambda: another_program_is_refused(built)
     yield "a checkout without a time is refused", lambda: no_time_is_refused(built)
     yield "the words of deploy/package are looked at", lambda: words_are_looked_at(built)
-    yield "the man page has all options", lambda: page_has_all(built)
+    page = "the man page has all options"
+    yield from needs.each(page, ["man-db"], lambda: iter([(page, lambda: page_has_all(built))]))
     yield "bash completes all words", lambda: bash_knows_all(built)
     zsh = "zsh completes all words"
     yield from needs.each(zsh, ["zsh"], lambda: iter([(zsh, lambda: zsh_knows_all(built))]))

@@ -16,6 +16,8 @@ from running import SECONDS, Ended, Wrong, expect, read_line
 
 # What a service with DynamicUser has as its number, one of systemd's own range.
 USER = 61999
+# What the client for Node wants.
+NODE = ["nodejs", "node-ws"]
 # A group whose members may come in by a socket, and the number of a program's user.
 GROUP, OTHER = 61998, 61997
 # It lives in a space of mounts of its own, and so is gone with the process that holds it. What is written is in memory.
@@ -263,6 +265,9 @@ def root_checks(built: Built, needs: Needs) -> Checks:
         yield "the package serves in an empty root", lambda: serves_in_an_empty_root(built)
 
     def installed() -> Checks:
+        # What is installed once the root is there isn't seen in it.
+        for it in ("systemd", *NODE):
+            needs.has(it)
         root = Root(built.place / "overlay", built.file)
         try:
             if root.fault:
@@ -273,7 +278,7 @@ def root_checks(built: Built, needs: Needs) -> Checks:
                 yield "systemd understands the unit", lambda: unit_is_understood(root)
             yield "the installed daemon gives locks", lambda: gives_locks(root)
             node = "the installed client for Node gets locks"
-            yield from needs.each(node, ["nodejs", "node-ws"], lambda: iter([(node, lambda: node_gets_locks(root))]))
+            yield from needs.each(node, NODE, lambda: iter([(node, lambda: node_gets_locks(root))]))
             yield "the service's user is lent the tokens", lambda: tokens_are_lent(root)
             yield "links lead root nowhere", lambda: links_lead_nowhere(root)
             yield "tokens change under a lock", lambda: tokens_change_under_a_lock(root)

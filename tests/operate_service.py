@@ -126,4 +126,5 @@ def service_checks(built: Built, needs: Needs) -> Checks:
         yield "the unit's filter refuses the rest", lambda: filter_bites(built)
 
     yield from needs.each("the unit's exposure", ["systemd"], with_systemd)
-    yield from needs.each("the unit's filter", ["systemd", "python3-seccomp"], with_seccomp)
+    packages = ["systemd", "python3-seccomp", "python3-websockets"]
+    yield from needs.each("the unit's filter", packages, with_seccomp)
