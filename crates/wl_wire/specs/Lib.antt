@@ -1,4 +1,5 @@
 pub mod Endings
+pub mod Greetings
 pub mod Wires
 pub mod Turns
 pub mod Answers

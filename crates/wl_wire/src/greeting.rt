@@ -1,5 +1,8 @@
 //! A handshake that goes on as its stream does.
 
+ghost use Rattle.std.specs.Prelude.{◌≡◌, false, Some};
+ghost use Rattle.wl_wire.specs.Greetings.{Begins, Opens};
+
 use crate::counted::Counted;
 use crate::greeter::Greeter;
 use crate::targeted::Targeted;
@@ -45,7 +48,11 @@ pub enum Greeted<S: Read + Write + Drop> {
     Failed,
 }
 
-fn config() -> WebSocketConfig {
+fn config() -> WebSocketConfig
+    ensures messages { result.max_message_size ≡ Some 65536 }
+    ensures frames { result.max_frame_size ≡ Some 65536 }
+    ensures masked { result.accept_unmasked_frames ≡ false }
+{
     WebSocketConfig::default()
         .max_message_size(Some(LIMIT))
         .max_frame_size(Some(LIMIT))
@@ -76,7 +83,9 @@ impl<S: Read + Write + Drop> Greeting<S> {
     }
 
     /// Goes on until the stream blocks.
-    pub fn go_on(self) -> Greeted<S> {
+    pub fn go_on(self) -> Greeted<S>
+        ensures { Opens result }
+    {
         let Greeting {
             alloc,
             handshake,
@@ -105,7 +114,9 @@ impl<S: Read + Write + Drop> Greeting<S> {
 fn make_wire<S: Read + Write + Drop>(
     alloc: Global,
     socket: WebSocket<Counted<Targeted<S>>, NoMask>,
-) -> Wire<S> {
+) -> Wire<S>
+    ensures { Begins result.socket }
+{
     let stream = socket.into_inner().into_stream().into_stream();
     let counted = Counted::new(stream, u64::MAX);
     let socket = WebSocket::from_raw_socket(alloc, counted, NoMask, Role::Server, Some(config()));
