@@ -15,7 +15,8 @@ use std::{io, thread};
 use wl_admission::Rules;
 use wl_cli::{DaemonOptions, EpochSource, addresses_of};
 use wl_daemon::{
-    EntryFault, Setup, TokenFile, check_address, next_epoch, places_for, read_rules, serve,
+    EntryFault, Setup, TokenFile, WatchedTokens, check_address, next_epoch, places_for, read_rules,
+    serve,
 };
 use wl_liveness::Limits;
 use wl_status::StatusServer;
@@ -60,6 +61,19 @@ where
         has_fences,
         is_sharded,
     )
+}
+
+/// What is read again while the daemon runs, if it has a file of tokens.
+fn watched_tokens<'a>(
+    options: &'a DaemonOptions<'a>,
+    file: Option<TokenFile<'a>>,
+) -> Option<WatchedTokens<'a>> {
+    Some(WatchedTokens {
+        file: file?,
+        origins: options.allow_origins.as_slice(),
+        has_fences: options.epoch.is_some(),
+        is_sharded: options.is_sharded,
+    })
 }
 
 /// The epoch of this start, if one is asked for: where a file keeps it, it is on the disk from now on. Or why there is
@@ -152,10 +166,8 @@ where
         managers: options.managers as usize,
         limits: Limits::for_idle(options.idle),
         rules,
-        origins: options.allow_origins.as_slice(),
-        file,
+        tokens: watched_tokens(options, file),
         epoch,
-        is_sharded: options.is_sharded,
         while_input: options.while_input,
         status,
     };

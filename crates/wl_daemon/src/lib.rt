@@ -21,6 +21,7 @@ mod ring;
 mod said;
 mod serving;
 mod socket_file;
+mod threads;
 mod token_file;
 mod watching;
 
@@ -36,3 +37,4 @@ pub use crate::ring::LoopRing;
 pub use crate::serving::{ServeFault, Setup, serve};
 pub use crate::socket_file::{SocketFault, SocketFile, bind_socket};
 pub use crate::token_file::{FileFault, TokenFile};
+pub use crate::watching::WatchedTokens;

@@ -42,15 +42,48 @@ impl Over {
     }
 }
 
+/// A file of tokens, and what else the rules are made of that are put in place once it has changed.
+#[derive(Drop)]
+pub struct WatchedTokens<'a> {
+    pub file: TokenFile<'a>,
+    pub origins: &'a [&'a str],
+    pub has_fences: bool,
+    /// Whether each handshake has to name, by its target, the one origin that it is for.
+    pub is_sharded: bool,
+}
+
+impl WatchedTokens<'_> {
+    /// Reads the tokens again if their file has changed, and answers whether it has.
+    fn renew<R, H>(&mut self, rt: &R, shared: &Shared<H>) -> Result<bool, FileFault>
+    where
+        R: Wait + Files + AllocGlobal,
+    {
+        let Some(tokens) = self.file.read_changed(rt)? else {
+            return Ok(false);
+        };
+        let (origins, alloc) = (self.origins, rt.alloc());
+        let Ok(rules) = rules_with(
+            alloc,
+            origins,
+            Some(tokens),
+            self.has_fences,
+            self.is_sharded,
+        ) else {
+            return Err(FileFault::Memory);
+        };
+        match shared.set_rules(rt, rules) {
+            Ok(()) => Ok(true),
+            Err(_) => Err(FileFault::Memory),
+        }
+    }
+}
+
 /// Reads the tokens again when their file has changed, until the server has ended. Where the file is wrong the old ones
 /// stay.
 pub fn watch<R, L, H>(
     rt: &R,
     log: &L,
-    origins: &[&str],
-    has_fences: bool,
-    is_sharded: bool,
-    file: &mut TokenFile<'_>,
+    tokens: &mut WatchedTokens<'_>,
     shared: &Shared<H>,
     over: &Over,
 )
@@ -62,34 +95,10 @@ where
         if over.wait(rt, Duration::from_secs(PERIOD)) {
             return;
         }
-        match renew(rt, origins, has_fences, is_sharded, file, shared) {
+        match tokens.renew(rt, shared) {
             Ok(false) => {}
             Ok(true) => info!(log; "token file: read again"),
             Err(fault) => warn!(log; "token file: {fault}, so the old tokens stay"),
         }
-    }
-}
-
-/// Reads the tokens again if their file has changed, and answers whether it has.
-fn renew<R, H>(
-    rt: &R,
-    origins: &[&str],
-    has_fences: bool,
-    is_sharded: bool,
-    file: &mut TokenFile<'_>,
-    shared: &Shared<H>,
-) -> Result<bool, FileFault>
-where
-    R: Wait + Files + AllocGlobal,
-{
-    let Some(tokens) = file.read_changed(rt)? else {
-        return Ok(false);
-    };
-    let Ok(rules) = rules_with(rt.alloc(), origins, Some(tokens), has_fences, is_sharded) else {
-        return Err(FileFault::Memory);
-    };
-    match shared.set_rules(rt, rules) {
-        Ok(()) => Ok(true),
-        Err(_) => Err(FileFault::Memory),
     }
 }

@@ -48,6 +48,24 @@ fn run_one<R: Wait, G: Gate>(
     hall.left.notify_one();
 }
 
+/// Takes the connection that comes after so many others.
+fn accept_after(listener: &TcpListener, before: u64) -> Result<TcpStream, ListenFault>
+    ensures { IfErr result (λ fault. ended fault ≡ before) }
+{
+    match listener.accept() {
+        Ok((stream, _)) => {
+            // Without it a reply may wait for the peer's word of the one before.
+            let _ = stream.set_nodelay(true);
+            Ok(stream)
+        }
+        Err(error) => Err(if error.kind() == ErrorKind::OutOfMemory {
+            ListenFault::Memory(before)
+        } else {
+            ListenFault::Accept(before)
+        }),
+    }
+}
+
 /// Serves n connections, each on a thread of its own, at most 64 at once, and returns when all of them have ended.
 /// A connection that is accepted and can't be served is counted as one that failed.
 pub fn serve<R, G>(
@@ -77,18 +95,10 @@ where
         {
             for before in 0..n {
                 come_in(rt, shared);
-                let stream = match listener.accept() {
-                    Ok((stream, _)) => stream,
-                    Err(error) => {
-                        return Err(if error.kind() == ErrorKind::OutOfMemory {
-                            ListenFault::Memory(before)
-                        } else {
-                            ListenFault::Accept(before)
-                        });
-                    }
+                let stream = match accept_after(listener, before) {
+                    Ok(stream) => stream,
+                    Err(fault) => return Err(fault),
                 };
-                // Without it a reply may wait for the peer's word of the one before.
-                let _ = stream.set_nodelay(true);
                 let spawned = scope.spawn(move || {
                     run_one(rt, alloc, stream, gate, before + 1, service, shared)
                 });
