@@ -10,6 +10,7 @@ Checks = Iterator[tuple[str, Callable[[], None]]]
 
 LOCK = (TOP / "examples/using/lock.mjs").read_text()
 TALKS = "From `makes` and `ends` in `examples/pages/talks.mjs`:"
+PRINTED = (TOP / "crates/weblocks/stdout").read_text()
 TWO = "export function other() {}\n\nfn makes() {\n    1\n}\n\nfn ends() {\n    2\n}\n"
 
 
@@ -31,13 +32,16 @@ def using_checks(made: Checkouts, _kit: Kit) -> Checks:
         ends(text, 1, why)
 
     whole, some = "Of `examples/using/lock.mjs`:", "fn makes() {\n    1\n}\n"
+    prints = "It prints `crates/weblocks/stdout`:"
     yield "a file as it stands", lambda: ends(document(whole, "js", LOCK), 0, "passed, 0 failed")
     yield "two functions as they stand", lambda: ends(document(TALKS, "js", TWO[TWO.index("fn") :]), 0, " 0 failed")
+    yield "what a program prints", lambda: ends(document(prints, "text", PRINTED), 0, "passed, 0 failed")
     for fault, text, why in (
         ("another text", document(whole, "js", LOCK.replace("printer", "plotter")), "it is not all of"),
         ("a part of a file", document(whole, "js", LOCK.partition("\n")[0] + "\n"), "it is not all of"),
         ("another function's text", document(TALKS, "js", some), "it has nothing of fn ends of"),
         ("a changed function", document(TALKS, "js", some.replace("1", "3")), "it doesn't stand in"),
+        ("another print", document(prints, "text", PRINTED.replace("granted", "given")), "it doesn't stand in"),
         ("no file", document("Like this:", "js", some), "the line above it doesn't end with the file"),
         ("a file that isn't there", document("Of `examples/none.mjs`:", "js", some), "there is no examples/none.mjs"),
         ("a block without an end", "```js\n1\n", "line 1, js: the block doesn't end"),
