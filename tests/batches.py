@@ -27,6 +27,8 @@ PLACED = re.compile(r"(?:note: )?(?:\./)?(\S+?):(\d+):\d+:")
 ENDED = re.compile(r"fn (\S+): (.*)")
 # As `rt must-fail` reads it: a proof file names what an edit took away, or cites such a proof.
 NAMES = re.compile(r"(\./)?proofs/.*(has no field|is not in scope|has no `|was not admitted)")
+# A remark on how a proof was found, which names no goal.
+REMARK = re.compile(r"\S+:\d+:\d+: note: large solution:")
 STALE = re.compile(r"kept work of \S+ cannot be used|could not be used")
 # So much of a line `rt must-fail` prints, and so much is on record.
 WIDTH = 160
@@ -181,7 +183,7 @@ def texts_of(turns: list[Turn]) -> dict[str, str]:
 
 def reasons(lines: list[str]) -> list[str]:
     """The lines in which a check tells why the crate isn't proved, as `rt must-fail` looks for them."""
-    told = [it for it in lines if PLACED.match(it)]
+    told = [it for it in lines if PLACED.match(it) and not REMARK.match(it)]
     return [it for it in told if ": error" in it or it.startswith("note: ")] or told
 
 
