@@ -18,10 +18,16 @@ abbrev pub IsFenced : Option ℕ → List ℕ → List ℕ → Type 0
 IsFenced None text told = told ≡ text
 IsFenced (Some epoch) text told = (fences : List Fence) × (told ≡ fenced epoch fences text)
 
--- the agent's reply to a message
+-- the agent's reply to a message; the epoch stays
 abbrev pub Replies : Member → List ℕ → List ℕ → Member → Type 0
-Replies old message told new = (text : List ℕ) × Answers old.peer message text new.peer × IsFenced old.epoch text told
+Replies old message told new = (text : List ℕ) × Answers old.peer.value message text new.peer.value
+    × IsFenced old.epoch text told × (new.epoch ≡ old.epoch)
 
--- what changed for the agent
+-- what changed for the agent; the epoch stays
 abbrev pub Pushes : Member → List ℕ → Member → Type 0
-Pushes old told new = (text : List ℕ) × PushesText old.peer text new.peer × IsFenced old.epoch text told
+Pushes old told new = (text : List ℕ) × PushesText old.peer.value text new.peer.value
+    × IsFenced old.epoch text told × (new.epoch ≡ old.epoch)
+
+-- nothing changed for the agent
+abbrev pub Rests : Member → Member → Type 0
+Rests old new = (new.peer.value ≡ old.peer.value) × (new.desk ≡ old.desk) × (new.epoch ≡ old.epoch)

@@ -64,7 +64,7 @@ impl<'a, L: Log> Host for Hall<'a, L> {
 
     fn begin<R: Wait>(
         &self,
-        _rt: &R,
+        rt: &R,
         place: Place,
         admitted: Admitted,
     ) -> Result<Member<'a>, Memory> {
@@ -75,7 +75,7 @@ impl<'a, L: Log> Host for Hall<'a, L> {
         };
         let key = place.key as u64;
         let desk = Desk::new(self.alloc, self.service, admitted, event_loop, key);
-        Member::new(desk, self.fencing.as_ref())
+        Member::new(rt, desk, self.fencing.as_ref())
     }
 
     fn set_place<R: Wait>(

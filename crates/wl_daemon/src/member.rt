@@ -1,10 +1,11 @@
 //! Who answers over a connection.
 
-ghost use Rattle.std.specs.Prelude.{◌≡◌, IfOk, IfSome, None, true};
-ghost use Rattle.wl_daemon.specs.Fencing.{wants_fences};
+ghost use Rattle.std.specs.Prelude.{◌≡◌, IfOk, IfSome, true, string_bytes};
+ghost use Rattle.wl_daemon.specs.Fencing.{IsFenced, wants_fences};
 
 use crate::desk::Desk;
 use crate::fencing::{Fencing, text_with_tokens, wants_fences};
+use std::alloc::AllocFailed;
 use std::sync::Wait;
 use wl_loops::Listener;
 use wl_server::{NoAnswer, Peer};
@@ -19,61 +20,62 @@ const BUSY: &str = "too many buckets are open";
 
 /// The agent of a connection, and where it opens. It can't be dropped: who has one has to end it.
 pub struct Member<'a> {
-    pub peer: Peer,
-    pub desk: Desk<'a>,
+    // In boxes, since a member goes through many hands with each message.
+    pub peer: Box<Peer>,
+    pub desk: Box<Desk<'a>>,
     /// That of the tokens which it is told; none where it is told none.
     pub epoch: Option<u64>,
 }
 
 impl<'a> Speaker for Member<'a> {
-    ghost use Rattle.wl_daemon.specs.Fencing.{Pushes, Replies};
+    ghost use Rattle.wl_daemon.specs.Fencing.{Pushes, Replies, Rests};
 
     ghost answers = { Replies };
 
     ghost pushes = { Pushes };
 
+    ghost rests = { Rests };
+
     fn answer<R: Wait>(self, rt: &R, message: &[u8]) -> Result<(Member<'a>, Answer), Memory> {
-        let Member { peer, desk, epoch } = self;
-        let event_loop = desk.event_loop;
+        let mut member = self;
+        let event_loop = member.desk.event_loop;
         event_loop.counts.hear(message);
+        let peer = member.take();
         // Locked for this message alone.
         let mut scratch = event_loop.scratch.lock(rt);
-        let answered = peer.answer_by(rt, &desk, message, &mut scratch);
+        let answered = peer.answer_by(rt, &*member.desk, message, &mut scratch);
         drop(scratch);
         match answered {
             Ok((peer, text)) => {
                 event_loop.counts.reply(text.as_str());
-                match text_with_tokens(desk.alloc, epoch, &peer, text) {
-                    Ok(text) => Ok((Member { peer, desk, epoch }, Answer::Text(text))),
-                    Err(Memory) => {
-                        peer.end_by(rt, &desk);
-                        Err(Memory)
-                    }
-                }
+                let (member, text) = member.put(rt, peer, text)?;
+                Ok((member, Answer::Text(text)))
             }
-            Err(NoAnswer::Memory) => Err(Memory),
-            Err(NoAnswer::Forbidden) => Ok((
-                Member::with_closed_peer(desk),
-                Answer::End(Ending::Forbidden(FORBIDDEN)),
-            )),
-            Err(NoAnswer::TooManyManagers) => Ok((
-                Member::with_closed_peer(desk),
-                Answer::End(Ending::Busy(BUSY)),
-            )),
+            // In each of these the agent was terminated.
+            Err(NoAnswer::Memory) => {
+                member.end(rt);
+                Err(Memory)
+            }
+            Err(NoAnswer::Forbidden) => Ok((member, Answer::End(Ending::Forbidden(FORBIDDEN)))),
+            Err(NoAnswer::TooManyManagers) => Ok((member, Answer::End(Ending::Busy(BUSY)))),
         }
     }
 
     fn push<R: Wait>(self, rt: &R) -> Result<(Member<'a>, Option<String>), Memory> {
-        let Member { peer, desk, epoch } = self;
-        let (peer, text) = peer.push(rt, &desk)?;
-        let Some(text) = text else {
-            return Ok((Member { peer, desk, epoch }, None));
-        };
-        desk.event_loop.counts.push(text.as_str());
-        match text_with_tokens(desk.alloc, epoch, &peer, text) {
-            Ok(text) => Ok((Member { peer, desk, epoch }, Some(text))),
+        let mut member = self;
+        let peer = member.take();
+        match peer.push(rt, &*member.desk) {
+            Ok((peer, text)) => {
+                let Some(text) = text else {
+                    member.seat(rt, peer);
+                    return Ok((member, None));
+                };
+                member.desk.event_loop.counts.push(text.as_str());
+                let (member, text) = member.put(rt, peer, text)?;
+                Ok((member, Some(text)))
+            }
             Err(Memory) => {
-                peer.end_by(rt, &desk);
+                member.end(rt);
                 Err(Memory)
             }
         }
@@ -85,34 +87,74 @@ impl<'a> Speaker for Member<'a> {
             desk,
             epoch: _epoch,
         } = self;
-        peer.end_by(rt, &desk)
+        Box::into_inner(peer).end_by(rt, &*desk)
     }
 }
 
 impl<'a> Member<'a> {
     /// A member that didn't open yet. It is told tokens where the server has them, and its handshake selected them.
-    pub fn new(desk: Desk<'a>, fencing: Option<&Fencing>) -> Result<Member<'a>, Memory>
+    pub fn new<R: Wait>(
+        rt: &R,
+        desk: Desk<'a>,
+        fencing: Option<&Fencing>,
+    ) -> Result<Member<'a>, Memory>
         ensures { IfOk result (λ member. IfSome member.epoch
-            (λ epoch. wants_fences member.desk.admitted.selected ≡ true)) }
+            (λ epoch. wants_fences member.desk.value.admitted.selected ≡ true)) }
     {
-        match fencing {
+        let alloc = desk.alloc;
+        let desk = Box::new(alloc, desk)?;
+        let (peer, epoch) = match fencing {
             Some(fencing) if wants_fences(&desk.admitted) => {
                 let counter = fencing.counter.share()?;
-                let peer = Peer::with_fences(desk.alloc, counter);
-                let epoch = Some(fencing.epoch);
-                Ok(Member { peer, desk, epoch })
+                (Peer::with_fences(alloc, counter), Some(fencing.epoch))
             }
-            _ => Ok(Member::with_closed_peer(desk)),
+            _ => (Peer::new(alloc), None),
+        };
+        match Box::new(alloc, peer) {
+            Ok(peer) => Ok(Member { peer, desk, epoch }),
+            Err(AllocFailed { value }) => {
+                value.end_by(rt, &*desk);
+                Err(Memory)
+            }
         }
     }
 
-    /// A member whose agent, if it had one, was terminated.
-    fn with_closed_peer(desk: Desk<'a>) -> Member<'a>
-        ensures { result.epoch ≡ None }
+    /// Takes the peer out. One that didn't open stands in its place.
+    fn take(&mut self) -> Peer
+        ensures peer { result ≡ self.old.peer.value }
+        ensures desk { self.new.desk ≡ self.old.desk }
+        ensures epoch { self.new.epoch ≡ self.old.epoch }
     {
-        let peer = Peer::new(desk.alloc);
-        let epoch = None;
-        Member { peer, desk, epoch }
+        let fresh = Peer::new(self.desk.alloc);
+        Box::replace(&mut self.peer, fresh)
+    }
+
+    /// Has this peer stand in the place of the one that is there, which ends.
+    fn seat<R: Wait>(&mut self, rt: &R, peer: Peer)
+        ensures peer { self.new.peer.value ≡ peer }
+        ensures desk { self.new.desk ≡ self.old.desk }
+        ensures epoch { self.new.epoch ≡ self.old.epoch }
+    {
+        let other = Box::replace(&mut self.peer, peer);
+        other.end_by(rt, &*self.desk);
+    }
+
+    /// Puts the peer back, and answers what it made as its connection is told it. Where memory is refused it has ended.
+    fn put<R: Wait>(self, rt: &R, peer: Peer, text: String) -> Result<(Member<'a>, String), Memory>
+        ensures peer { IfOk result (λ told. told.0.peer.value ≡ peer) }
+        ensures epoch { IfOk result (λ told. told.0.epoch ≡ self.entry.epoch) }
+        ensures text { IfOk result (λ told. IsFenced self.entry.epoch (string_bytes text) (string_bytes told.1)) }
+    {
+        let mut member = self;
+        let told = text_with_tokens(member.desk.alloc, member.epoch, &peer, text);
+        member.seat(rt, peer);
+        match told {
+            Ok(told) => Ok((member, told)),
+            Err(Memory) => {
+                member.end(rt);
+                Err(Memory)
+            }
+        }
     }
 }
 
