@@ -44,8 +44,8 @@ fn word(entry: &Entry) -> &'static str {
 
 /// Does the calls of a list on a new book, and gives the list as it came out. Beside those of every core (`do_list`)
 /// there are `count` (how many entries it has, and how many it has had), `entries`, `cut` (the entries that it hands
-/// out),
-/// `audit` (of the entries, from the base), `base` (whether that is the state) and `sight` (of the first agent).
+/// out), `checkpoint`, `audit` (of the entries, from the base), `base` (whether that is the state) and `sight` (of the
+/// first agent).
 fn run_by_book(alloc: Global, list: &str) -> Result<String, Memory> {
     let mut book: Book<PlainCore> = opening(alloc, ());
     let mut came = String::new(alloc);
@@ -71,6 +71,10 @@ fn add_call(
             show_entries(alloc, book.entries())?
         )?,
         "cut" => write!(came, "cut -> {}\n", show_entries(alloc, &book.cut()?)?)?,
+        "checkpoint" => {
+            book.checkpoint()?;
+            came.push_str("checkpoint -> done\n")?;
+        }
         "base" => write!(came, "base -> {}\n", book.copy_plain()? == *book.base())?,
         "sight" => write!(came, "sight -> {}\n", sight(alloc, book)?)?,
         _ => came.push_str(do_list(alloc, book, call)?.as_str())?,
@@ -108,6 +112,27 @@ audit -> Ok(())
 base -> true
 ";
 
+/// A checkpoint drops the entries, and what comes after it is recorded from there, once more in the same room.
+const CHECKPOINTS: &str = "\
+open window -> Agent(1)
+request 1 db -> Request(1), 1 Granted
+checkpoint -> done
+count -> 0 of 2
+entries -> 0
+base -> true
+take 1 -> Took(Taken)
+release 1 1 -> Released(Released), 1 Released
+entries -> take release 2
+count -> 2 of 4
+audit -> Ok(())
+base -> false
+checkpoint -> done
+count -> 0 of 4
+audit -> Ok(())
+base -> true
+query 1 -> held, waiting
+";
+
 /// A call that changes nothing isn't recorded, but a window that is made what it was is.
 const NOTHING_HAPPENS: &str = "\
 open window -> Agent(1)
@@ -130,7 +155,7 @@ count -> 5 of 5
 
 #[test]
 fn a_book_records_what_was_accepted(rt: HostRuntime) -> Result<(), Fail> {
-    for list in [ONE_LOCK, NOTHING_HAPPENS] {
+    for list in [ONE_LOCK, CHECKPOINTS, NOTHING_HAPPENS] {
         assert_eq!(rt; run_by_book(rt.alloc(), list)?.as_str(), list);
     }
     Ok(())

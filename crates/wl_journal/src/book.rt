@@ -8,7 +8,7 @@ ghost use Rattle.wl_journal.specs.History.{IsLegal, state_of};
 ghost use Rattle.wl_journal.specs.Books.{cut_off};
 
 use crate::entry::Entry;
-use crate::room::count_owed;
+use crate::room::{clear_entries, count_owed};
 use std::alloc::Global;
 use std::marker::Model;
 use wl_core::{Command, LockCore, PlainCore, Reply};
@@ -127,6 +127,17 @@ impl<C: LockCore> Book<C> {
         }
     }
 
+    /// The state as the base of what comes after a cut. `Memory` also where `total` has reached 2^62.
+    fn copy_base(&self) -> Result<PlainCore, Memory>
+        ensures base { IfOk result (λ base. base.state ≡ self.now.state) }
+        ensures bounded { OnOk result (self.now.total < 2 ^ 62) }
+    {
+        if self.total() >= MOST_RECORDED {
+            return Err(Memory);
+        }
+        self.core.copy_plain()
+    }
+
     /// Hands out the entries and goes on from here: the base becomes the state, and there are no entries. `Memory`,
     /// with the book as it was, also where `total` has reached 2^62.
     pub fn cut(&mut self) -> Result<Vec<Entry>, Memory>
@@ -136,17 +147,31 @@ impl<C: LockCore> Book<C> {
         ensures bounded { OnOk result (self.old.total < 2 ^ 62) }
         ensures unchanged { OnErr result (self.new ≡ self.old) }
     {
-        let total = self.handed_out + self.entries.len() as u64;
-        if total >= MOST_RECORDED {
-            return Err(Memory);
-        }
-        let base = self.core.copy_plain()?;
+        let base = self.copy_base()?;
         let owed = count_owed(&base);
+        let total = self.total();
         let empty = Vec::with_capacity(self.alloc, owed)?;
         let entries = std::mem::replace(&mut self.entries, empty);
         self.base = base;
         self.owed = owed;
         self.handed_out = total;
         Ok(entries)
+    }
+
+    /// `cut`, by which the entries are dropped, and their room is kept for those that come. `Memory`, with the book as
+    /// it was, as `cut`.
+    pub fn checkpoint(&mut self) -> Result<(), Memory>
+        ensures cut { OnOk result (self.new ≡ cut_off self.old) }
+        ensures bounded { OnOk result (self.old.total < 2 ^ 62) }
+        ensures unchanged { OnErr result (self.new ≡ self.old) }
+    {
+        let state = self.copy_base()?;
+        let owed = count_owed(&state);
+        let recorded = self.total();
+        clear_entries(self.alloc, &mut self.entries, owed)?;
+        self.base = state;
+        self.owed = owed;
+        self.handed_out = recorded;
+        Ok(())
     }
 }

@@ -70,10 +70,9 @@ impl<C: LockCore, T: Count> Agent<C, T> {
             Err(refusal) => return Err(refusal),
         };
         let tells = tells_of_another(locked.changes(), number);
-        let cut = locked.trim();
+        locked.trim();
         drop(locked);
         self.manager.wake(tells);
-        drop(cut);
         Ok(Ticket {
             manager,
             owner,
@@ -108,9 +107,8 @@ impl<C: LockCore, T: Count> Agent<C, T> {
     {
         let mut locked = self.manager.lock(rt);
         let signal = locked.new_signal(self.number, &mut self.share)?;
-        let cut = locked.trim();
+        locked.trim();
         drop(locked);
-        drop(cut);
         Ok(signal)
     }
 
@@ -147,9 +145,8 @@ impl<C: LockCore, T: Count> Agent<C, T> {
     {
         let mut locked = self.manager.lock(rt);
         locked.set_active(self.number, active, &mut self.share)?;
-        let cut = locked.trim();
+        locked.trim();
         drop(locked);
-        drop(cut);
         Ok(())
     }
 

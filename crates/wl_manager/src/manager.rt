@@ -123,9 +123,8 @@ impl<C: LockCore, T: Count> Manager<C, T> {
         };
         let mut locked = this.lock(rt);
         let (number, share) = locked.open(kind)?;
-        let cut = locked.trim();
+        locked.trim();
         drop(locked);
-        drop(cut);
         Ok(Agent {
             manager,
             number,

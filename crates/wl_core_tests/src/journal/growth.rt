@@ -43,6 +43,16 @@ fn try_cut(book: &mut Book<PlainCore>) -> Result<(), Fail> {
     fail_refused(is_as_before && book.cut()?.len() == 4)
 }
 
+/// A checkpoint that is refused memory leaves all entries there, and drops them when it is asked again.
+fn try_checkpoint(book: &mut Book<PlainCore>) -> Result<(), Fail> {
+    if book.checkpoint().is_ok() {
+        return Ok(());
+    }
+    let is_as_before = book.len() == 4 && book.total() == 4;
+    book.checkpoint()?;
+    fail_refused(is_as_before && book.is_empty() && book.total() == 4)
+}
+
 /// How many entries an agent sees, if it is refused nothing but memory.
 fn count_seen(book: &Book<PlainCore>) -> Option<u64> {
     match book.sight(1) {
@@ -64,10 +74,15 @@ fn try_sights(book: &Book<PlainCore>) -> Result<(), Fail> {
     }
 }
 
-fn try_calls(alloc: Global, book: &mut Book<PlainCore>) -> Result<(), Fail> {
+fn try_commands(alloc: Global, book: &mut Book<PlainCore>) -> Result<(), Fail> {
     for place in 0..4 {
         try_command(book, &command(alloc, place)?)?;
     }
+    Ok(())
+}
+
+fn try_calls(alloc: Global, book: &mut Book<PlainCore>) -> Result<(), Fail> {
+    try_commands(alloc, book)?;
     try_sights(book)?;
     try_cut(book)
 }
@@ -75,4 +90,11 @@ fn try_calls(alloc: Global, book: &mut Book<PlainCore>) -> Result<(), Fail> {
 #[test]
 fn a_refused_growth_is_not_recorded(rt: HostRuntime) -> Result<(), Fail> {
     try_calls(rt.alloc(), &mut opening(rt.alloc(), ()))
+}
+
+#[test]
+fn a_refused_checkpoint_drops_nothing(rt: HostRuntime) -> Result<(), Fail> {
+    let mut book = opening(rt.alloc(), ());
+    try_commands(rt.alloc(), &mut book)?;
+    try_checkpoint(&mut book)
 }

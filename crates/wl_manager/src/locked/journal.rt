@@ -1,6 +1,6 @@
 //! The journal under the lock: what is shown of it, and its cut.
 
-ghost use Rattle.std.specs.Prelude.{◌≡◌, ◌^◌, ◌-◌, min, true, false, IfSome, OnSome, IfNone};
+ghost use Rattle.std.specs.Prelude.{◌≡◌, ◌^◌, ◌-◌, min, true, false};
 ghost use Rattle.wl_journal.specs.Books.{cut_off};
 ghost use Rattle.wl_journal.specs.History.{IsLegal};
 ghost use Rattle.wl_manager.specs.Locked.{WasCut, first};
@@ -50,22 +50,21 @@ impl<C: LockCore, T: Count> Locked<C, T> {
 
     /// Cuts the journal where it has outgrown what is live, unless all entries are kept: once it has more than 128
     /// entries, and more than two for each agent, signal and request of its base. So a cut costs a bounded number of
-    /// steps for each entry that it drops. The entries are the answer, so that they can be dropped without the lock.
-    /// Where there is no memory for a cut the journal stays, and grows on.
-    pub fn trim(&mut self) -> Option<Vec<Entry>>
-        ensures entries { IfSome result (λ entries. entries.items ≡ self.old.book.entries) }
-        ensures cut { OnSome result ((T.KEEPS_ALL ≡ false) × (self.new
-            ≡ record self.old { book = cut_off self.old.book })) }
-        ensures unchanged { IfNone result (self.new ≡ self.old) }
+    /// steps for each entry that it drops. Answers whether it was cut. Where there is no memory for a cut the journal
+    /// stays, and grows on.
+    pub fn trim(&mut self) -> bool
+        ensures cut { result ≡ true → (T.KEEPS_ALL ≡ false) × (self.new
+            ≡ record self.old { book = cut_off self.old.book }) }
+        ensures unchanged { result ≡ false → self.new ≡ self.old }
     {
         if T::KEEPS_ALL {
-            return None;
+            return false;
         }
         let entries = self.book.entries().len();
         if entries > FEW && entries / 2 > rows(self.book.base()) {
-            return self.book.cut().ok();
+            return self.book.checkpoint().is_ok();
         }
-        None
+        false
     }
 }
 
