@@ -24,10 +24,11 @@ fn token_of(place: usize) -> usize
     FIRST.saturating_sub(place)
 }
 
-/// What takes connections in, and gives them to the loops in turn.
+/// What takes connections in, and gives each to the loop that has the fewest.
 #[derive(Drop)]
 pub struct Acceptor {
     listeners: Vec<TransportListener>,
+    // The loop whose turn it is, of those that have as few.
     next: usize,
 }
 
@@ -93,18 +94,15 @@ impl Acceptor {
 
     fn give<R: Wait, H>(&mut self, rt: &R, shared: &Shared<H>, arrival: Arrival) {
         let hold = arrival.hold;
-        let next = self.next;
-        self.next = if next < shared.inboxes.len().saturating_sub(1) {
-            next + 1
-        } else {
-            0
-        };
-        if let Some(inbox) = shared.inboxes.get(next) {
+        let event_loop = shared.emptiest(self.next);
+        self.next = event_loop.wrapping_add(1);
+        if let Some(inbox) = shared.inboxes.get(event_loop) {
+            inbox.count_in();
             if inbox.give(rt, arrival) {
                 inbox.rouse();
                 return;
             }
         }
-        shared.free_place(rt, hold);
+        shared.leave(rt, event_loop, hold);
     }
 }

@@ -222,7 +222,7 @@ impl<'a, 'b, R: Wait + Clock, H: Host> EventLoop<'a, 'b, R, H> {
             };
             let hold = arrival.hold;
             if self.is_leaving || self.take_in(arrival).is_err() {
-                self.shared.free_place(self.rt, hold);
+                self.shared.leave(self.rt, self.number, hold);
             }
         }
     }
@@ -265,7 +265,7 @@ impl<'a, 'b, R: Wait + Clock, H: Host> EventLoop<'a, 'b, R, H> {
     fn end_one(&mut self, key: usize) {
         if let Some(Served { connection, hold }) = self.served.try_remove(key) {
             drop(connection);
-            self.shared.free_place(self.rt, hold);
+            self.shared.leave(self.rt, self.number, hold);
         }
     }
 
@@ -341,7 +341,13 @@ impl<'a, 'b, R: Wait + Clock, H: Host> EventLoop<'a, 'b, R, H> {
             return;
         }
         self.swept = self.now;
-        watch_all(self.rt, self.shared, &mut self.served, self.now);
+        watch_all(
+            self.rt,
+            self.shared,
+            self.number,
+            &mut self.served,
+            self.now,
+        );
         self.accept_all();
         // Those for which there was no memory are looked at once more.
         if let Some(inbox) = self.shared.inboxes.get(self.number) {

@@ -22,6 +22,7 @@ pub(crate) struct Served<'a, R: Wait, H: Host> {
 pub(crate) fn watch_all<'a, R: Wait, H: Host>(
     rt: &R,
     shared: &Shared<H>,
+    event_loop: usize,
     served: &mut Slab<Served<'a, R, H>>,
     now: u64,
 )
@@ -30,7 +31,7 @@ pub(crate) fn watch_all<'a, R: Wait, H: Host>(
     let limits = *shared.host.limits();
     for key in 0..served.capacity() {
         if let Some(hold) = watch_one(served, key, now, &limits) {
-            shared.free_place(rt, hold);
+            shared.leave(rt, event_loop, hold);
         }
     }
 }

@@ -12,7 +12,7 @@ use mio::{Poll, Token, Waker};
 use std::alloc::{AllocError, Global};
 use std::io;
 use std::net::Net;
-use std::sync::atomic::{AtomicBool, AtomicU64, Ordering};
+use std::sync::atomic::{AtomicBool, AtomicU64, AtomicUsize, Ordering};
 use std::sync::{Arc, Mutex, Wait};
 use std::thread::sleep;
 use std::time::{Clock, Duration};
@@ -75,6 +75,8 @@ pub(crate) struct Inbox {
     has_newcomers: AtomicBool,
     // The last beat that the loop answered.
     answered: AtomicU64,
+    // The connections that it serves, and those that are on their way to it.
+    connections: AtomicUsize,
 }
 
 impl Inbox {
@@ -85,7 +87,18 @@ impl Inbox {
             arrivals: Mutex::new(Vec::new(alloc)),
             has_newcomers: AtomicBool::new(false),
             answered: AtomicU64::new(0),
+            connections: AtomicUsize::new(0),
         }
+    }
+
+    /// The loop has one connection more, or is about to.
+    pub fn count_in(&self) {
+        self.connections.fetch_add(1, Ordering::SeqCst);
+    }
+
+    /// It has one less.
+    pub fn count_out(&self) {
+        self.connections.fetch_sub(1, Ordering::SeqCst);
     }
 
     /// The loop is there, and was asked for that by this beat.
@@ -248,11 +261,38 @@ impl<H> Shared<H> {
         }
     }
 
-    pub(crate) fn free_place<R: Wait>(&self, rt: &R, hold: Hold) {
+    fn free_place<R: Wait>(&self, rt: &R, hold: Hold) {
         match hold {
             Hold::Served(source) => self.places.lock(rt).free(source),
             Hold::TurnedAway(source) => self.turned_away.lock(rt).free(source),
         }
+    }
+
+    /// A connection of this loop is over: its place is free again.
+    pub(crate) fn leave<R: Wait>(&self, rt: &R, event_loop: usize, hold: Hold) {
+        if let Some(inbox) = self.inboxes.get(event_loop) {
+            inbox.count_out();
+        }
+        self.free_place(rt, hold);
+    }
+
+    /// The loop that has the fewest connections. Of several such it is the first from this one on, where behind the last
+    /// loop comes the first.
+    pub(crate) fn emptiest(&self, from: usize) -> usize {
+        let loops = self.inboxes.len();
+        let mut emptiest = 0;
+        let mut fewest = usize::MAX;
+        for step in 0..loops {
+            let event_loop = from.wrapping_add(step) % loops;
+            if let Some(inbox) = self.inboxes.get(event_loop) {
+                let connections = inbox.connections.load(Ordering::SeqCst);
+                if connections < fewest {
+                    emptiest = event_loop;
+                    fewest = connections;
+                }
+            }
+        }
+        emptiest
     }
 
     /// How many connections have a place.

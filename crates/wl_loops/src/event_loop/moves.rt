@@ -34,13 +34,24 @@ impl<'a, 'b, R: Wait + Clock, H: Host> EventLoop<'a, 'b, R, H> {
 
     /// Sends the connection of this key to another loop.
     fn send_away(&mut self, key: usize, to: usize) {
-        let (Some(lobby), Some(inbox)) = (self.lobby, self.shared.inboxes.get(to)) else {
+        let inboxes = &self.shared.inboxes;
+        let (Some(lobby), Some(here), Some(there)) = (
+            self.lobby,
+            inboxes.get(self.number),
+            inboxes.get(to),
+        ) else {
             return;
         };
-        if let Some(source) = lobby.send(self.rt, &mut self.served, key, self.poll.registry(), to) {
-            inbox.set_newcomers();
-            inbox.rouse();
-            self.shared.host.note(Event::Moved(source, to));
+        // It counts there before it can end there.
+        there.count_in();
+        match lobby.send(self.rt, &mut self.served, key, self.poll.registry(), to) {
+            Some(source) => {
+                here.count_out();
+                there.set_newcomers();
+                there.rouse();
+                self.shared.host.note(Event::Moved(source, to));
+            }
+            None => there.count_out(),
         }
     }
 
@@ -71,7 +82,7 @@ impl<'a, 'b, R: Wait + Clock, H: Host> EventLoop<'a, 'b, R, H> {
     fn put_moved(&mut self, served: Served<'a, R, H>) {
         let hold = served.hold;
         let Ok(key) = self.served.insert(served) else {
-            self.shared.free_place(self.rt, hold);
+            self.shared.leave(self.rt, self.number, hold);
             return;
         };
         if let Some(served) = self.served.get_mut(key) {
