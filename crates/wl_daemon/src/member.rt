@@ -1,6 +1,7 @@
 //! Who answers over a connection.
 
 ghost use Rattle.std.specs.Prelude.{◌≡◌, IfOk, IfSome, true, string_bytes};
+ghost use Rattle.wl_session.specs.Step.{closed};
 ghost use Rattle.wl_daemon.specs.Fencing.{IsFenced, wants_fences};
 
 use crate::desk::Desk;
@@ -20,7 +21,7 @@ const BUSY: &str = "too many buckets are open";
 
 /// The agent of a connection, and where it opens. It can't be dropped: who has one has to end it.
 pub struct Member<'a> {
-    // In boxes, since a member goes through many hands with each message.
+    // In boxes, since a member goes through many hands with each message; what it says is made where the peer stands.
     pub peer: Box<Peer>,
     pub desk: Box<Desk<'a>>,
     /// That of the tokens which it is told; none where it is told none.
@@ -37,43 +38,43 @@ impl<'a> Speaker for Member<'a> {
     ghost rests = { Rests };
 
     fn answer<R: Wait>(self, rt: &R, message: &[u8]) -> Result<(Member<'a>, Answer), Memory> {
-        let mut member = self;
-        let event_loop = member.desk.event_loop;
+        let Member { peer, desk, epoch } = self;
+        let mut peer = peer;
+        let event_loop = desk.event_loop;
         event_loop.counts.hear(message);
-        let peer = member.take();
         // Locked for this message alone.
         let mut scratch = event_loop.scratch.lock(rt);
-        let answered = peer.answer_by(rt, &*member.desk, message, &mut scratch);
+        let answered = peer.reply(rt, &*desk, message, &mut scratch);
         drop(scratch);
+        let member = Member { peer, desk, epoch };
         match answered {
-            Ok((peer, text)) => {
+            Ok(text) => {
                 event_loop.counts.reply(text.as_str());
-                let (member, text) = member.put(rt, peer, text)?;
+                let (member, text) = member.with_tokens(rt, text)?;
                 Ok((member, Answer::Text(text)))
             }
-            // In each of these the agent was terminated.
             Err(NoAnswer::Memory) => {
                 member.end(rt);
                 Err(Memory)
             }
+            // Neither of these opened an agent.
             Err(NoAnswer::Forbidden) => Ok((member, Answer::End(Ending::Forbidden(FORBIDDEN)))),
             Err(NoAnswer::TooManyManagers) => Ok((member, Answer::End(Ending::Busy(BUSY)))),
         }
     }
 
     fn push<R: Wait>(self, rt: &R) -> Result<(Member<'a>, Option<String>), Memory> {
-        let mut member = self;
-        let peer = member.take();
-        match peer.push(rt, &*member.desk) {
-            Ok((peer, text)) => {
-                let Some(text) = text else {
-                    member.seat(rt, peer);
-                    return Ok((member, None));
-                };
+        let Member { peer, desk, epoch } = self;
+        let mut peer = peer;
+        let pushed = peer.push_text();
+        let member = Member { peer, desk, epoch };
+        match pushed {
+            Ok(Some(text)) => {
                 member.desk.event_loop.counts.push(text.as_str());
-                let (member, text) = member.put(rt, peer, text)?;
+                let (member, text) = member.with_tokens(rt, text)?;
                 Ok((member, Some(text)))
             }
+            Ok(None) => Ok((member, None)),
             Err(Memory) => {
                 member.end(rt);
                 Err(Memory)
@@ -92,13 +93,16 @@ impl<'a> Speaker for Member<'a> {
 }
 
 impl<'a> Member<'a> {
-    /// A member that didn't open yet. It is told tokens where the server has them, and its handshake selected them.
+    /// A member that didn't open yet, and opens at this desk. It is told tokens where the server has them, and its
+    /// handshake selected them.
     pub fn new<R: Wait>(
         rt: &R,
         desk: Desk<'a>,
         fencing: Option<&Fencing>,
     ) -> Result<Member<'a>, Memory>
-        ensures { IfOk result (λ member. IfSome member.epoch
+        ensures closed { IfOk result (λ member. member.peer.value ≡ closed) }
+        ensures desk { IfOk result (λ member. member.desk.value ≡ desk.entry) }
+        ensures selected { IfOk result (λ member. IfSome member.epoch
             (λ epoch. wants_fences member.desk.value.admitted.selected ≡ true)) }
     {
         let alloc = desk.alloc;
@@ -119,39 +123,15 @@ impl<'a> Member<'a> {
         }
     }
 
-    /// Takes the peer out. One that didn't open stands in its place.
-    fn take(&mut self) -> Peer
-        ensures peer { result ≡ self.old.peer.value }
-        ensures desk { self.new.desk ≡ self.old.desk }
-        ensures epoch { self.new.epoch ≡ self.old.epoch }
-    {
-        let fresh = Peer::new(self.desk.alloc);
-        Box::replace(&mut self.peer, fresh)
-    }
-
-    /// Has this peer stand in the place of the one that is there, which ends.
-    fn seat<R: Wait>(&mut self, rt: &R, peer: Peer)
-        ensures peer { self.new.peer.value ≡ peer }
-        ensures desk { self.new.desk ≡ self.old.desk }
-        ensures epoch { self.new.epoch ≡ self.old.epoch }
-    {
-        let other = Box::replace(&mut self.peer, peer);
-        other.end_by(rt, &*self.desk);
-    }
-
-    /// Puts the peer back, and answers what it made as its connection is told it. Where memory is refused it has ended.
-    fn put<R: Wait>(self, rt: &R, peer: Peer, text: String) -> Result<(Member<'a>, String), Memory>
-        ensures peer { IfOk result (λ told. told.0.peer.value ≡ peer) }
-        ensures epoch { IfOk result (λ told. told.0.epoch ≡ self.entry.epoch) }
+    /// What it made as its connection is told it. Where memory is refused it has ended.
+    fn with_tokens<R: Wait>(self, rt: &R, text: String) -> Result<(Member<'a>, String), Memory>
+        ensures member { IfOk result (λ told. told.0 ≡ self.entry) }
         ensures text { IfOk result (λ told. IsFenced self.entry.epoch (string_bytes text) (string_bytes told.1)) }
     {
-        let mut member = self;
-        let told = text_with_tokens(member.desk.alloc, member.epoch, &peer, text);
-        member.seat(rt, peer);
-        match told {
-            Ok(told) => Ok((member, told)),
+        match text_with_tokens(self.desk.alloc, self.epoch, &self.peer, text) {
+            Ok(told) => Ok((self, told)),
             Err(Memory) => {
-                member.end(rt);
+                self.end(rt);
                 Err(Memory)
             }
         }

@@ -120,7 +120,9 @@ impl Peer {
         }
     }
 
-    fn reply<R: Wait, O: Opener>(
+    /// `answer_by` of a peer that stays where it is. Where there is no reply its agent is still there: whoever has the
+    /// peer is to end it.
+    pub fn reply<R: Wait, O: Opener>(
         &mut self,
         rt: &R,
         opener: &O,
@@ -166,7 +168,9 @@ impl Peer {
         }
     }
 
-    fn push_text(&mut self) -> Result<Option<String>, Memory>
+    /// `push` of a peer that stays where it is. Where there is no memory for it its agent is still there: whoever has the
+    /// peer is to end it.
+    pub fn push_text(&mut self) -> Result<Option<String>, Memory>
         ensures text { IfOk result (λ said. IfSome said (λ text. PushesText self.old (string_bytes text) self.new)) }
         ensures none { IfOk result (λ said. IfNone said (self.new ≡ self.old)) }
     {

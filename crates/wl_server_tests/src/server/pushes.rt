@@ -24,17 +24,17 @@ fn tell_after_release<R: Wait>(rt: &R, alloc: Global, service: &Service) -> Resu
     let mut client = service.open(rt, "https://a.test/", Kind::Window)?;
     let mut ticket = client.request(rt, &ask(alloc, "db", Mode::Exclusive)?)?;
     let peer = answer_all(rt, service, Peer::new(alloc), &[OPEN, REQUEST])?;
-    let (peer, before) = peer.push(rt, service)?;
+    let (mut peer, before) = peer.push(rt, service)?;
     client.release(rt, &mut ticket);
     let is_rung = peer.is_rung();
-    let (peer, after) = peer.push(rt, service)?;
-    let (peer, again) = peer.push(rt, service)?;
+    let after = peer.push_text();
+    let again = peer.push_text();
     peer.end_by(rt, service);
     Ok(Told {
         before,
         is_rung,
-        after,
-        again,
+        after: after?,
+        again: again?,
     })
 }
 
@@ -80,6 +80,19 @@ fn open_by<R: Wait, O: Opener>(rt: &R, alloc: Global, opener: &O) -> Result<Stri
     Ok(text)
 }
 
+/// The same, by a peer that stays where it is.
+fn open_in_place<R: Wait, O: Opener>(
+    rt: &R,
+    alloc: Global,
+    opener: &O,
+) -> Result<String, NoAnswer> {
+    let mut scratch = Scratch::new(alloc);
+    let mut peer = Peer::new(alloc);
+    let text = peer.reply(rt, opener, OPEN, &mut scratch);
+    peer.end_by(rt, opener);
+    text
+}
+
 const OPENED: &str = "{\"id\":1,\"notices\":[],\"ok\":{\"client\":\"client-1\"}}";
 
 #[test]
@@ -102,5 +115,19 @@ fn an_opener_may_turn_a_peer_away(rt: HostRuntime) -> Result<(), Fail> {
         );
         assert_eq!(rt; service.managers(&rt), 0);
     }
+    Ok(())
+}
+
+#[test]
+fn a_peer_answers_where_it_stands(rt: HostRuntime) -> Result<(), Fail> {
+    assert_eq!(rt;
+        open_in_place(&rt, rt.alloc(), &Forbidding),
+        Err(NoAnswer::Forbidden)
+    );
+    let service = Service::new(&rt, rt.alloc())?;
+    assert_eq!(rt;
+        open_in_place(&rt, rt.alloc(), &service),
+        Ok(OPENED.to_string(rt.alloc())?)
+    );
     Ok(())
 }
