@@ -21,6 +21,6 @@ pub use commands::{apply, run_commands};
 pub use lock_core::LockCore;
 pub use plain::{PlainCore, PlainDraft};
 pub use realms::{KeyedRealm, Realm};
-pub use room::push_in_room;
+pub use room::{clear_list, push_in_room};
 pub use wl_machine::{AgentRow, Command, HeldRow, PendingRow, Reply, SignalRow};
 pub use wl_types::{AbortAnswer, ReleaseAnswer, TakeAnswer};

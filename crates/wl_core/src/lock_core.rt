@@ -176,4 +176,9 @@ pub trait LockCore: Drop {
     fn copy_plain(&self) -> Result<PlainCore, Memory>
         ensures state { IfOk result (λ copy. copy.state ≡ state self.now) }
         ensures recent { IfOk result (λ copy. copy.recent ≡ []) };
+
+    /// `copy_plain`, in the room of another plain core's lists. Where it is refused memory that core is gone too.
+    fn copy_plain_in(&self, room: PlainCore) -> Result<PlainCore, Memory>
+        ensures state { IfOk result (λ copy. copy.state ≡ state self.now) }
+        ensures recent { IfOk result (λ copy. copy.recent ≡ []) };
 }

@@ -317,4 +317,9 @@ impl LockCore for PlainCore {
             alloc,
         })
     }
+
+    // The core that others are compared with is plain in this too: it lets the room go.
+    fn copy_plain_in(&self, _room: PlainCore) -> Result<PlainCore, Memory> {
+        self.copy_plain()
+    }
 }

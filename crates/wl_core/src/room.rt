@@ -1,9 +1,30 @@
 //! Room in the lists for what is to come.
-ghost use Rattle.std.specs.Prelude.{◌≡◌, ◌+◌, ◌≤◌, ◌<◌, [], ◌∷◌, ◌++◌, vec_len, vec_capacity, OnOk};
+ghost use Rattle.std.specs.Prelude.{◌≡◌, ◌+◌, ◌≤◌, ◌<◌, [], ◌∷◌, ◌++◌, vec_len, vec_capacity, OnErr, OnOk};
 
-use std::alloc::AllocError;
+use std::alloc::{AllocError, Global};
 use wl_machine::{HeldRow, PendingRow};
-use wl_types::Change;
+use wl_types::{Change, Memory};
+
+/// So many values any list may have room for, and so many times what it needs.
+const FEW: usize = 128;
+
+const FAR_MORE: usize = 8;
+
+/// Drops the values, and keeps their room, so that a list that is filled again and again takes no new blocks. Room for
+/// far more than `needed` values is given back. `Memory`, with the list as it was.
+pub fn clear_list<T: Drop>(alloc: Global, needed: usize, items: &mut Vec<T>) -> Result<(), Memory>
+    requires { needed ≤ vec_capacity items.old }
+    ensures items { OnOk result (items.new.items ≡ []) }
+    ensures room { OnOk result (needed ≤ vec_capacity items.new) }
+    ensures unchanged { OnErr result (items.new ≡ items.old) }
+{
+    if items.capacity() / FAR_MORE > needed.max(FEW) {
+        *items = Vec::with_capacity(alloc, needed)?;
+    } else {
+        items.clear();
+    }
+    Ok(())
+}
 
 /// Puts a value into room that was made before, where an event may no longer fail.
 pub fn push_in_room<T: Drop>(items: &mut Vec<T>, item: T)

@@ -1,5 +1,6 @@
 //! That calls succeed with ample memory, on the plain core and on the indexed one, the limits in use, and worked runs.
 
+mod copies;
 mod growth;
 mod limits;
 mod lists;

@@ -6,6 +6,7 @@ ghost use Rattle.std.specs.Map.{keys_of, lookup};
 ghost use Rattle.std.specs.BTreeMap.{is_at};
 ghost use Rattle.std.specs.Ordering.{nat_cmp};
 ghost use Rattle.wl_machine.specs.declared.rows.HeldRow.{HeldRow};
+ghost use Rattle.wl_machine.specs.State.{opening};
 ghost use Rattle.wl_index.specs.inner.Rows.{held_of, pending_of, lock_row, is_taken};
 ghost use Rattle.wl_index.specs.inner.Queues.{names_of};
 ghost use Rattle.wl_index.specs.inner.Core.{machine_state};
@@ -125,18 +126,29 @@ fn add_requests(alloc: Global, draft: &mut PlainDraft, requests: &Requests) -> R
     Ok(())
 }
 
-/// A plain core of the same lists and next numbers.
-pub(crate) fn plain_copy(alloc: Global, agents: &Agents, locks: &Locks) -> Result<PlainCore, Memory>
+/// The numbers that a copy gives next.
+fn next_numbers(agents: &Agents, locks: &Locks) -> Numbers
+    ensures { result ≡ (machine_state agents.now.rows locks.now).next }
+{
+    Numbers {
+        agent: agents.next_agent(),
+        request: locks.requests().next(),
+        signal: agents.next_signal(),
+    }
+}
+
+/// Writes all rows in an empty draft.
+fn write_rows(
+    alloc: Global,
+    mut draft: PlainDraft,
+    agents: &Agents,
+    locks: &Locks,
+) -> Result<PlainCore, Memory>
+    requires { draft ≡ opening (machine_state agents.now.rows locks.now).next }
     ensures state { IfOk result (λ copy. copy.state ≡ machine_state agents.now.rows locks.now) }
     ensures recent { IfOk result (λ copy. copy.recent ≡ []) }
 {
     let requests = locks.requests();
-    let next = Numbers {
-        agent: agents.next_agent(),
-        request: requests.next(),
-        signal: agents.next_signal(),
-    };
-    let mut draft = PlainDraft::new(alloc, next, requests.len())?;
     add_agents(alloc, &mut draft, agents)?;
     add_signals(alloc, &mut draft, agents)?;
     add_names(alloc, &mut draft, locks.queues())?;
@@ -144,4 +156,29 @@ pub(crate) fn plain_copy(alloc: Global, agents: &Agents, locks: &Locks) -> Resul
     add_locks(alloc, &mut draft, requests, in_order)?;
     add_requests(alloc, &mut draft, requests)?;
     draft.done()
+}
+
+/// A plain core of the same lists and next numbers.
+pub(crate) fn plain_copy(alloc: Global, agents: &Agents, locks: &Locks) -> Result<PlainCore, Memory>
+    ensures state { IfOk result (λ copy. copy.state ≡ machine_state agents.now.rows locks.now) }
+    ensures recent { IfOk result (λ copy. copy.recent ≡ []) }
+{
+    let next = next_numbers(agents, locks);
+    let draft = PlainDraft::new(alloc, next, locks.requests().len())?;
+    write_rows(alloc, draft, agents, locks)
+}
+
+/// `plain_copy`, in the room of another plain core's lists.
+pub(crate) fn plain_copy_in(
+    alloc: Global,
+    room: PlainCore,
+    agents: &Agents,
+    locks: &Locks,
+) -> Result<PlainCore, Memory>
+    ensures state { IfOk result (λ copy. copy.state ≡ machine_state agents.now.rows locks.now) }
+    ensures recent { IfOk result (λ copy. copy.recent ≡ []) }
+{
+    let next = next_numbers(agents, locks);
+    let draft = PlainDraft::in_room(room, next, locks.requests().len())?;
+    write_rows(alloc, draft, agents, locks)
 }

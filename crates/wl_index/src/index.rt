@@ -10,7 +10,7 @@ ghost use Rattle.wl_index.specs.inner.Locks.{request_for};
 ghost use Rattle.wl_index.specs.inner.Rows.{tags_of};
 
 use crate::agents::Agents;
-use crate::copies::plain_copy;
+use crate::copies::{plain_copy, plain_copy_in};
 use crate::ending::{Ending, end_owned};
 use crate::locks::Locks;
 use crate::request::{Owner, Place};
@@ -287,5 +287,9 @@ impl LockCore for IndexCore {
 
     fn copy_plain(&self) -> Result<PlainCore, Memory> {
         plain_copy(self.alloc, &self.agents, &self.locks)
+    }
+
+    fn copy_plain_in(&self, room: PlainCore) -> Result<PlainCore, Memory> {
+        plain_copy_in(self.alloc, room, &self.agents, &self.locks)
     }
 }

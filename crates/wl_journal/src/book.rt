@@ -8,10 +8,10 @@ ghost use Rattle.wl_journal.specs.History.{IsLegal, state_of};
 ghost use Rattle.wl_journal.specs.Books.{cut_off};
 
 use crate::entry::Entry;
-use crate::room::{clear_entries, count_owed};
+use crate::room::count_owed;
 use std::alloc::Global;
 use std::marker::Model;
-use wl_core::{Command, LockCore, PlainCore, Reply};
+use wl_core::{Command, LockCore, PlainCore, Reply, clear_list};
 use wl_types::{Memory, Refusal, Snapshot};
 
 mod recording;
@@ -33,6 +33,8 @@ pub use requesting::copy_ask;
 pub struct Book<C: LockCore> {
     core: C,
     base: PlainCore,
+    // The base before, for the room of its lists.
+    spare: Option<PlainCore>,
     entries: Vec<Entry>,
     // No fewer than the entries that may still come without a growth, and just these after a cut: in between an end
     // that leaves some of a request's entries out isn't counted off.
@@ -127,15 +129,19 @@ impl<C: LockCore> Book<C> {
         }
     }
 
-    /// The state as the base of what comes after a cut. `Memory` also where `total` has reached 2^62.
-    fn copy_base(&self) -> Result<PlainCore, Memory>
+    /// The state as the base of what comes after a cut, in the room of another core where there is one. `Memory` also
+    /// where `total` has reached 2^62.
+    fn copy_base(&self, room: Option<PlainCore>) -> Result<PlainCore, Memory>
         ensures base { IfOk result (λ base. base.state ≡ self.now.state) }
         ensures bounded { OnOk result (self.now.total < 2 ^ 62) }
     {
         if self.total() >= MOST_RECORDED {
             return Err(Memory);
         }
-        self.core.copy_plain()
+        match room {
+            Some(core) => self.core.copy_plain_in(core),
+            None => self.core.copy_plain(),
+        }
     }
 
     /// Hands out the entries and goes on from here: the base becomes the state, and there are no entries. `Memory`,
@@ -147,7 +153,7 @@ impl<C: LockCore> Book<C> {
         ensures bounded { OnOk result (self.old.total < 2 ^ 62) }
         ensures unchanged { OnErr result (self.new ≡ self.old) }
     {
-        let base = self.copy_base()?;
+        let base = self.copy_base(None)?;
         let owed = count_owed(&base);
         let total = self.total();
         let empty = Vec::with_capacity(self.alloc, owed)?;
@@ -158,18 +164,20 @@ impl<C: LockCore> Book<C> {
         Ok(entries)
     }
 
-    /// `cut`, by which the entries are dropped, and their room is kept for those that come. `Memory`, with the book as
-    /// it was, as `cut`.
+    /// `cut`, by which the entries are dropped. Their room is kept for those that come, and that of the base for the
+    /// base after the next one, so that a book that is cut again and again takes new blocks for names alone. `Memory`,
+    /// with the book as it was, as `cut`.
     pub fn checkpoint(&mut self) -> Result<(), Memory>
         ensures cut { OnOk result (self.new ≡ cut_off self.old) }
         ensures bounded { OnOk result (self.old.total < 2 ^ 62) }
         ensures unchanged { OnErr result (self.new ≡ self.old) }
     {
-        let state = self.copy_base()?;
+        let room = self.spare.take();
+        let state = self.copy_base(room)?;
         let owed = count_owed(&state);
         let recorded = self.total();
-        clear_entries(self.alloc, &mut self.entries, owed)?;
-        self.base = state;
+        clear_list(self.alloc, owed, &mut self.entries)?;
+        self.spare = Some(std::mem::replace(&mut self.base, state));
         self.owed = owed;
         self.handed_out = recorded;
         Ok(())

@@ -5,14 +5,8 @@ ghost use Rattle.std.specs.List.{sum_by};
 ghost use Rattle.wl_journal.specs.inner.Room.{entries_owed, lock_entries, signal_entries};
 
 use crate::entry::Entry;
-use std::alloc::Global;
 use wl_core::{HeldRow, PlainCore, SignalRow};
-use wl_types::{Memory, Refusal};
-
-/// So many entries any journal may have room for, and so many times what is owed.
-const FEW: usize = 128;
-
-const FAR_MORE: usize = 8;
+use wl_types::Refusal;
 
 /// Makes room for this many more entries.
 pub(crate) fn make_room(entries: &mut Vec<Entry>, more: usize) -> Result<(), Refusal>
@@ -26,26 +20,6 @@ pub(crate) fn make_room(entries: &mut Vec<Entry>, more: usize) -> Result<(), Ref
         Ok(_) => Ok(()),
         Err(_) => Err(Refusal::Memory),
     }
-}
-
-/// Drops the entries, and keeps their room, so that a journal that is cut again and again takes no new blocks. Room
-/// for far more than what is owed is given back.
-pub(crate) fn clear_entries(
-    alloc: Global,
-    entries: &mut Vec<Entry>,
-    owed: usize,
-) -> Result<(), Memory>
-    requires { owed ≤ vec_capacity entries.old }
-    ensures items { OnOk result (entries.new.items ≡ []) }
-    ensures room { OnOk result (owed ≤ vec_capacity entries.new) }
-    ensures unchanged { OnErr result (entries.new ≡ entries.old) }
-{
-    if entries.capacity() / FAR_MORE > owed.max(FEW) {
-        *entries = Vec::with_capacity(alloc, owed)?;
-    } else {
-        entries.clear();
-    }
-    Ok(())
 }
 
 #[tactic(auto, using(std::proofs::lemmas::List::Sums::sum_by_more_le))]

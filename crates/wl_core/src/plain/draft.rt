@@ -4,10 +4,11 @@ ghost use Rattle.std.specs.Prelude.{◌≡◌, [], ◌∷◌, ◌++◌, IfOk, On
 ghost use Rattle.wl_machine.specs.State.{opening};
 
 use crate::plain::PlainCore;
+use crate::room::clear_list;
 use std::alloc::Global;
 use std::marker::Model;
 use wl_machine::{AgentRow, HeldRow, PendingRow, SignalRow};
-use wl_types::{Memory, Name, Numbers};
+use wl_types::{Change, Memory, Name, Numbers};
 
 /// A plain core that is being written. Each row goes to the end of its list.
 #[derive(Drop)]
@@ -17,11 +18,13 @@ pub struct PlainDraft {
     names: Vec<Name>,
     held: Vec<HeldRow>,
     pending: Vec<PendingRow>,
+    changes: Vec<Change>,
     next: Numbers,
     alloc: Global,
 }
 
 impl Model for PlainDraft {
+    ghost use Rattle.std.specs.Prelude.{◌≡◌, []};
     ghost use Rattle.wl_machine.specs.State.{State};
 
     ghost Value = { State };
@@ -34,6 +37,8 @@ impl Model for PlainDraft {
       pending = d.pending.items;
       next = d.next;
     } };
+
+    ghost invariant = { λ d. d.changes.items ≡ [] };
 }
 
 impl PlainDraft {
@@ -48,6 +53,41 @@ impl PlainDraft {
             names: Vec::new(alloc),
             held: Vec::with_capacity(alloc, live)?,
             pending: Vec::new(alloc),
+            changes: Vec::new(alloc),
+            next,
+            alloc,
+        })
+    }
+
+    /// `new`, in the room of another core's lists, whose rows are dropped: copies that are made in each other's room
+    /// take new blocks for the names alone.
+    pub fn in_room(core: PlainCore, next: Numbers, live: usize) -> Result<PlainDraft, Memory>
+        ensures { IfOk result (λ draft. draft ≡ opening next) }
+    {
+        let PlainCore {
+            mut agents,
+            mut signals,
+            mut names,
+            mut held,
+            mut pending,
+            mut changes,
+            alloc,
+            ..
+        } = core;
+        clear_list(alloc, agents.len(), &mut agents)?;
+        clear_list(alloc, signals.len(), &mut signals)?;
+        clear_list(alloc, names.len(), &mut names)?;
+        clear_list(alloc, held.len(), &mut held)?;
+        clear_list(alloc, pending.len(), &mut pending)?;
+        clear_list(alloc, changes.len(), &mut changes)?;
+        held.reserve(live)?;
+        Ok(PlainDraft {
+            agents,
+            signals,
+            names,
+            held,
+            pending,
+            changes,
             next,
             alloc,
         })
@@ -110,11 +150,12 @@ impl PlainDraft {
             names,
             mut held,
             pending,
+            mut changes,
             next,
             alloc,
         } = self;
         held.reserve(pending.len())?;
-        let live = held.len() + pending.len();
+        changes.reserve(held.len() + pending.len())?;
         Ok(PlainCore {
             agents,
             signals,
@@ -122,7 +163,7 @@ impl PlainDraft {
             held,
             pending,
             next,
-            changes: Vec::with_capacity(alloc, live)?,
+            changes,
             alloc,
         })
     }

@@ -47,6 +47,14 @@ fn try_sights<C: LockCore>(core: &C, before: &PlainCore) -> Result<(), Fail> {
     }
 }
 
+/// A copy in a copy's room that is refused memory is whole when it is asked for again.
+fn try_copy_in_room<C: LockCore>(core: &C, before: &PlainCore) -> Result<(), Fail> {
+    match core.copy_plain_in(before.copy_plain()?) {
+        Ok(_) => Ok(()),
+        Err(Memory) => fail_refused(core.copy_plain_in(before.copy_plain()?)? == *before),
+    }
+}
+
 /// A list of commands that is refused memory was done just so far as it says.
 fn try_list<C: LockCore>(alloc: Global, seed: C::Seed) -> Result<(), Fail> {
     let commands = reader_behind_writer(alloc)?;
@@ -66,7 +74,9 @@ fn try_calls<S: Copy + Drop, C: LockCore<Seed = S>>(alloc: Global, seed: S) -> R
     for place in 0..4 {
         try_command(&mut core, &command(alloc, place)?)?;
     }
-    try_sights(&core, &core.copy_plain()?)?;
+    let before = core.copy_plain()?;
+    try_sights(&core, &before)?;
+    try_copy_in_room(&core, &before)?;
     try_list::<C>(alloc, seed)
 }
 

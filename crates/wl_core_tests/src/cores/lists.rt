@@ -191,28 +191,3 @@ fn the_indexed_core_does_the_lists(rt: HostRuntime) -> Result<(), Fail> {
     }
     Ok(())
 }
-
-const TWO_READERS: &str = "\
-open window -> Agent(1)
-request 1 db shared -> Request(1), 1 Granted
-request 1 db shared -> Request(2), 2 Granted
-";
-
-/// Whether a copy equals the core, and still does when a take of an unknown request has left other changes to tell, and
-/// no longer when a lock was taken.
-fn equals_its_copy(core: &mut PlainCore) -> Result<bool, Memory> {
-    let copy = core.copy_plain()?;
-    let is_equal = copy == *core && copy.changes().is_empty();
-    core.take(9);
-    let is_still = copy == *core;
-    core.take(1);
-    Ok(is_equal && is_still && copy != *core)
-}
-
-#[test]
-fn a_copy_equals_its_origin_whatever_changed_last(rt: HostRuntime) -> Result<(), Fail> {
-    let mut core: PlainCore = opening(rt.alloc(), ());
-    do_list(rt.alloc(), &mut core, TWO_READERS)?;
-    assert!(rt; equals_its_copy(&mut core)?);
-    Ok(())
-}

@@ -184,7 +184,9 @@ impl Both {
     }
 
     fn are_alike(&self) -> Result<bool, Memory> {
-        Ok(self.plain.changes() == self.index.changes() && self.index.copy_plain()? == self.plain)
+        let copy = self.index.copy_plain()?;
+        let is_alike = self.plain.changes() == self.index.changes() && copy == self.plain;
+        Ok(is_alike && self.index.copy_plain_in(copy)? == self.plain)
     }
 }
 

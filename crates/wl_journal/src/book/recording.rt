@@ -39,6 +39,7 @@ impl<C: LockCore> LockCore for Book<C> {
         Book {
             core: C::make(alloc, seed, next),
             base: PlainCore::make(alloc, (), next),
+            spare: None,
             entries: Vec::new(alloc),
             owed: 0,
             handed_out: 0,
@@ -269,5 +270,9 @@ impl<C: LockCore> LockCore for Book<C> {
 
     fn copy_plain(&self) -> Result<PlainCore, Memory> {
         self.core.copy_plain()
+    }
+
+    fn copy_plain_in(&self, room: PlainCore) -> Result<PlainCore, Memory> {
+        self.core.copy_plain_in(room)
     }
 }
