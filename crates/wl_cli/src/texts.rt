@@ -1,7 +1,7 @@
 //! What the program's help and its version say. `clap` lays them out.
 
 /// The program's version, and the kit that proves and builds it, as `rt version` names it.
-pub const VERSION: &str = "0.1.0 (rattle-kit-13b logic dac8208d650f15bf)";
+pub const VERSION: &str = "0.1.0 (rattle-kit-13f logic dac8208d650f15bf)";
 
 /// An example of a script, and where there is more to read.
 macro_rules! script_example {

@@ -108,7 +108,7 @@ impl NameQueue {
     }
 
     /// Those that wait, in the order of the queue.
-    pub fn waiting(&self) -> Range<'_, u64, Mode>
+    pub fn waiters(&self) -> Range<'_, u64, Mode>
         ensures { result ≡ self.now.waits }
     {
         match self.first {
@@ -121,7 +121,7 @@ impl NameQueue {
     fn first(&self) -> Option<(u64, Mode)>
         ensures { result ≡ slice_get self.now.waits 0 }
     {
-        let (number, mode) = self.waiting().next()?;
+        let (number, mode) = self.waiters().next()?;
         Some((*number, *mode))
     }
 

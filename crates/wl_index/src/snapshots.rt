@@ -59,7 +59,7 @@ fn add_queue(
     ensures { OnOk result (infos.new ≡ infos.old ++ map request_info
         (queue name_queue.now.name (pending_of requests.now.entries))) }
 {
-    for (number, _) in name_queue.waiting() {
+    for (number, _) in name_queue.waiters() {
         infos.push(info_of(alloc, requests, *number)?)?;
     }
     Ok(())

@@ -1,6 +1,6 @@
 //! Agents of opaque origins, which have no manager.
 
-ghost use Rattle.std.specs.Prelude.{◌≡◌, IfOk, OnOk, Some, string_bytes};
+ghost use Rattle.std.specs.Prelude.{◌≡◌, IfOk, Some, string_bytes};
 ghost use Rattle.wl_codec.specs.Replies.{reply_text};
 ghost use Rattle.wl_world.specs.Labels.{active_after, closes, opaque_outcome, plain};
 

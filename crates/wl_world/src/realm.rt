@@ -18,7 +18,6 @@ ghost use Rattle.wl_world.specs.Realms.{realm_of, journals_of};
 use crate::answer::{Answer, closes};
 use crate::origin::Origin;
 use crate::supplies::Supplies;
-use std::alloc::Global;
 use std::collections::HashMap;
 use wl_codec::{Body, Outcome};
 use wl_core::LockCore;

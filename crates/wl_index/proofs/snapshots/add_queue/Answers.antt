@@ -7,7 +7,7 @@ use Rattle.wl_index.proofs.snapshots.add_queue.Goals as goal
 pub loop-number-init : goal.loop-number-init
 loop-number-init c =
     let es = c.args.requests.now.entries in
-    let all = c.into_iter-number-iterator.ensures.into_iter_gives ∙ c.waiting-number-items.ensures in
+    let all = c.into_iter-number-iterator.ensures.into_iter_gives ∙ c.waiters-number-items.ensures in
     record {
       stand = subst (AllByRecursion (Stands es)) (sym (ap keys_of (all ∙ c.requires.matched.waits)))
           (queue_stands c.args.name_queue.now.name es c.requires.ordered);
