@@ -18,6 +18,8 @@ from daemon_server import Daemon
 from network import Serving, free_port
 
 PROGRAM = str(TOP / "crates/weblocks/out/weblocks")
+# The arenas of the C library's allocator, of which ./weblocks and the package's service have one for all threads.
+ARENAS = "MALLOC_ARENA_MAX"
 # How a client of each job is told of a grant.
 TELLING = {"serve": "polled", "daemon": "pushed"}
 
@@ -53,11 +55,15 @@ def ask(client, *words, seconds=None):
 
 @contextmanager
 def started(program, job, connections, *options):
-    """The program as `serve` for so many connections, or as `daemon` with these options. It has .child and .port."""
+    """The program as `serve` for so many connections, or as `daemon` with these options. It has .child and .port.
+
+    It has as many arenas as ./weblocks gives it, unless the environment says otherwise.
+    """
+    before = [] if ARENAS in os.environ else ["env", f"{ARENAS}=1"]
     if job == "serve":
-        server = Serving(program, connections)
+        server = Serving(program, connections, before)
     else:
-        server = Daemon(program, "--log", "off", *options)
+        server = Daemon(program, "--log", "off", *options, before=before)
     with server:
         yield server
 
