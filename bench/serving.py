@@ -18,8 +18,6 @@ from daemon_server import Daemon
 from network import Serving, free_port
 
 PROGRAM = str(TOP / "crates/weblocks/out/weblocks")
-# The arenas of the C library's allocator, of which ./weblocks and the package's service have one for all threads.
-ARENAS = "MALLOC_ARENA_MAX"
 # How a client of each job is told of a grant.
 TELLING = {"serve": "polled", "daemon": "pushed"}
 
@@ -53,13 +51,15 @@ def ask(client, *words, seconds=None):
     return json.loads(ran.stdout)
 
 
+def variables():
+    """What ./weblocks and the package's service say to the C library's allocator, where the environment says nothing."""
+    return [] if "MALLOC_ARENA_MAX" in os.environ else ["MALLOC_ARENA_MAX=1"]
+
+
 @contextmanager
 def started(program, job, connections, *options):
-    """The program as `serve` for so many connections, or as `daemon` with these options. It has .child and .port.
-
-    It has as many arenas as ./weblocks gives it, unless the environment says otherwise.
-    """
-    before = [] if ARENAS in os.environ else ["env", f"{ARENAS}=1"]
+    """The program as `serve` for so many connections, or as `daemon` with these options. It has .child and .port."""
+    before = ["env", *variables()]
     if job == "serve":
         server = Serving(program, connections, before)
     else:
