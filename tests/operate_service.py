@@ -74,9 +74,12 @@ def daemon_serves_within(built: Built) -> None:
     file.write_text("\n".join(sorted(left)))
     families = settings(built)["RestrictAddressFamilies"]
     expect("the families", families, ["AF_INET AF_INET6 AF_UNIX"])
+    variables = settings(built)["Environment"]
+    expect("its variables", variables, ["MALLOC_ARENA_MAX=1"])
     path = built.place / "socket"
     words = ["--listen", f"unix:{path}"]
-    with Daemon(built.tree / "usr/bin/weblocks", *words, before=[PYTHON, FILTER, file]) as daemon:
+    before = ["env", *variables, PYTHON, FILTER, file]
+    with Daemon(built.tree / "usr/bin/weblocks", *words, before=before) as daemon:
         hand_over(daemon)
         expect("what is held over its socket", hold_over(path, built.modules), "held")
 
