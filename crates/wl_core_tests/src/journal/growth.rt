@@ -102,7 +102,7 @@ fn a_refused_checkpoint_drops_nothing(rt: HostRuntime) -> Result<(), Fail> {
 /// In the room of the base before, which a refused checkpoint gives up.
 #[test]
 fn a_refused_checkpoint_in_older_room_drops_nothing(rt: HostRuntime) -> Result<(), Fail> {
-    let mut book = opening(rt.alloc(), ());
+    let mut book: Book<PlainCore> = opening(rt.alloc(), ());
     book.checkpoint()?;
     try_commands(rt.alloc(), &mut book)?;
     try_checkpoint(&mut book)
