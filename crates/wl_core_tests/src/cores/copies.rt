@@ -66,6 +66,9 @@ fn a_copy_has_nothing_of_what_had_its_room(rt: HostRuntime) -> Result<(), Fail> 
 fn room_left(alloc: Global, room: usize, needed: usize) -> Result<usize, Memory> {
     let mut numbers = Vec::with_capacity(alloc, room)?;
     numbers.push(1)?;
+    if numbers.capacity() < needed {
+        return Ok(0);
+    }
     clear_list(alloc, needed, &mut numbers)?;
     Ok(numbers.capacity() + numbers.len())
 }
