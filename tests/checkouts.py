@@ -17,7 +17,7 @@ SHIPPED = "dist/weblocks-x86_64-linux-gnu"
 LIBRARY = "dist/libweblocks-x86_64-linux-gnu.so"
 MODULE = "dist/weblocks.wasm"
 # What else than crates the library and the module are built from.
-LIBRARY_PARTS = ("clients/c/build", "clients/wasm/build", "clients/wasm/heap.c")
+LIBRARY_PARTS = ("clients/c/build", "clients/wasm/build", "clients/wasm/heap.c", "tools/static_library.bash")
 NEEDS_THE_KIT = re.compile(r"rt|python.*|pypy.*")
 # No kit has this name.
 KIT = "rattle-kit-0 logic 0123456789abcdef"
@@ -114,8 +114,7 @@ def keep_few(top: Path) -> None:
     (top / "crates.txt").write_text("".join(f"{it}\n" for it in lines))
     kept = ("wl_types", "wl_test_support", "wl_c", "weblocks")
     gone = [it for it in (top / "crates").iterdir() if it.name not in kept]
-    gone += [top / f"crates/{it}/must-fail" for it in ("wl_types", "wl_c")]
-    gone += [top / it for it in ("tests/edits", "tests/scripts", "bench")]
+    gone += [top / it for it in ("crates/wl_types/must-fail", "tests/edits", "tests/scripts", "bench")]
     for it in gone:
         shutil.rmtree(it)
 

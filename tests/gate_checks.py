@@ -29,8 +29,8 @@ def gate_checks(made: Checkouts, kit: Kit) -> Checks:
         shutil.rmtree(top / "dist")
         for step in STEPS:
             put(top / "tests" / step, "#!/bin/sh\n")
-        put(top / "clients/c/build", '#!/bin/sh\nmkdir -p "$1"\necho a library >"$1/libweblocks.so"\n')
-        put(top / "clients/wasm/build", '#!/bin/sh\necho a module >"$1"\n')
+        put(top / "clients/c/build", '#!/bin/sh\nmkdir -p "$2"\necho a library >"$2/libweblocks.so"\n')
+        put(top / "clients/wasm/build", '#!/bin/sh\necho a module >"$2"\n')
         return top
 
     def test(top: Path, **more: str) -> Ended:
@@ -83,7 +83,8 @@ def gate_checks(made: Checkouts, kit: Kit) -> Checks:
     yield "./test passes once its program is shipped", passes_once_shipped
     of_built = (("launching", 4), ("run_scripts", 1), ("run_daemon", 5), ("clients --allow-missing", 1))
     stopped = [("tests/building", 3), *((f"tests/{step} {BUILT}", status) for step, status in of_built)]
-    stopped += [(f"clients/c/build {OUT}", 2), (f"clients/wasm/build {OUT}/weblocks.wasm", 7)]
+    stopped += [(f"clients/c/build --after-gate {OUT}", 2)]
+    stopped += [(f"clients/wasm/build --after-gate {OUT}/weblocks.wasm", 7)]
     stopped += [(f"tests/embedding --library {OUT}", 6)]
     for step, status in stopped:
         yield f"./test stops at {step}", lambda it=step, number=status: stops(it, number)

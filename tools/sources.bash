@@ -7,7 +7,7 @@ shipped_library=dist/libweblocks-x86_64-linux-gnu.so
 shipped_module=dist/weblocks.wasm
 
 # What else than crates the library and the module are built from.
-library_parts=(clients/c/build clients/wasm/build clients/wasm/heap.c)
+library_parts=(clients/c/build clients/wasm/build clients/wasm/heap.c tools/static_library.bash)
 
 # Sets crates to the program's crate, or the one that is named, and those below it, as crates.txt has them: a line is
 # NAME OPTION ..: DEP ..
