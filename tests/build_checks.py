@@ -235,3 +235,19 @@ def process_checks(made: Checkouts, kit: Kit) -> Checks:
     yield "Ctrl-C", lambda: ends_at(signal.SIGINT, 130)
     yield "it is told to end", lambda: ends_at(signal.SIGTERM, 143)
     yield "the progress on a terminal", on_a_terminal
+
+
+def lanes_checks(made: Checkouts, kit: Kit) -> Checks:
+    """How many checks of ./test go side by side."""
+
+    def are(wanted: str, processors: int, each: int, **more: str) -> None:
+        """On so many processors, where so much memory is free for each, in kB."""
+        machine = f"nproc() {{ echo {processors}; }}; free_memory() {{ echo {each * processors}; }}"
+        words = ["bash", "-c", f"source tools/lanes.bash; {machine}; choose_lanes; echo ${{RT_JOBS-by rt}}"]
+        around = {name: value for name, value in os.environ.items() if name != "RT_JOBS"}
+        expect_end(run_in(made.fresh(), words, env=around | more), f"{wanted}\n".encode())
+
+    yield "as many checks as there are processors", lambda: are("4", 4, 5_000_000)
+    yield "with less memory rt chooses how many", lambda: are("by rt", 2, 4_999_999)
+    yield "with more processors rt chooses how many", lambda: are("by rt", 5, 5_000_000)
+    yield "RT_JOBS says how many", lambda: are("9", 4, 5_000_000, RT_JOBS="9")

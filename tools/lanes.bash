@@ -1,0 +1,30 @@
+# How many checks `rt ci` has go side by side. Sourced by test.
+
+# The memory that is to be free for each check, in kB: the greatest was seen to take 5.8 million, most less than half of
+# it. (rt reckons with up to twice as much. Where there seems to be no room, a crate with a long chain above it waits
+# for crates on which nothing waits.)
+check_takes=5000000
+
+# Prints how much memory is free, in kB, under the control group's limit too.
+free_memory() {
+    local free most held group=/sys/fs/cgroup files
+    free=$(sed -n 's/^MemAvailable: *\([0-9]*\) kB$/\1/p' /proc/meminfo)
+    for files in 'memory.max memory.current' 'memory/memory.limit_in_bytes memory/memory.usage_in_bytes'; do
+        { most=$(<"$group/${files% *}") && held=$(<"$group/${files#* }"); } 2>/dev/null || continue
+        if [[ $most =~ ^[0-9]{1,18}$ ]] && (((most - held) / 1024 < free)); then
+            free=$(((most - held) / 1024))
+        fi
+    done
+    echo "${free:-0}"
+}
+
+# Has rt check as many crates side by side as there are processors, each by one process, where there is the memory for
+# it. It is left to rt where RT_JOBS says how many, and on more than four processors: there the longest chain of crates
+# takes longer than the rest, and rt has several processes for a crate that others wait for.
+choose_lanes() {
+    local processors
+    processors=$(nproc)
+    if [[ -z ${RT_JOBS-} ]] && ((processors <= 4 && $(free_memory) / check_takes >= processors)); then
+        export RT_JOBS=$processors
+    fi
+}
