@@ -7,18 +7,19 @@ use wl_index::{IndexCore, random_seed};
 use wl_test_support::{do_list, do_list_often, letters, opening};
 use wl_types::{Memory, Numbers};
 
-/// The list as it comes out of a core that has done this call so often.
+/// The list as it comes out of a new core that has done this call so often.
 fn run_after<C: LockCore>(
     alloc: Global,
-    core: &mut C,
+    seed: C::Seed,
     first: &str,
     often: (u64, &str),
     list: &str,
 ) -> Result<String, Memory> {
-    do_list(alloc, core, first)?;
+    let mut core: C = opening(alloc, seed);
+    do_list(alloc, &mut core, first)?;
     let (times, call) = often;
-    do_list_often(alloc, core, times, call)?;
-    do_list(alloc, core, list)
+    do_list_often(alloc, &mut core, times, call)?;
+    do_list(alloc, &mut core, list)
 }
 
 const ONE_AGENT_TOO_MANY: &str = "\
@@ -48,16 +49,11 @@ const LIMITS: [(&str, (u64, &str), &str); 2] = [
 #[test]
 fn agents_and_signals_have_limits(rt: HostRuntime) -> Result<(), Fail> {
     for (first, often, list) in LIMITS {
-        let mut plain: PlainCore = opening(rt.alloc(), ());
-        assert_eq!(rt;
-            run_after(rt.alloc(), &mut plain, first, often, list)?.as_str(),
-            list
-        );
-        let mut index: IndexCore = opening(rt.alloc(), random_seed(&rt)?);
-        assert_eq!(rt;
-            run_after(rt.alloc(), &mut index, first, often, list)?.as_str(),
-            list
-        );
+        let came = run_after::<PlainCore>(rt.alloc(), (), first, often, list)?;
+        assert_eq!(rt; came.as_str(), list);
+        let seed = random_seed(&rt)?;
+        let came = run_after::<IndexCore>(rt.alloc(), seed, first, often, list)?;
+        assert_eq!(rt; came.as_str(), list);
     }
     Ok(())
 }
@@ -75,10 +71,9 @@ request 1 db -> Limit/requests
 
 #[test]
 fn at_most_65536_requests_are_live(rt: HostRuntime) -> Result<(), Fail> {
-    let mut core: IndexCore = opening(rt.alloc(), random_seed(&rt)?);
-    let came = run_after(
+    let came = run_after::<IndexCore>(
         rt.alloc(),
-        &mut core,
+        random_seed(&rt)?,
         "open window",
         (65_535, "request 1 db"),
         ONE_REQUEST_TOO_MANY,
@@ -98,8 +93,7 @@ fn long_names(alloc: Global) -> Result<String, Memory> {
 #[test]
 fn a_name_has_at_most_1024_letters(rt: HostRuntime) -> Result<(), Fail> {
     let list = long_names(rt.alloc())?;
-    let mut core: PlainCore = opening(rt.alloc(), ());
-    let came = run_after(rt.alloc(), &mut core, "open window", (0, ""), list.as_str())?;
+    let came = run_after::<PlainCore>(rt.alloc(), (), "open window", (0, ""), list.as_str())?;
     assert_eq!(rt; came.as_str(), list.as_str());
     Ok(())
 }
@@ -113,18 +107,22 @@ request 1 other available -> Limit/numbers
 query 1 -> held db/exclusive/1, waiting
 ";
 
-#[test]
-fn the_last_number_is_below_two_to_the_53(rt: HostRuntime) -> Result<(), Fail> {
+/// The list as it comes out of a core whose next request has the last number.
+fn run_at_the_last<C: LockCore>(alloc: Global, seed: C::Seed) -> Result<String, Memory> {
     let next = Numbers {
         agent: 1,
         request: 9007199254740991,
         signal: 1,
     };
-    let mut plain = PlainCore::make(rt.alloc(), (), next);
-    let came = do_list(rt.alloc(), &mut plain, THE_LAST_REQUEST)?;
+    let mut core = C::make(alloc, seed, next);
+    do_list(alloc, &mut core, THE_LAST_REQUEST)
+}
+
+#[test]
+fn the_last_number_is_below_two_to_the_53(rt: HostRuntime) -> Result<(), Fail> {
+    let came = run_at_the_last::<PlainCore>(rt.alloc(), ())?;
     assert_eq!(rt; came.as_str(), THE_LAST_REQUEST);
-    let mut index = IndexCore::make(rt.alloc(), random_seed(&rt)?, next);
-    let came = do_list(rt.alloc(), &mut index, THE_LAST_REQUEST)?;
+    let came = run_at_the_last::<IndexCore>(rt.alloc(), random_seed(&rt)?)?;
     assert_eq!(rt; came.as_str(), THE_LAST_REQUEST);
     Ok(())
 }
