@@ -10,7 +10,9 @@ free_memory() {
     local free most held group=/sys/fs/cgroup files
     free=$(sed -n 's/^MemAvailable: *\([0-9]*\) kB$/\1/p' /proc/meminfo)
     for files in 'memory.max memory.current' 'memory/memory.limit_in_bytes memory/memory.usage_in_bytes'; do
-        { most=$(<"$group/${files% *}") && held=$(<"$group/${files#* }"); } 2>/dev/null || continue
+        [[ -r $group/${files% *} && -r $group/${files#* } ]] || continue
+        most=$(<"$group/${files% *}")
+        held=$(<"$group/${files#* }")
         if [[ $most =~ ^[0-9]{1,18}$ ]] && (((most - held) / 1024 < free)); then
             free=$(((most - held) / 1024))
         fi
