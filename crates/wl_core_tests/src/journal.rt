@@ -5,49 +5,38 @@ mod growth;
 use crate::cores::{LISTS, run_list};
 use std::alloc::Global;
 use std::test::Fail;
-use wl_core::{Command, LockCore, PlainCore, ReleaseAnswer, Reply, TakeAnswer};
+use wl_core::{LockCore, PlainCore, ReleaseAnswer, Reply};
 use wl_journal::{AuditFault, Book, Entry, audit};
 use wl_test_support::{do_list, opening, show};
-use wl_types::{Kind, Memory};
+use wl_types::Memory;
 
 #[test]
 fn a_book_does_the_lists(rt: HostRuntime) -> Result<(), Fail> {
     for list in LISTS {
         assert_eq!(rt;
             run_list::<Book<PlainCore>>(rt.alloc(), (), list)?.as_str(),
-            list
+            *list
         );
     }
     Ok(())
 }
 
-/// A word for each entry, and then how many there are.
+/// The command and the reply of each entry, and then how many there are.
 fn show_entries(alloc: Global, entries: &[Entry]) -> Result<String, Memory> {
     let mut text = String::new(alloc);
     for entry in entries {
-        write!(text, "{} ", word(entry))?;
+        write!(text, "{:?}/{:?}, ", entry.command, entry.reply)?;
     }
     write!(text, "{}", entries.len())?;
     Ok(text)
-}
-
-/// The word of an entry of the first agent, which is a window, and of its request.
-fn word(entry: &Entry) -> &'static str {
-    match (&entry.command, &entry.reply) {
-        (Command::Enter(Kind::Window), Reply::Agent(1)) => "open",
-        (Command::Request(1, _), Reply::Request(1)) => "request",
-        (Command::Take(1), Reply::Took(TakeAnswer::Taken)) => "take",
-        (Command::Release(1, 1), Reply::Released(ReleaseAnswer::Released)) => "release",
-        _ => "another",
-    }
 }
 
 /// Does the calls of a list on a new book, and gives the list as it came out. Beside those of every core (`do_list`)
 /// there are `count` (how many entries it has, and how many it has had), `entries`, `cut` (the entries that it hands
 /// out), `checkpoint`, `audit` (of the entries, from the base), `base` (whether that is the state) and `sight` (of the
 /// first agent).
-fn run_by_book(alloc: Global, list: &str) -> Result<String, Memory> {
-    let mut book: Book<PlainCore> = opening(alloc, ());
+fn run_by_book<C: LockCore>(alloc: Global, seed: C::Seed, list: &str) -> Result<String, Memory> {
+    let mut book: Book<C> = opening(alloc, seed);
     let mut came = String::new(alloc);
     for line in list.lines() {
         let (call, _) = line.split_once(" -> ").unwrap_or((line, ""));
@@ -56,9 +45,9 @@ fn run_by_book(alloc: Global, list: &str) -> Result<String, Memory> {
     Ok(came)
 }
 
-fn add_call(
+fn add_call<C: LockCore>(
     alloc: Global,
-    book: &mut Book<PlainCore>,
+    book: &mut Book<C>,
     came: &mut String,
     call: &str,
 ) -> Result<(), Memory> {
@@ -82,7 +71,7 @@ fn add_call(
     Ok(())
 }
 
-fn sight(alloc: Global, book: &Book<PlainCore>) -> Result<String, Memory> {
+fn sight<C: LockCore>(alloc: Global, book: &Book<C>) -> Result<String, Memory> {
     match book.sight(1) {
         Ok(sight) => {
             let seen = show(alloc, &Reply::Seen(sight.snapshot))?;
@@ -102,10 +91,14 @@ query 1 -> held db/exclusive/1, waiting
 release 1 1 -> Released(Released), 1 Released
 query 1 -> held, waiting
 count -> 4 of 4
-entries -> open request take release 4
+entries -> Enter(Window)/Agent(1), \
+    Request(1, Ask { name: Text { inner: \"db\" }, mode: Exclusive, if_available: false, steal: false, \
+    signal: None })/Request(1), Take(1)/Took(Taken), Release(1, 1)/Released(Released), 4
 audit -> Ok(())
 base -> false
-cut -> open request take release 4
+cut -> Enter(Window)/Agent(1), \
+    Request(1, Ask { name: Text { inner: \"db\" }, mode: Exclusive, if_available: false, steal: false, \
+    signal: None })/Request(1), Take(1)/Took(Taken), Release(1, 1)/Released(Released), 4
 count -> 0 of 4
 entries -> 0
 audit -> Ok(())
@@ -122,7 +115,7 @@ entries -> 0
 base -> true
 take 1 -> Took(Taken)
 release 1 1 -> Released(Released), 1 Released
-entries -> take release 2
+entries -> Take(1)/Took(Taken), Release(1, 1)/Released(Released), 2
 count -> 2 of 4
 audit -> Ok(())
 base -> false
@@ -156,16 +149,19 @@ count -> 5 of 5
 #[test]
 fn a_book_records_what_was_accepted(rt: HostRuntime) -> Result<(), Fail> {
     for list in [ONE_LOCK, CHECKPOINTS, NOTHING_HAPPENS] {
-        assert_eq!(rt; run_by_book(rt.alloc(), list)?.as_str(), list);
+        assert_eq!(rt;
+            run_by_book::<PlainCore>(rt.alloc(), (), list)?.as_str(),
+            list
+        );
     }
     Ok(())
 }
 
-fn one_lock(alloc: Global) -> Result<Vec<Entry>, Memory> {
-    let mut book: Book<PlainCore> = opening(alloc, ());
+/// The entries of an agent that opens and asks for a lock, which it takes and releases.
+fn cut_one_lock<C: LockCore>(alloc: Global, book: &mut Book<C>) -> Result<Vec<Entry>, Memory> {
     do_list(
         alloc,
-        &mut book,
+        book,
         "open window\nrequest 1 db\ntake 1\nrelease 1 1",
     )?;
     book.cut()
@@ -181,7 +177,7 @@ fn spoil(entries: &mut [Entry], places: &[usize]) {
 }
 
 fn audit_spoilt(alloc: Global, places: &[usize]) -> Result<Result<(), AuditFault>, Memory> {
-    let mut entries = one_lock(alloc)?;
+    let mut entries = cut_one_lock::<PlainCore>(alloc, &mut opening(alloc, ()))?;
     spoil(&mut entries, places);
     Ok(audit(&opening::<PlainCore>(alloc, ()), &entries))
 }

@@ -17,7 +17,7 @@ fn name_length(alloc: Global, text: &str, times: usize) -> Result<Result<usize, 
 }
 
 /// The limit counts bytes: 205 times three characters of five bytes are 1025.
-const LENGTHS: [(&str, usize, Result<usize, Refusal>); 6] = [
+const LENGTHS: &[(&str, usize, Result<usize, Refusal>)] = &[
     ("", 1, Ok(0)),
     ("x", 1024, Ok(1024)),
     ("x", 1025, Err(Refusal::NameTooLong)),
@@ -30,8 +30,8 @@ const LENGTHS: [(&str, usize, Result<usize, Refusal>); 6] = [
 fn a_name_has_at_most_1024_bytes_and_is_not_reserved(rt: HostRuntime) -> Result<(), Fail> {
     for (text, times, wanted) in LENGTHS {
         assert_eq!(rt;
-            name_length(rt.alloc(), text, times)?,
-            wanted,
+            name_length(rt.alloc(), text, *times)?,
+            *wanted,
             "{text} {times}"
         );
     }
@@ -46,7 +46,7 @@ fn are_one_name(alloc: Global, one: &str, other: &str) -> Result<(bool, bool), F
     Ok((name == other, copy.same(&other)))
 }
 
-const PAIRS: [(&str, &str, bool); 4] = [
+const PAIRS: &[(&str, &str, bool)] = &[
     ("Aa", "BB", false),
     ("a", "A", false),
     ("BB", "BB", true),
@@ -58,7 +58,7 @@ fn names_are_equal_by_their_bytes(rt: HostRuntime) -> Result<(), Fail> {
     for (one, other, wanted) in PAIRS {
         assert_eq!(rt;
             are_one_name(rt.alloc(), one, other)?,
-            (wanted, wanted),
+            (*wanted, *wanted),
             "{one} {other}"
         );
     }
@@ -104,7 +104,7 @@ fn the_first_check_that_fails_is_answered(rt: HostRuntime) -> Result<(), Fail> {
     Ok(())
 }
 
-const REFUSALS: [(Refusal, &str); 19] = [
+const REFUSALS: &[(Refusal, &str)] = &[
     (Refusal::InvalidState, "1 InvalidStateError/inactive"),
     (Refusal::Security, "2 SecurityError/opaque-origin"),
     (Refusal::ReservedName, "3 NotSupportedError/reserved-name"),
@@ -148,13 +148,13 @@ const REFUSALS: [(Refusal, &str); 19] = [
 fn a_refusal_has_a_name_a_rule_and_a_number(rt: HostRuntime) -> Result<(), Fail> {
     for (refusal, wanted) in REFUSALS {
         let text = format!(in rt.alloc(); "{} {refusal}", refusal.number())?;
-        assert_eq!(rt; text.as_str(), wanted);
+        assert_eq!(rt; text.as_str(), *wanted);
     }
     Ok(())
 }
 
 /// All codes have one name.
-const REASONS: [(Reason, &str, Option<u16>); 5] = [
+const REASONS: &[(Reason, &str, Option<u16>)] = &[
     (Reason::AbortError, "AbortError", None),
     (Reason::TimeoutError, "TimeoutError", None),
     (Reason::Code(0), "AbortCode", Some(0)),
@@ -165,9 +165,9 @@ const REASONS: [(Reason, &str, Option<u16>); 5] = [
 #[test]
 fn a_reason_has_a_name_and_a_refusal_its_code(rt: HostRuntime) {
     for (reason, name, code) in REASONS {
-        assert_eq!(rt; reason.name(), name);
-        assert_eq!(rt; Refusal::SignalAborted(reason).name(), name);
-        assert_eq!(rt; Refusal::SignalAborted(reason).code(), code);
+        assert_eq!(rt; reason.name(), *name);
+        assert_eq!(rt; Refusal::SignalAborted(*reason).name(), *name);
+        assert_eq!(rt; Refusal::SignalAborted(*reason).code(), *code);
     }
     assert_eq!(rt; Refusal::NoSuchSignal.code(), None);
 }
@@ -181,7 +181,7 @@ fn are_equal(one: Reason, other: Reason) -> (bool, bool, bool) {
     )
 }
 
-const APART: [(Reason, Reason); 6] = [
+const APART: &[(Reason, Reason)] = &[
     (Reason::AbortError, Reason::TimeoutError),
     (Reason::AbortError, Reason::Code(0)),
     (Reason::TimeoutError, Reason::Code(1)),
@@ -193,9 +193,9 @@ const APART: [(Reason, Reason); 6] = [
 #[test]
 fn reasons_are_equal_where_their_codes_are(rt: HostRuntime) {
     for (one, other) in APART {
-        assert_eq!(rt; are_equal(one, other), (false, false, false));
-        assert_eq!(rt; are_equal(one, one), (true, true, true));
-        assert_eq!(rt; are_equal(other, other), (true, true, true));
+        assert_eq!(rt; are_equal(*one, *other), (false, false, false));
+        assert_eq!(rt; are_equal(*one, *one), (true, true, true));
+        assert_eq!(rt; are_equal(*other, *other), (true, true, true));
     }
 }
 
@@ -239,7 +239,7 @@ fn a_list_keeps_its_order(rt: HostRuntime) -> Result<(), Fail> {
     Ok(())
 }
 
-const ENDS: [(Phase, bool); 8] = [
+const ENDS: &[(Phase, bool)] = &[
     (Phase::Unavailable, true),
     (Phase::Aborted(Reason::AbortError), true),
     (Phase::Aborted(Reason::Code(0)), true),
@@ -253,7 +253,7 @@ const ENDS: [(Phase, bool); 8] = [
 #[test]
 fn ends_are_ends(rt: HostRuntime) {
     for (phase, is_end) in ENDS {
-        assert_eq!(rt; phase.is_end(), is_end, "{phase:?}");
+        assert_eq!(rt; phase.is_end(), *is_end, "{phase:?}");
     }
     assert!(rt; Phase::Pending.is_pending() && !Phase::Granted.is_pending());
     assert_eq!(rt; Mode::Exclusive.word(), "exclusive");

@@ -154,7 +154,7 @@ release 2 2 -> Released(Released), 2 Released, 3 Granted
 take 3 -> Took(Taken)
 ";
 
-pub const LISTS: [&str; 10] = [
+pub const LISTS: &[&str] = &[
     AGENTS_COME_AND_GO,
     ONE_LOCK,
     AN_ABORT,
@@ -176,7 +176,10 @@ pub fn run_list<C: LockCore>(alloc: Global, seed: C::Seed, list: &str) -> Result
 #[test]
 fn the_plain_core_does_the_lists(rt: HostRuntime) -> Result<(), Fail> {
     for list in LISTS {
-        assert_eq!(rt; run_list::<PlainCore>(rt.alloc(), (), list)?.as_str(), list);
+        assert_eq!(rt;
+            run_list::<PlainCore>(rt.alloc(), (), list)?.as_str(),
+            *list
+        );
     }
     Ok(())
 }
@@ -186,7 +189,7 @@ fn the_indexed_core_does_the_lists(rt: HostRuntime) -> Result<(), Fail> {
     for list in LISTS {
         assert_eq!(rt;
             run_list::<IndexCore>(rt.alloc(), random_seed(&rt)?, list)?.as_str(),
-            list
+            *list
         );
     }
     Ok(())

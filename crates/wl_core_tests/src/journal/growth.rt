@@ -8,7 +8,7 @@ use wl_test_support::{ask, fail_refused, lacks_memory, opening};
 use wl_types::{Kind, Memory, Mode, Refusal};
 
 /// A command that is refused memory leaves the book as it was, and is done and recorded when it is asked again.
-fn try_command(book: &mut Book<PlainCore>, command: &Command) -> Result<(), Fail> {
+fn try_command<C: LockCore>(book: &mut Book<C>, command: &Command) -> Result<(), Fail> {
     let before = book.copy_plain()?;
     let entries = book.len();
     if !lacks_memory(&apply(book, command)) {
@@ -35,7 +35,7 @@ fn command(alloc: Global, place: usize) -> Result<Command, Memory> {
 }
 
 /// A cut that is refused memory leaves all entries there, and hands them out when it is asked again.
-fn try_cut(book: &mut Book<PlainCore>) -> Result<(), Fail> {
+fn try_cut<C: LockCore>(book: &mut Book<C>) -> Result<(), Fail> {
     if book.cut().is_ok() {
         return Ok(());
     }
@@ -44,7 +44,7 @@ fn try_cut(book: &mut Book<PlainCore>) -> Result<(), Fail> {
 }
 
 /// A checkpoint that is refused memory leaves all entries there, and drops them when it is asked again.
-fn try_checkpoint(book: &mut Book<PlainCore>) -> Result<(), Fail> {
+fn try_checkpoint<C: LockCore>(book: &mut Book<C>) -> Result<(), Fail> {
     if book.checkpoint().is_ok() {
         return Ok(());
     }
@@ -54,7 +54,7 @@ fn try_checkpoint(book: &mut Book<PlainCore>) -> Result<(), Fail> {
 }
 
 /// How many entries an agent sees, if it is refused nothing but memory.
-fn count_seen(book: &Book<PlainCore>) -> Option<u64> {
+fn count_seen<C: LockCore>(book: &Book<C>) -> Option<u64> {
     match book.sight(1) {
         Ok(sight) => Some(sight.seen),
         Err(Refusal::Memory) => None,
@@ -63,7 +63,7 @@ fn count_seen(book: &Book<PlainCore>) -> Option<u64> {
 }
 
 /// A sight and an audit that are refused memory are what they should be when they are asked for again.
-fn try_sights(book: &Book<PlainCore>) -> Result<(), Fail> {
+fn try_sights<C: LockCore>(book: &Book<C>) -> Result<(), Fail> {
     if count_seen(book) != Some(4) {
         return fail_refused(count_seen(book) == Some(4));
     }
@@ -74,14 +74,14 @@ fn try_sights(book: &Book<PlainCore>) -> Result<(), Fail> {
     }
 }
 
-fn try_commands(alloc: Global, book: &mut Book<PlainCore>) -> Result<(), Fail> {
+fn try_commands<C: LockCore>(alloc: Global, book: &mut Book<C>) -> Result<(), Fail> {
     for place in 0..4 {
         try_command(book, &command(alloc, place)?)?;
     }
     Ok(())
 }
 
-fn try_calls(alloc: Global, book: &mut Book<PlainCore>) -> Result<(), Fail> {
+fn try_calls<C: LockCore>(alloc: Global, book: &mut Book<C>) -> Result<(), Fail> {
     try_commands(alloc, book)?;
     try_sights(book)?;
     try_cut(book)
@@ -89,21 +89,27 @@ fn try_calls(alloc: Global, book: &mut Book<PlainCore>) -> Result<(), Fail> {
 
 #[test]
 fn a_refused_growth_is_not_recorded(rt: HostRuntime) -> Result<(), Fail> {
-    try_calls(rt.alloc(), &mut opening(rt.alloc(), ()))
+    try_calls::<PlainCore>(rt.alloc(), &mut opening(rt.alloc(), ()))
+}
+
+/// Behind these commands.
+fn try_late_checkpoint<C: LockCore>(alloc: Global, book: &mut Book<C>) -> Result<(), Fail> {
+    try_commands(alloc, book)?;
+    try_checkpoint(book)
 }
 
 #[test]
 fn a_refused_checkpoint_drops_nothing(rt: HostRuntime) -> Result<(), Fail> {
-    let mut book = opening(rt.alloc(), ());
-    try_commands(rt.alloc(), &mut book)?;
-    try_checkpoint(&mut book)
+    try_late_checkpoint::<PlainCore>(rt.alloc(), &mut opening(rt.alloc(), ()))
+}
+
+fn try_second_checkpoint<C: LockCore>(alloc: Global, book: &mut Book<C>) -> Result<(), Fail> {
+    book.checkpoint()?;
+    try_late_checkpoint(alloc, book)
 }
 
 /// In the room of the base before, which a refused checkpoint gives up.
 #[test]
 fn a_refused_checkpoint_in_older_room_drops_nothing(rt: HostRuntime) -> Result<(), Fail> {
-    let mut book: Book<PlainCore> = opening(rt.alloc(), ());
-    book.checkpoint()?;
-    try_commands(rt.alloc(), &mut book)?;
-    try_checkpoint(&mut book)
+    try_second_checkpoint::<PlainCore>(rt.alloc(), &mut opening(rt.alloc(), ()))
 }
