@@ -11,7 +11,7 @@ use std::process::Abort;
 use std::sync::{Arc, Wait};
 use std::test::Fail;
 use wl_core::{PlainCore, ReleaseAnswer};
-use wl_manager::{Manager, Recent};
+use wl_manager::{Count, Manager, Recent};
 use wl_test_support::ask;
 use wl_types::Kind::{Window, Worker};
 use wl_types::{Ask, Mode, Refusal};
@@ -106,9 +106,9 @@ type Brief = Manager<PlainCore, Recent>;
 
 type BriefAgent = wl_manager::Agent<PlainCore, Recent>;
 
-fn ask_and_release<R: Wait>(
+fn ask_and_release<T: Count, R: Wait>(
     rt: &R,
-    agent: &mut BriefAgent,
+    agent: &mut wl_manager::Agent<PlainCore, T>,
     asked: &Ask,
 ) -> Result<ReleaseAnswer, Refusal> {
     let mut ticket = agent.request(rt, asked)?;

@@ -163,8 +163,7 @@ impl Table {
 const ABORTED: Phase = Phase::Aborted(Reason::AbortError);
 
 /// An abort needs no memory, and ends the second and the third request; what waited behind them is granted.
-fn abort_ends_what_waits<R: Wait>(rt: &R, alloc: Global) -> Result<bool, Fail> {
-    let mut table = Table::new(rt, alloc)?;
+fn abort_ends_what_waits<R: Wait>(rt: &R, table: &mut Table) -> Result<bool, Fail> {
     table.request(rt, 0, "db", Mode::Shared, None)?;
     let signal = table.agent(1)?.new_signal(rt)?;
     table.request(rt, 1, "db", Mode::Exclusive, Some(signal))?;
@@ -176,8 +175,7 @@ fn abort_ends_what_waits<R: Wait>(rt: &R, alloc: Global) -> Result<bool, Fail> {
 }
 
 /// The end of the third agent needs no memory: its lock is released, its request aborted, and what waited is granted.
-fn an_end_ends_all<R: Wait>(rt: &R, alloc: Global) -> Result<bool, Fail> {
-    let mut table = Table::new(rt, alloc)?;
+fn an_end_ends_all<R: Wait>(rt: &R, table: &mut Table) -> Result<bool, Fail> {
     table.request(rt, 0, "p", Mode::Shared, None)?;
     table.request(rt, 2, "q", Mode::Exclusive, None)?;
     table.request(rt, 2, "p", Mode::Exclusive, None)?;
@@ -194,7 +192,7 @@ fn an_end_ends_all<R: Wait>(rt: &R, alloc: Global) -> Result<bool, Fail> {
 #[test]
 fn a_refused_growth_is_not_entered(rt: HostRuntime) -> Result<(), Fail> {
     try_calls(&rt, rt.alloc())?;
-    assert!(rt; abort_ends_what_waits(&rt, rt.alloc())?);
-    assert!(rt; an_end_ends_all(&rt, rt.alloc())?);
+    assert!(rt; abort_ends_what_waits(&rt, &mut Table::new(&rt, rt.alloc())?)?);
+    assert!(rt; an_end_ends_all(&rt, &mut Table::new(&rt, rt.alloc())?)?);
     Ok(())
 }

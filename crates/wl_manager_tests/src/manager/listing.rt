@@ -2,6 +2,7 @@
 
 use super::{Plain, PlainAgent, PlainTicket};
 use std::alloc::Global;
+use std::process::Abort;
 use std::sync::{Arc, Wait};
 use std::test::Fail;
 use wl_manager::{CoarseClock, LockList, LockRow, Manager};
@@ -133,21 +134,34 @@ waiting
 3 of 1: db Shared 700 None
 and 0";
 
+/// Of each list how many rows it may have, and how it reads at 1000.
+fn assert_lists<R: Wait + Abort>(
+    rt: &R,
+    watched: &Watched,
+    lists: &[(usize, &str)],
+) -> Result<(), Memory> {
+    for (most, wanted) in lists {
+        assert_eq!(rt; watched.show_list(rt, *most, 1000)?.as_str(), *wanted);
+    }
+    Ok(())
+}
+
+/// Before there is a lock, with four requests, and once the first of them is over.
+fn assert_all_lists<R: Wait + Abort>(rt: &R, watched: &mut Watched) -> Result<(), Fail> {
+    assert_lists(rt, watched, &[(10, "waiting\nand 0")])?;
+    watched.ask_for_four(rt)?;
+    assert_lists(
+        rt,
+        watched,
+        &[(4, ALL_FOUR), (3, THREE), (1, ONE), (0, NONE)],
+    )?;
+    watched.release(rt, 500);
+    Ok(assert_lists(rt, watched, &[(10, HANDED_OVER)])?)
+}
+
 #[test]
 fn a_manager_lists_locks_and_requests_with_their_times(rt: HostRuntime) -> Result<(), Fail> {
-    let mut watched = Watched::new(&rt, rt.alloc())?;
-    assert_eq!(rt;
-        watched.show_list(&rt, 10, 1000)?.as_str(),
-        "waiting\nand 0"
-    );
-    watched.ask_for_four(&rt)?;
-    assert_eq!(rt; watched.show_list(&rt, 4, 1000)?.as_str(), ALL_FOUR);
-    assert_eq!(rt; watched.show_list(&rt, 3, 1000)?.as_str(), THREE);
-    assert_eq!(rt; watched.show_list(&rt, 1, 1000)?.as_str(), ONE);
-    assert_eq!(rt; watched.show_list(&rt, 0, 1000)?.as_str(), NONE);
-    watched.release(&rt, 500);
-    assert_eq!(rt; watched.show_list(&rt, 10, 1000)?.as_str(), HANDED_OVER);
-    Ok(())
+    assert_all_lists(&rt, &mut Watched::new(&rt, rt.alloc())?)
 }
 
 /// Several hosts set the clock, and one of them may be late.

@@ -8,7 +8,7 @@ use wl_manager::Manager;
 use wl_test_support::ask;
 use wl_types::{Ask, Kind, Mode, Reason, Refusal};
 
-/// A manager that is full: an inactive window, a worker with all its signals, and others.
+/// A manager with as many agents as may be: a window, a worker and others.
 #[derive(Drop)]
 struct Full {
     manager: Arc<Plain>,
@@ -17,18 +17,33 @@ struct Full {
     others: Vec<PlainAgent>,
 }
 
-fn full_manager<R: Wait>(rt: &R, alloc: Global) -> Result<Full, Fail> {
-    let manager = plain(rt, alloc)?;
-    let mut window = Manager::open(&manager, rt, Kind::Window)?;
-    let mut worker = Manager::open(&manager, rt, Kind::Worker)?;
-    window.set_active(rt, false)?;
-    for _ in 0..1024 {
-        worker.new_signal(rt)?;
-    }
+/// As many workers as may be there beside two agents.
+fn open_others<R: Wait>(
+    rt: &R,
+    alloc: Global,
+    manager: &Arc<Plain>,
+) -> Result<Vec<PlainAgent>, Fail> {
     let mut others = Vec::new(alloc);
     for _ in 2..4096 {
-        others.push(Manager::open(&manager, rt, Kind::Worker)?)?;
+        others.push(Manager::open(manager, rt, Kind::Worker)?)?;
     }
+    Ok(others)
+}
+
+/// The window becomes inactive, and the worker makes all its signals.
+fn spend<R: Wait>(rt: &R, full: &mut Full) -> Result<(), Refusal> {
+    full.window.set_active(rt, false)?;
+    for _ in 0..1024 {
+        full.worker.new_signal(rt)?;
+    }
+    Ok(())
+}
+
+fn open_all<R: Wait>(rt: &R, alloc: Global) -> Result<Full, Fail> {
+    let manager = plain(rt, alloc)?;
+    let window = Manager::open(&manager, rt, Kind::Window)?;
+    let worker = Manager::open(&manager, rt, Kind::Worker)?;
+    let others = open_others(rt, alloc, &manager)?;
     Ok(Full {
         manager,
         window,
@@ -70,7 +85,8 @@ fn refusals<R: Wait>(rt: &R, full: &mut Full, asked: &Ask, reserved: &Ask) -> Re
 
 #[test]
 fn refusals_come_before_memory(rt: HostRuntime) -> Result<(), Fail> {
-    let mut full = full_manager(&rt, rt.alloc())?;
+    let mut full = open_all(&rt, rt.alloc())?;
+    spend(&rt, &mut full)?;
     let asked = ask(rt.alloc(), "db", Mode::Exclusive)?;
     let reserved = ask(rt.alloc(), "-db", Mode::Exclusive)?;
     assert!(rt; refusals(&rt, &mut full, &asked, &reserved) == DUE);

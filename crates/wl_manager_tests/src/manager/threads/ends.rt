@@ -26,7 +26,7 @@ fn race<L: Ledger + Send + Sync, R: Threads + Wait + Sync>(
     ticket: &mut CountedTicket<L>,
     agent: CountedAgent<L>,
 ) -> (Taking, Left<L>) {
-    thread::join(rt, || ticket.take(), || agent.terminate(rt))
+    thread::join(rt, move || ticket.take(), || agent.terminate(rt))
 }
 
 /// A new agent, whose lock is taken while it ends: the take wins, or finds the end, and then the lock is released.

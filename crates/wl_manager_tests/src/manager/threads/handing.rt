@@ -1,8 +1,9 @@
 //! A lock that goes from one agent to the next while a thread looks on.
 
-use crate::manager::{PlainAgent, PlainTicket, audit_book, plain};
+use crate::manager::{Plain, PlainAgent, PlainTicket, audit_book, plain};
+use std::alloc::Global;
 use std::process::Abort;
-use std::sync::Wait;
+use std::sync::{Arc, Wait};
 use std::test::Fail;
 use std::thread;
 use std::thread::Threads;
@@ -40,7 +41,11 @@ fn release_and_look<R: Threads + Wait + Sync>(
     second: &mut PlainTicket,
     watch: &mut Watch,
 ) -> (ReleaseAnswer, Phase) {
-    thread::join(rt, || one.release(rt, first), || look_twice(second, watch))
+    thread::join(
+        rt,
+        move || one.release(rt, first),
+        move || look_twice(second, watch),
+    )
 }
 
 fn hand_over<R: Threads + Wait + Sync>(
@@ -69,13 +74,24 @@ fn assert_end_is_seen<R: Threads + Wait + Abort + Sync>(
     Ok(())
 }
 
+/// The same between two new agents. They are there while the journal is audited.
+fn audit_handings<R: Threads + Wait + Abort + Sync>(
+    rt: &R,
+    alloc: Global,
+    manager: &Arc<Plain>,
+    asked: &Ask,
+) -> Result<(bool, usize), Fail> {
+    let mut one = Manager::open(manager, rt, Kind::Window)?;
+    let mut two = Manager::open(manager, rt, Kind::Window)?;
+    assert_end_is_seen(rt, &mut one, &mut two, asked)?;
+    Ok(audit_book(rt, alloc, manager))
+}
+
 #[test]
 fn ends_are_settled_before_grants(rt: HostRuntime) -> Result<(), Fail> {
     let manager = plain(&rt, rt.alloc())?;
     let asked = ask(rt.alloc(), "db", Mode::Exclusive)?;
-    let mut one = Manager::open(&manager, &rt, Kind::Window)?;
-    let mut two = Manager::open(&manager, &rt, Kind::Window)?;
-    assert_end_is_seen(&rt, &mut one, &mut two, &asked)?;
-    assert_eq!(rt; audit_book(&rt, rt.alloc(), &manager), (true, 4002));
+    let audit = audit_handings(&rt, rt.alloc(), &manager, &asked)?;
+    assert_eq!(rt; audit, (true, 4002));
     Ok(())
 }

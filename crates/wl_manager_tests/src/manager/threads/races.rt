@@ -40,7 +40,11 @@ fn race<R: Threads + Wait + Sync>(
     signal: u64,
     reason: Reason,
 ) -> (Result<AbortAnswer, Refusal>, Taking) {
-    thread::join(rt, || agent.abort(rt, signal, reason), || ticket.take())
+    thread::join(
+        rt,
+        move || agent.abort(rt, signal, reason),
+        move || ticket.take(),
+    )
 }
 
 /// A race over a new lock, with a new signal.
@@ -53,13 +57,20 @@ fn race_anew<R: Threads + Wait + Sync>(
     let signal = agent.new_signal(rt)?;
     asked.signal = Some(signal);
     let mut ticket = agent.request(rt, asked)?;
-    let (aborted, taking) = race(rt, agent, &mut ticket, signal, reason);
-    Ok((
-        aborted?,
-        taking,
-        ticket.look(),
-        agent.release(rt, &mut ticket),
-    ))
+    race_to_the_end(rt, agent, &mut ticket, signal, reason)
+}
+
+/// A race, and then a look and a release.
+fn race_to_the_end<R: Threads + Wait + Sync>(
+    rt: &R,
+    agent: &mut PlainAgent,
+    ticket: &mut PlainTicket,
+    signal: u64,
+    reason: Reason,
+) -> Result<Outcome, Refusal> {
+    let (aborted, taking) = race(rt, agent, ticket, signal, reason);
+    let phase = ticket.look();
+    Ok((aborted?, taking, phase, agent.release(rt, ticket)))
 }
 
 /// Exactly one of the two wins, and a lock that was taken is given up. Answers how often the take won.

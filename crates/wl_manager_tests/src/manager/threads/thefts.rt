@@ -11,7 +11,7 @@ use wl_cell::Taking;
 use wl_core::ReleaseAnswer;
 use wl_manager::Manager;
 use wl_test_support::ask;
-use wl_types::{Ask, Kind, Memory, Mode, Phase, Refusal};
+use wl_types::{Ask, Kind, Memory, Mode, Phase, Refusal, Text};
 
 /// What the take answers, where the request is then, and what the thief's release answers.
 type Outcome = (Taking, Phase, ReleaseAnswer);
@@ -27,7 +27,11 @@ fn race<R: Threads + Wait + Sync>(
     thief: &mut PlainAgent,
     stealing: &Ask,
 ) -> (Taking, Result<PlainTicket, Refusal>) {
-    thread::join(rt, || ticket.take(), || thief.request(rt, stealing))
+    thread::join(
+        rt,
+        move || ticket.take(),
+        move || thief.request(rt, stealing),
+    )
 }
 
 /// A race over a new lock.
@@ -64,9 +68,13 @@ fn assert_thefts<R: Threads + Wait + Abort + Sync>(
 }
 
 fn theft(alloc: Global) -> Result<Ask, Memory> {
-    let mut asked = ask(alloc, "db", Mode::Exclusive)?;
-    asked.steal = true;
-    Ok(asked)
+    Ok(Ask {
+        name: Text::of(alloc, "db")?,
+        mode: Mode::Exclusive,
+        if_available: false,
+        steal: true,
+        signal: None,
+    })
 }
 
 #[test]

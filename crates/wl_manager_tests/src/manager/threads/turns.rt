@@ -33,7 +33,13 @@ fn use_lock<T: Count, R: Wait>(
     agent: &mut Agent<PlainCore, T>,
     ticket: &mut Ticket<PlainCore, T>,
 ) -> Turn {
-    (ticket.wait(rt), ticket.take(), agent.release(rt, ticket))
+    let (phase, taking) = take_lock(rt, ticket);
+    (phase, taking, agent.release(rt, ticket))
+}
+
+fn take_lock<T: Count, R: Wait>(rt: &R, ticket: &mut Ticket<PlainCore, T>) -> (Phase, Taking) {
+    let phase = ticket.wait(rt);
+    (phase, ticket.take())
 }
 
 fn take_turn<T: Count, R: Wait>(
