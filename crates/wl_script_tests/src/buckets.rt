@@ -42,10 +42,14 @@ const NAMES: &[(&str, bool)] = &[
 fn is_name(alloc: Global, text: &str) -> Result<bool, Memory> {
     let kept = BucketName::from_text(Text::of(alloc, text)?);
     match BucketName::of(alloc, text) {
-        Ok(name) => Ok(name.as_str() == text && kept == Some(name)),
+        Ok(name) => Ok(is_that(&name, text, &kept)),
         Err(BucketFault::BadBucket) => Ok(kept.is_some()),
         Err(BucketFault::Memory) => Err(Memory),
     }
+}
+
+fn is_that(name: &BucketName, text: &str, kept: &Option<BucketName>) -> bool {
+    name.as_str() == text && kept.as_ref() == Some(name)
 }
 
 #[test]
@@ -75,7 +79,7 @@ fn a_name_is_copied_and_default_is_known(rt: HostRuntime) -> Result<(), Fail> {
 }
 
 /// By their bytes.
-const RISING_NAMES: [(&str, &str); 10] = [
+const RISING_NAMES: &[(&str, &str)] = &[
     ("0", "0-"),
     ("0-", "00"),
     ("00", "0_"),
@@ -161,7 +165,7 @@ fn a_bucket_may_be_handed_over(rt: HostRuntime) -> Result<(), Fail> {
 }
 
 /// By origin, then bucket.
-const RISING_KEYS: [(&str, &str); 5] = [
+const RISING_KEYS: &[(&str, &str)] = &[
     ("http://a.test:8080/", "z"),
     ("https://a.test/", "a"),
     ("https://a.test:443/", "default"),
@@ -178,9 +182,8 @@ fn are_rising_keys(alloc: Global, before: (&str, &str), after: (&str, &str)) -> 
 
 #[test]
 fn keys_are_ordered_by_origin_then_bucket(rt: HostRuntime) -> Result<(), Fail> {
-    for i in 1..RISING_KEYS.len() {
-        let (before, after) = (RISING_KEYS[i - 1], RISING_KEYS[i]);
-        assert!(rt; are_rising_keys(rt.alloc(), before, after)?);
+    for (before, after) in RISING_KEYS.iter().zip(RISING_KEYS.iter().skip(1)) {
+        assert!(rt; are_rising_keys(rt.alloc(), *before, *after)?);
     }
     Ok(())
 }

@@ -66,16 +66,24 @@ fn show_message(alloc: Global, message: &Message) -> Result<String, Memory> {
 
 fn wish(alloc: Global, id: u64, ask: &Ask) -> Result<String, Memory> {
     let mut text = format!(in alloc; "{id} request {} {}", ask.name.as_str(), ask.mode.word())?;
-    if ask.if_available {
-        text.push_str(" available")?;
+    add_flag(&mut text, " available", ask.if_available)?;
+    add_flag(&mut text, " steal", ask.steal)?;
+    add_signal(&mut text, ask.signal)?;
+    Ok(text)
+}
+
+fn add_flag(text: &mut String, word: &str, is_set: bool) -> Result<(), Memory> {
+    if is_set {
+        text.push_str(word)?;
     }
-    if ask.steal {
-        text.push_str(" steal")?;
-    }
-    if let Some(signal) = ask.signal {
+    Ok(())
+}
+
+fn add_signal(text: &mut String, signal: Option<u64>) -> Result<(), Memory> {
+    if let Some(signal) = signal {
         write!(text, " signal {signal}")?;
     }
-    Ok(text)
+    Ok(())
 }
 
 fn wrong(alloc: Global, id: Option<u64>, fault: CodecFault) -> Result<String, Memory> {

@@ -100,7 +100,7 @@ fn one_origin_has_one_key(rt: HostRuntime) -> Result<(), Fail> {
 }
 
 /// By scheme, then host, then port. As a text 443 would stand before 80, and 10000 before both.
-const RISING: [(&str, &str); 8] = [
+const RISING: &[(&str, &str)] = &[
     ("ftp://z.test/", "http://[::1]/"),
     ("http://[::1]/", "http://a.test/"),
     ("http://a.test/", "http://a.test:443/"),

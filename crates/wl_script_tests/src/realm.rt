@@ -105,8 +105,12 @@ fn first(alloc: Global, realm: &Realm<PlainCore>) -> Result<String, Memory> {
         return Ok("no core".to_string(alloc)?);
     }
     let (key, core) = realm.nth(0);
+    show_at(alloc, key, show_first(alloc, core)?)
+}
+
+/// What is seen at a key, behind the key.
+fn show_at(alloc: Global, key: &ManagerKey, seen: String) -> Result<String, Memory> {
     let origin = key.origin.text(alloc)?;
-    let seen = show_first(alloc, core)?;
     Ok(format!(in alloc; "{origin} {} {seen}", key.bucket.as_str())?)
 }
 

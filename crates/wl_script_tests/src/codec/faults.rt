@@ -187,7 +187,7 @@ fn a_line_names_its_agent(rt: HostRuntime) -> Result<(), Fail> {
     Ok(())
 }
 
-const RULES: [(CodecFault, &str); 17] = [
+const RULES: &[(CodecFault, &str)] = &[
     (CodecFault::BadJson, "BadJson/json"),
     (CodecFault::NotAnObject, "NotAnObject/json"),
     (CodecFault::BadId, "BadId/id"),
@@ -222,9 +222,9 @@ fn is_named(fault: &CodecFault, name: &str, rule: &str) -> bool {
 /// The first text that isn't that of its fault.
 fn find_misnamed() -> Option<&'static str> {
     for (fault, text) in RULES {
-        let (name, rule) = text.split_once('/').unwrap_or((text, ""));
-        if !is_named(&fault, name, rule) {
-            return Some(text);
+        let (name, rule) = text.split_once('/').unwrap_or((*text, ""));
+        if !is_named(fault, name, rule) {
+            return Some(*text);
         }
     }
     None

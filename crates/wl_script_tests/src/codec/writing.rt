@@ -204,7 +204,7 @@ fn a_snapshot_shows_what_is_held_and_what_waits(rt: HostRuntime) -> Result<(), F
     Ok(())
 }
 
-const ESCAPED: [(&str, &str); 8] = [
+const ESCAPED: &[(&str, &str)] = &[
     ("", ""),
     ("db/1 'x'", "db/1 'x'"),
     ("a\"b", "a\\\"b"),

@@ -32,14 +32,22 @@ fn do_step(alloc: Global, session: &mut Session, step: &str) -> Result<String, M
 
 /// The replies alone, of a session of either upkeep.
 pub fn replies<U: Upkeep>(alloc: Global, list: &str) -> Result<String, Memory> {
-    let mut session = SessionOf::<U>::new(alloc);
     let mut came = String::new(alloc);
+    add_replies(&mut SessionOf::<U>::new(alloc), &mut came, list)?;
+    Ok(came)
+}
+
+fn add_replies<U: Upkeep>(
+    session: &mut SessionOf<U>,
+    came: &mut String,
+    list: &str,
+) -> Result<(), Memory> {
     for line in list.lines() {
         let (step, _) = line.split_once(" -> ").unwrap_or((line, ""));
-        let reply = finish(&mut session, step)?;
+        let reply = finish(session, step)?;
         write!(came, "{step} -> {reply}\n")?;
     }
-    Ok(came)
+    Ok(())
 }
 
 fn finish<U: Upkeep>(session: &mut SessionOf<U>, step: &str) -> Result<String, Memory> {

@@ -24,17 +24,16 @@ fn show_action(action: &Action) -> &'static str {
 
 fn show_act(body: &Body) -> &'static str {
     match body {
-        Body::Enter { url, kind, bucket } => {
-            if *kind == Kind::Window
-                && url.as_str() == "https://a.test/"
-                && bucket.as_str() == "default"
-            {
-                "opens a window of a.test"
-            } else {
-                "opens something else"
-            }
-        }
+        Body::Enter { url, kind, bucket } => show_enter(url.as_str(), *kind, bucket.as_str()),
         Body::Poll => "polls",
         _ => "another act",
+    }
+}
+
+fn show_enter(url: &str, kind: Kind, bucket: &str) -> &'static str {
+    if kind == Kind::Window && url == "https://a.test/" && bucket == "default" {
+        "opens a window of a.test"
+    } else {
+        "opens something else"
     }
 }

@@ -19,9 +19,10 @@ fn request<U: Upkeep>(
 ) -> Result<(), Memory>
     requires { IsByNumber looks.now }
 {
-    let reply = session.finish_changed(Some(7), Outcome::Request(number), looks)?;
-    text.push_str(reply.as_str())?;
-    Ok(())
+    match session.finish_changed(Some(7), Outcome::Request(number), looks) {
+        Ok(reply) => Ok(text.push_str(reply.as_str())?),
+        Err(Memory) => Err(Memory),
+    }
 }
 
 /// The request that ends as this one comes: of each two, the later one ends first.
