@@ -19,7 +19,7 @@ use std::random::RandomSource;
 use std::sync::Wait;
 use std::test::Fail;
 use wl_journal::{Entry, Sight};
-use wl_manager::{LockRow, Visitor};
+use wl_manager::{LockList, LockRow, Visitor};
 use wl_service::{Client, Keeping, OpenFault, Service, Ticket};
 use wl_test_support::{ask, key_in, origin_key};
 use wl_types::{Ask, Kind, Memory, Mode, Phase, Reason, Refusal, ReleaseAnswer, Text};
@@ -252,18 +252,26 @@ impl Scene {
         for one in &listed.managers {
             let origin = one.key.origin.text(self.alloc)?;
             write!(came, "{} {}:", origin.as_str(), one.key.bucket.as_str())?;
-            put_numbers(came, &one.locks.held)?;
-            write!(came, " |")?;
-            put_numbers(came, &one.locks.pending)?;
-            write!(came, " and {}, ", one.locks.left_out)?;
+            put_locks(came, &one.locks)?;
         }
         show(came, Some(listed.left_out_managers))
     }
 }
 
+fn put_locks(came: &mut String, locks: &LockList) -> Result<(), AllocError> {
+    put_numbers(came, &locks.held)?;
+    came.push_str(" |")?;
+    put_numbers(came, &locks.pending)?;
+    write!(came, " and {}, ", locks.left_out)
+}
+
 fn put_numbers(came: &mut String, rows: &[LockRow]) -> Result<(), AllocError> {
     for row in rows {
-        write!(came, " {}", row.request)?;
+        put_number(came, row.request)?;
     }
     Ok(())
+}
+
+fn put_number(came: &mut String, number: u64) -> Result<(), AllocError> {
+    write!(came, " {number}")
 }

@@ -30,10 +30,16 @@ impl Seat {
         self.ticket = self.client.request(rt, &self.asked).ok();
     }
 
-    /// The number of the ticket, and where its request is.
     fn look(&mut self) -> Option<(u64, Phase)> {
-        let ticket = self.ticket.as_mut()?;
-        Some((ticket.number(), ticket.look()))
+        look_at(&mut self.ticket)
+    }
+}
+
+/// The number of the ticket, and where its request is.
+fn look_at(ticket: &mut Option<Ticket>) -> Option<(u64, Phase)> {
+    match ticket {
+        Some(ticket) => Some((ticket.number(), ticket.look())),
+        None => None,
     }
 }
 

@@ -21,11 +21,17 @@ const EPOCH: u64 = 31;
 /// How often each of three threads steals the lock.
 const THEFTS: usize = 4000;
 
-fn put(alloc: Global, peer: &Peer, text: String, told: &mut String) -> Result<(), Memory> {
-    let text = fenced_text(alloc, EPOCH, peer.fences(), text)?;
-    told.push_str(text.as_str())?;
+fn add_line(told: &mut String, line: &str) -> Result<(), Memory> {
+    told.push_str(line)?;
     told.push_str("\n")?;
     Ok(())
+}
+
+fn put(alloc: Global, fences: &[Fence], text: String, told: &mut String) -> Result<(), Memory> {
+    match fenced_text(alloc, EPOCH, fences, text) {
+        Ok(text) => add_line(told, text.as_str()),
+        Err(Memory) => Err(Memory),
+    }
 }
 
 /// Answers these messages, and puts each reply down with its fences.
@@ -40,7 +46,7 @@ fn hear<R: Wait>(
     let mut peer = peer;
     for message in messages {
         let (next, text) = peer.answer(rt, service, message)?;
-        if put(alloc, &next, text, told).is_err() {
+        if put(alloc, next.fences(), text, told).is_err() {
             next.end(rt);
             return Err(Memory);
         }
@@ -63,7 +69,7 @@ fn wait_for<R: Wait>(
     client.release(rt, ticket);
     let (peer, text) = peer.push(rt, service)?;
     if let Some(text) = text
-        && put(alloc, &peer, text, told).is_err()
+        && put(alloc, peer.fences(), text, told).is_err()
     {
         peer.end(rt);
         return Err(Memory);

@@ -5,9 +5,9 @@ use std::alloc::Global;
 use std::sync::Wait;
 use std::test::Fail;
 use wl_server::Peer;
-use wl_service::Service;
+use wl_service::{Client, Service};
 use wl_test_support::{ask, fail_refused};
-use wl_types::{Kind, Memory, Mode, Phase};
+use wl_types::{Ask, Kind, Memory, Mode, Phase, Refusal};
 
 pub const REQUEST: &[u8] = b"{\"id\":2,\"name\":\"db\",\"op\":\"request\"}";
 
@@ -17,9 +17,13 @@ const POLL: &[u8] = b"{\"id\":4,\"op\":\"poll\"}";
 
 /// Whether another client is granted the lock.
 fn is_free<R: Wait>(rt: &R, alloc: Global, service: &Service) -> Result<bool, Fail> {
+    let asked = ask(alloc, "db", Mode::Exclusive)?;
     let mut client = service.open(rt, "https://a.test/", Kind::Window)?;
-    let mut ticket = client.request(rt, &ask(alloc, "db", Mode::Exclusive)?)?;
-    Ok(ticket.look() == Phase::Granted)
+    Ok(is_granted(rt, &mut client, &asked)?)
+}
+
+fn is_granted<R: Wait>(rt: &R, client: &mut Client, asked: &Ask) -> Result<bool, Refusal> {
+    Ok(client.request(rt, asked)?.look() == Phase::Granted)
 }
 
 /// Answers these messages, one after another.

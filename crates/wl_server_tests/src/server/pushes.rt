@@ -6,26 +6,29 @@ use std::alloc::Global;
 use std::sync::Wait;
 use std::test::Fail;
 use wl_server::{NoAnswer, NotOpened, Opener, Peer, Scratch};
-use wl_service::{Client, Keeping, Leaving, Service};
+use wl_service::{Client, Keeping, Leaving, Service, Ticket};
 use wl_test_support::ask;
-use wl_types::{Kind, Mode, Text};
+use wl_types::{Kind, Memory, Mode, Text};
 
 /// What a peer told whose request waited, and whether it was rung once the lock was free.
 #[derive(Debug, PartialEq, Eq, Drop)]
 struct Told {
     before: Option<String>,
     is_rung: bool,
-    after: Option<String>,
-    again: Option<String>,
+    after: Result<Option<String>, Memory>,
+    again: Result<Option<String>, Memory>,
 }
 
-/// The peer's request waits until the lock of another client is given up.
-fn tell_after_release<R: Wait>(rt: &R, alloc: Global, service: &Service) -> Result<Told, Fail> {
-    let mut client = service.open(rt, "https://a.test/", Kind::Window)?;
-    let mut ticket = client.request(rt, &ask(alloc, "db", Mode::Exclusive)?)?;
-    let peer = answer_all(rt, service, Peer::new(alloc), &[OPEN, REQUEST])?;
+/// What the peer tells before the client's lock is given up, and what after.
+fn tell_around_release<R: Wait>(
+    rt: &R,
+    service: &Service,
+    client: &mut Client,
+    ticket: &mut Ticket,
+    peer: Peer,
+) -> Result<Told, Memory> {
     let (mut peer, before) = peer.push(rt, service)?;
-    client.release(rt, &mut ticket);
+    client.release(rt, ticket);
     let is_rung = peer.is_rung();
     let after = peer.push_text();
     let again = peer.push_text();
@@ -33,9 +36,17 @@ fn tell_after_release<R: Wait>(rt: &R, alloc: Global, service: &Service) -> Resu
     Ok(Told {
         before,
         is_rung,
-        after: after?,
-        again: again?,
+        after,
+        again,
     })
+}
+
+/// The peer's request waits until the lock of another client is given up.
+fn tell_after_release<R: Wait>(rt: &R, alloc: Global, service: &Service) -> Result<Told, Fail> {
+    let mut client = service.open(rt, "https://a.test/", Kind::Window)?;
+    let mut ticket = client.request(rt, &ask(alloc, "db", Mode::Exclusive)?)?;
+    let peer = answer_all(rt, service, Peer::new(alloc), &[OPEN, REQUEST])?;
+    Ok(tell_around_release(rt, service, &mut client, &mut ticket, peer)?)
 }
 
 const GRANTED: &str = "{\"id\":null,\"notices\":[{\"phase\":\"granted\",\"request\":2}],\"ok\":{}}";
@@ -46,8 +57,8 @@ fn a_peer_tells_once_what_changed(rt: HostRuntime) -> Result<(), Fail> {
     let wanted = Told {
         before: None,
         is_rung: true,
-        after: Some(GRANTED.to_string(rt.alloc())?),
-        again: None,
+        after: Ok(Some(GRANTED.to_string(rt.alloc())?)),
+        again: Ok(None),
     };
     assert_eq!(rt; tell_after_release(&rt, rt.alloc(), &service)?, wanted);
     Ok(())

@@ -17,10 +17,20 @@ fn try_open<R: Wait>(
     bucket: &str,
     number: u64,
 ) -> Result<Client, Fail> {
-    let opened = service.open_in(rt, url, bucket, Kind::Window);
-    let Err(OpenFault::Memory) = opened else {
-        return Ok(opened?);
-    };
+    match service.open_in(rt, url, bucket, Kind::Window) {
+        Err(OpenFault::Memory) => open_as(rt, service, url, bucket, number),
+        opened => Ok(opened?),
+    }
+}
+
+/// Opens a window, which has to have this number.
+fn open_as<R: Wait>(
+    rt: &R,
+    service: &Service,
+    url: &str,
+    bucket: &str,
+    number: u64,
+) -> Result<Client, Fail> {
     let client = service.open_in(rt, url, bucket, Kind::Window)?;
     fail_refused(client.client() == Some(number))?;
     Ok(client)

@@ -5,9 +5,9 @@ use std::alloc::Global;
 use std::sync::{Arc, Wait};
 use std::test::Fail;
 use wl_manager::{Bell, Ring};
-use wl_service::{Client, Service};
+use wl_service::{Client, OpenFault, Service, Ticket};
 use wl_test_support::ask;
-use wl_types::{Kind, Mode, Text};
+use wl_types::{Ask, Kind, Memory, Mode, Text};
 
 /// The place of the client that hears.
 const PLACE: u64 = 7;
@@ -18,41 +18,98 @@ fn open_heard<R: Wait>(
     service: &Service,
     ring: &Arc<Ring>,
 ) -> Result<Client, Fail> {
-    let bucket = Text::of(alloc, "default")?;
     let bell = Bell::new(alloc, ring, PLACE)?;
-    Ok(service.open_heard(rt, HERE, bucket, Kind::Window, Some(bell))?)
+    let bucket = Text::of(alloc, "default")?;
+    Ok(open_with(rt, service, bucket, bell)?)
 }
 
-/// Whether the client was rung, and the places that its bell added; none where some are missing.
-fn hearing_of(alloc: Global, client: &Client, ring: &Arc<Ring>) -> (bool, Option<Vec<u64>>) {
+fn open_with<R: Wait>(
+    rt: &R,
+    service: &Service,
+    bucket: Text,
+    bell: Bell,
+) -> Result<Client, OpenFault> {
+    service.open_heard(rt, HERE, bucket, Kind::Window, Some(bell))
+}
+
+/// Adds whether the client was rung, the places that its bell added, and whether these are all.
+fn put_hearing(
+    alloc: Global,
+    came: &mut String,
+    client: &Client,
+    ring: &Arc<Ring>,
+) -> Result<(), Memory> {
+    let word = if client.is_rung() { "rung" } else { "silent" };
     let mut places = Vec::new(alloc);
-    let is_rung = client.is_rung();
     let are_all = ring.collect(&mut places);
-    (is_rung, are_all.then_some(places))
+    write!(came, "{word} {places:?} {are_all}\n")?;
+    Ok(())
 }
 
-/// Another client has the lock, and gives it up.
+/// Adds the requests of the client that changed, and whether these are all.
+fn put_changes(alloc: Global, came: &mut String, client: &mut Client) -> Result<(), Memory> {
+    let mut changed = Vec::new(alloc);
+    let are_all = client.changed_requests(&mut changed);
+    write!(came, "changed {changed:?} {are_all}\n")?;
+    Ok(())
+}
+
+/// What the client hears before the other one gives up its lock, and after.
+fn hear_release<R: Wait>(
+    rt: &R,
+    alloc: Global,
+    ring: &Arc<Ring>,
+    client: &mut Client,
+    other: &mut Client,
+    held: &mut Ticket,
+) -> Result<String, Memory> {
+    let mut came = String::new(alloc);
+    put_hearing(alloc, &mut came, client, ring)?;
+    other.release(rt, held);
+    put_hearing(alloc, &mut came, client, ring)?;
+    put_changes(alloc, &mut came, client)?;
+    put_hearing(alloc, &mut came, client, ring)?;
+    Ok(came)
+}
+
+/// The other client has the lock, and this one waits for it.
+fn hear_both<R: Wait>(
+    rt: &R,
+    alloc: Global,
+    ring: &Arc<Ring>,
+    client: &mut Client,
+    other: &mut Client,
+    asked: &Ask,
+) -> Result<String, Fail> {
+    let mut held = other.request(rt, asked)?;
+    let _waiting = client.request(rt, asked)?;
+    Ok(hear_release(rt, alloc, ring, client, other, &mut held)?)
+}
+
+fn hear<R: Wait>(
+    rt: &R,
+    alloc: Global,
+    service: &Service,
+    ring: &Arc<Ring>,
+) -> Result<String, Fail> {
+    let asked = ask(alloc, "db", Mode::Exclusive)?;
+    let mut client = open_heard(rt, alloc, service, ring)?;
+    let mut other = service.open(rt, HERE, Kind::Window)?;
+    hear_both(rt, alloc, ring, &mut client, &mut other, &asked)
+}
+
+/// The request that waits is the second.
+const HEARD: &str = "\
+silent [] true
+rung [7] true
+changed [2] true
+silent [] true
+";
+
 #[test]
 fn a_bell_rings_when_a_request_changes(rt: HostRuntime) -> Result<(), Fail> {
     let service = Service::new(&rt, rt.alloc())?;
     let ring = Arc::new(rt.alloc(), Ring::new(rt.alloc()))?;
-    let mut client = open_heard(&rt, rt.alloc(), &service, &ring)?;
-    let mut other = service.open(&rt, HERE, Kind::Window)?;
-    let asked = ask(rt.alloc(), "db", Mode::Exclusive)?;
-    let mut held = other.request(&rt, &asked)?;
-    let waiting = client.request(&rt, &asked)?;
-    assert_eq!(rt;
-        hearing_of(rt.alloc(), &client, &ring),
-        (false, Some(Vec::new(rt.alloc())))
-    );
-    other.release(&rt, &mut held);
-    assert_eq!(rt;
-        hearing_of(rt.alloc(), &client, &ring),
-        (true, Some(vec![in rt.alloc(); PLACE]?))
-    );
-    let mut changed = Vec::new(rt.alloc());
-    assert!(rt; client.changed_requests(&mut changed));
-    assert_eq!(rt; changed.as_slice(), [waiting.number()].as_slice());
-    assert!(rt; !client.is_rung());
+    assert_eq!(rt; hear(&rt, rt.alloc(), &service, &ring)?.as_str(), HEARD);
     Ok(())
 }

@@ -1,10 +1,13 @@
 //! Which locks of a service are listed.
 
 use super::HERE;
+use std::alloc::Global;
+use std::sync::Wait;
 use std::test::Fail;
-use wl_service::Service;
+use wl_manager::LockList;
+use wl_service::{Client, Service};
 use wl_test_support::ask;
-use wl_types::{Kind, Mode};
+use wl_types::{Ask, Kind, Mode, Refusal};
 
 const LOCKS_ARE_LISTED_BY_MANAGER: &str = "\
 locks -> 0
@@ -37,22 +40,40 @@ locks -> https://b.test default: | and 0, 0
 
 pub const LISTS: [&str; 2] = [LOCKS_ARE_LISTED_BY_MANAGER, A_LIST_KEEPS_NO_MANAGER];
 
+/// How many locks and requests are listed, how many aren't, and the request that is listed last.
+type Cut = (usize, usize, u64, Option<u64>);
+
+fn cut_of(locks: &LockList) -> Cut {
+    let last = locks.pending.last().map(|row| row.request);
+    (locks.held.len(), locks.pending.len(), locks.left_out, last)
+}
+
+fn ask_often<R: Wait>(rt: &R, client: &mut Client, asked: &Ask) -> Result<(), Refusal> {
+    for _ in 0..1002 {
+        client.request(rt, asked)?;
+    }
+    Ok(())
+}
+
+fn list_one<R: Wait>(rt: &R, service: &Service) -> Result<Cut, Fail> {
+    match service.list_locks(rt, None, 0)?.managers.first() {
+        Some(one) => Ok(cut_of(&one.locks)),
+        None => Err(Fail::new("no manager is listed")),
+    }
+}
+
+fn list_often_asked<R: Wait>(rt: &R, alloc: Global, service: &Service) -> Result<Cut, Fail> {
+    let asked = ask(alloc, "db", Mode::Exclusive)?;
+    let mut client = service.open(rt, HERE, Kind::Window)?;
+    ask_often(rt, &mut client, &asked)?;
+    list_one(rt, service)
+}
+
 /// One lock and 1,001 requests that wait for it: 1,000 rows are listed, and two are counted.
 #[test]
 fn a_long_list_is_cut(rt: HostRuntime) -> Result<(), Fail> {
     let service = Service::new(&rt, rt.alloc())?;
-    let mut client = service.open(&rt, HERE, Kind::Window)?;
-    let asked = ask(rt.alloc(), "db", Mode::Exclusive)?;
-    for _ in 0..1002 {
-        client.request(&rt, &asked)?;
-    }
-    let listed = service.list_locks(&rt, None, 0)?;
-    let Some(one) = listed.managers.first() else {
-        return Err(Fail::new("no manager is listed"));
-    };
-    let held = one.locks.held.len();
-    let pending = one.locks.pending.len();
-    assert_eq!(rt; (held, pending, one.locks.left_out), (1, 999, 2));
-    assert_eq!(rt; one.locks.pending.last().map(|row| row.request), Some(1000));
+    let cut = list_often_asked(&rt, rt.alloc(), &service)?;
+    assert_eq!(rt; cut, (1, 999, 2, Some(1000)));
     Ok(())
 }
