@@ -183,7 +183,7 @@ fn audit_spoilt(alloc: Global, places: &[usize]) -> Result<Result<(), AuditFault
 }
 
 /// Places of entries whose replies are wrong, and what an audit says: it tells the first.
-const AUDITS: [(&[usize], Result<(), AuditFault>); 3] = [
+const AUDITS: &[(&[usize], Result<(), AuditFault>)] = &[
     (&[], Ok(())),
     (&[3], Err(AuditFault::Illegal(3))),
     (&[3, 0], Err(AuditFault::Illegal(0))),
@@ -192,18 +192,20 @@ const AUDITS: [(&[usize], Result<(), AuditFault>); 3] = [
 #[test]
 fn a_wrong_reply_is_found_in_its_place(rt: HostRuntime) -> Result<(), Fail> {
     for (places, wanted) in AUDITS {
-        assert!(rt; audit_spoilt(rt.alloc(), places)? == wanted);
+        assert!(rt; audit_spoilt(rt.alloc(), places)? == *wanted);
     }
     Ok(())
 }
 
+const FAULTS: &[(AuditFault, &str)] = &[
+    (AuditFault::Illegal(3), "entry 3 is illegal"),
+    (AuditFault::Memory, "out of memory"),
+];
+
 #[test]
 fn faults_have_texts(rt: HostRuntime) -> Result<(), Fail> {
-    for (fault, wanted) in [
-        (AuditFault::Illegal(3), "entry 3 is illegal"),
-        (AuditFault::Memory, "out of memory"),
-    ] {
-        assert_eq!(rt; format!(in rt.alloc(); "{fault}")?.as_str(), wanted);
+    for (fault, wanted) in FAULTS {
+        assert_eq!(rt; format!(in rt.alloc(); "{fault}")?.as_str(), *wanted);
     }
     Ok(())
 }

@@ -24,7 +24,7 @@ fn assert_calls<R: Wait + Abort>(
     assert_rows(rt, &mut ends, rows)
 }
 
-const TAKEN_ONCE: [(Call, &str); 13] = [
+const TAKEN_ONCE: &[(Call, &str)] = &[
     (Settle(Granted), "true"),
     (Look, "Granted"),
     (Take, "Taken"),
@@ -42,11 +42,11 @@ const TAKEN_ONCE: [(Call, &str); 13] = [
 
 #[test]
 fn a_lock_is_taken_once_and_then_not_aborted(rt: HostRuntime) -> Result<(), Fail> {
-    Ok(assert_calls(&rt, rt.alloc(), TAKEN_ONCE.as_slice())?)
+    Ok(assert_calls(&rt, rt.alloc(), TAKEN_ONCE)?)
 }
 
 /// The end of a request that waited is seen by both ends at once.
-const ENDED_WHILE_IT_WAITED: [(Call, &str); 24] = [
+const ENDED_WHILE_IT_WAITED: &[(Call, &str)] = &[
     (New, "true"),
     (Look, "Pending"),
     (LookOn, "Pending"),
@@ -75,11 +75,11 @@ const ENDED_WHILE_IT_WAITED: [(Call, &str); 24] = [
 
 #[test]
 fn a_look_is_of_now(rt: HostRuntime) -> Result<(), Fail> {
-    Ok(assert_calls(&rt, rt.alloc(), ENDED_WHILE_IT_WAITED.as_slice())?)
+    Ok(assert_calls(&rt, rt.alloc(), ENDED_WHILE_IT_WAITED)?)
 }
 
 /// A code is read back as itself, the least and the greatest too. A take that comes after the abort takes nothing.
-const ABORTED_WITH_A_CODE: [(Call, &str); 27] = [
+const ABORTED_WITH_A_CODE: &[(Call, &str)] = &[
     (New, "true"),
     (Settle(Aborted(Code(0))), "true"),
     (Look, "Aborted(Code(0))"),
@@ -111,11 +111,11 @@ const ABORTED_WITH_A_CODE: [(Call, &str); 27] = [
 
 #[test]
 fn a_cell_carries_the_code_of_an_abort(rt: HostRuntime) -> Result<(), Fail> {
-    Ok(assert_calls(&rt, rt.alloc(), ABORTED_WITH_A_CODE.as_slice())?)
+    Ok(assert_calls(&rt, rt.alloc(), ABORTED_WITH_A_CODE)?)
 }
 
 /// The same of the end of a lock that was granted and seen so.
-const ENDED_AFTER_THE_GRANT: [(Call, &str); 18] = [
+const ENDED_AFTER_THE_GRANT: &[(Call, &str)] = &[
     (New, "true"),
     (Settle(Granted), "true"),
     (Look, "Granted"),
@@ -138,5 +138,5 @@ const ENDED_AFTER_THE_GRANT: [(Call, &str); 18] = [
 
 #[test]
 fn a_look_repeats_no_older_phase(rt: HostRuntime) -> Result<(), Fail> {
-    Ok(assert_calls(&rt, rt.alloc(), ENDED_AFTER_THE_GRANT.as_slice())?)
+    Ok(assert_calls(&rt, rt.alloc(), ENDED_AFTER_THE_GRANT)?)
 }

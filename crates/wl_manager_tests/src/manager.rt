@@ -7,31 +7,22 @@ mod desk;
 mod growth;
 mod inboxes;
 mod listing;
+mod plain;
 mod refusals;
 mod threads;
 
 use crate::rows::assert_rows;
 use desk::{Call, Desk};
+use plain::PlainManager;
 use std::alloc::Global;
 use std::process::Abort;
-use std::sync::{Arc, Wait};
+use std::sync::Wait;
 use std::test::Fail;
 use wl_core::{Command, LockCore, PlainCore};
 use wl_journal::{Entry, audit};
-use wl_manager::{Agent, Count, Loose, Manager, Ticket, Visitor};
+use wl_manager::{Count, Manager, Visitor};
 use wl_test_support::opening;
-use wl_types::{Kind, Memory};
-
-type Plain = Manager<PlainCore, Loose>;
-
-type PlainAgent = Agent<PlainCore, Loose>;
-
-type PlainTicket = Ticket<PlainCore, Loose>;
-
-/// A manager that counts no shares.
-fn plain<R>(rt: &R, alloc: Global) -> Result<Arc<Plain, Global>, Memory> {
-    Manager::new(rt, alloc, (), (), ())
-}
+use wl_types::Memory;
 
 /// Makes the calls of a new manager.
 fn assert_calls<R: Wait + Abort>(
@@ -39,7 +30,7 @@ fn assert_calls<R: Wait + Abort>(
     alloc: Global,
     rows: &[(Call, &str)],
 ) -> Result<(), Memory> {
-    let mut desk = Desk::new(alloc, plain(rt, alloc)?)?;
+    let mut desk = Desk::new(alloc, PlainManager::new(rt, alloc)?)?;
     assert_rows(rt, &mut desk, rows)
 }
 

@@ -25,7 +25,7 @@ use wl_admission::{
 };
 use wl_origin::key_of;
 
-const LISTS: [&str; 7] = [
+const LISTS: &[&str] = &[
     // Programs and pages.
     "hello  -> admitted
 open https://a.test/ -> may
@@ -312,5 +312,5 @@ fn source_of(address: &str) -> Source {
 
 #[test]
 fn servers_do_the_lists(rt: HostRuntime) -> Result<(), Fail> {
-    assert_lists::<Server, _>(&rt, rt.alloc(), &LISTS)
+    assert_lists::<Server, _>(&rt, rt.alloc(), LISTS)
 }

@@ -8,7 +8,7 @@ use std::sync::Wait;
 use std::test::Fail;
 use wl_liveness::{Limits, Liveness};
 
-const LISTS: [&str; 4] = [
+const LISTS: &[&str] = &[
     "due 9999 -> Nothing
 hear 9999 -> Handshake { since: 0 }
 due 10000 -> End
@@ -77,5 +77,5 @@ impl Scene for Connection {
 
 #[test]
 fn connections_do_the_lists(rt: HostRuntime) -> Result<(), Fail> {
-    assert_lists::<Connection, _>(&rt, rt.alloc(), &LISTS)
+    assert_lists::<Connection, _>(&rt, rt.alloc(), LISTS)
 }

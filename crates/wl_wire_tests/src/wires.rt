@@ -134,7 +134,7 @@ fn take_turns<R: Wait>(
     Ok(())
 }
 
-const LISTS: [&str; 4] = [
+const LISTS: &[&str] = &[
     // Handshakes.
     "wait -> waits
 hello wait -> waits waits waits waits 1:
@@ -180,5 +180,5 @@ hello unmasked -> Protocol 1: closed 1002
 
 #[test]
 fn turns_do_the_lists(rt: HostRuntime) -> Result<(), Fail> {
-    assert_lists::<Turns, _>(&rt, rt.alloc(), &LISTS)
+    assert_lists::<Turns, _>(&rt, rt.alloc(), LISTS)
 }

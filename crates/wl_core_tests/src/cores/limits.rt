@@ -1,6 +1,7 @@
 //! The limits of a manager, reached.
 
 use std::alloc::Global;
+use std::hash::RandomState;
 use std::test::Fail;
 use wl_core::{LockCore, PlainCore};
 use wl_index::{IndexCore, random_seed};
@@ -41,20 +42,40 @@ signal 2 -> Signal(1025)
 ";
 
 /// What is done before a call is, how often that is done, and the list then.
-const LIMITS: [(&str, (u64, &str), &str); 2] = [
+const LIMITS: &[(&str, (u64, &str), &str)] = &[
     ("", (4095, "open window"), ONE_AGENT_TOO_MANY),
     (TWO_AGENTS, (1023, "signal 1"), ONE_SIGNAL_TOO_MANY),
 ];
 
+/// The lists, one behind another.
+fn all_lists(alloc: Global) -> Result<String, Memory> {
+    let mut all = String::new(alloc);
+    for (_, _, list) in LIMITS {
+        all.push_str(list)?;
+    }
+    Ok(all)
+}
+
+/// The same as they come out.
+fn run_all<S: Copy + Drop, C: LockCore<Seed = S>>(
+    alloc: Global,
+    seed: S,
+) -> Result<String, Memory> {
+    let mut all = String::new(alloc);
+    for (first, often, list) in LIMITS {
+        let came = run_after::<C>(alloc, seed, first, *often, list)?;
+        all.push_str(came.as_str())?;
+    }
+    Ok(all)
+}
+
 #[test]
 fn agents_and_signals_have_limits(rt: HostRuntime) -> Result<(), Fail> {
-    for (first, often, list) in LIMITS {
-        let came = run_after::<PlainCore>(rt.alloc(), (), first, often, list)?;
-        assert_eq!(rt; came.as_str(), list);
-        let seed = random_seed(&rt)?;
-        let came = run_after::<IndexCore>(rt.alloc(), seed, first, often, list)?;
-        assert_eq!(rt; came.as_str(), list);
-    }
+    let lists = all_lists(rt.alloc())?;
+    let came = run_all::<(), PlainCore>(rt.alloc(), ())?;
+    assert_eq!(rt; came.as_str(), lists.as_str());
+    let came = run_all::<RandomState, IndexCore>(rt.alloc(), random_seed(&rt)?)?;
+    assert_eq!(rt; came.as_str(), lists.as_str());
     Ok(())
 }
 

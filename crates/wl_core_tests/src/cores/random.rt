@@ -15,7 +15,7 @@ const SEEDS: u64 = 40;
 
 /// The calls that are made, each as often as it stands here. A, R and S stand for numbers of agents, requests and
 /// signals, of which most were given.
-const KINDS: [&str; 35] = [
+const KINDS: &[&str] = &[
     "open window",
     "open window",
     "open worker",

@@ -16,7 +16,7 @@ type Outcome = (bool, Taking, Phase);
 const TAKE_WON: Outcome = (false, Taking::Taken, Phase::Taken);
 
 /// Why it is aborted, each for a thousand races.
-const REASONS: [Reason; 4] = [
+const REASONS: &[Reason] = &[
     Reason::AbortError,
     Reason::TimeoutError,
     Reason::Code(0),
@@ -68,7 +68,7 @@ fn first_wrong<R: Threads + Sync>(
 #[test]
 fn a_take_and_an_abort_race_a_thousand_times(rt: HostRuntime) -> Result<(), Fail> {
     for reason in REASONS {
-        assert_eq!(rt; first_wrong(&rt, rt.alloc(), reason)?, None);
+        assert_eq!(rt; first_wrong(&rt, rt.alloc(), *reason)?, None);
     }
     Ok(())
 }

@@ -12,7 +12,7 @@ use wl_types::Reason::{Code, TimeoutError};
 
 /// The second is granted once the first is released, and so after the third. The third is taken before the second. The
 /// fourth alone ends.
-const TAKEN_OUT_OF_ORDER: [(Call, &str); 17] = [
+const TAKEN_OUT_OF_ORDER: &[(Call, &str)] = &[
     (Open(Window), "Ok(1)"),
     (Agent(1, Signal), "Ok(1)"),
     (Agent(1, Request("a", Signalled(1))), "Ok(1)"),
@@ -34,11 +34,11 @@ const TAKEN_OUT_OF_ORDER: [(Call, &str); 17] = [
 
 #[test]
 fn takes_are_entered_in_the_order_of_their_numbers(rt: HostRuntime) -> Result<(), Fail> {
-    Ok(assert_calls(&rt, rt.alloc(), TAKEN_OUT_OF_ORDER.as_slice())?)
+    Ok(assert_calls(&rt, rt.alloc(), TAKEN_OUT_OF_ORDER)?)
 }
 
 /// The first code stays: a second is told of it, and leaves no entry. The third request is refused for it.
-const ABORTED_WITH_A_CODE: [(Call, &str); 12] = [
+const ABORTED_WITH_A_CODE: &[(Call, &str)] = &[
     (Open(Window), "Ok(1)"),
     (Agent(1, Signal), "Ok(1)"),
     (Agent(1, Request("a", Signalled(1))), "Ok(1)"),
@@ -58,5 +58,5 @@ const ABORTED_WITH_A_CODE: [(Call, &str); 12] = [
 
 #[test]
 fn the_first_code_of_an_abort_stays(rt: HostRuntime) -> Result<(), Fail> {
-    Ok(assert_calls(&rt, rt.alloc(), ABORTED_WITH_A_CODE.as_slice())?)
+    Ok(assert_calls(&rt, rt.alloc(), ABORTED_WITH_A_CODE)?)
 }

@@ -21,7 +21,7 @@ const ENTERED: &str = "Enter(Window), Agent(1)";
 const ASKED: &str = "Request(1, Ask { name: Text { inner: \"db\" }, mode: Exclusive, \
     if_available: false, steal: false, signal: None }), Request(1)";
 
-const ASKED_AND_RELEASED: [(Call, &str); 11] = [
+const ASKED_AND_RELEASED: &[(Call, &str)] = &[
     (Open(Window), "Ok(1)"),
     (Agent(1, Request("db", Exclusive)), "Ok(1)"),
     (Agent(1, Query), "2 entries, held db/exclusive/1, waiting"),
@@ -37,10 +37,10 @@ const ASKED_AND_RELEASED: [(Call, &str); 11] = [
 
 #[test]
 fn an_agent_asks_for_just_what_it_was_given(rt: HostRuntime) -> Result<(), Fail> {
-    Ok(assert_calls(&rt, rt.alloc(), ASKED_AND_RELEASED.as_slice())?)
+    Ok(assert_calls(&rt, rt.alloc(), ASKED_AND_RELEASED)?)
 }
 
-const STOLEN: [(Call, &str); 7] = [
+const STOLEN: &[(Call, &str)] = &[
     (Open(Window), "Ok(1)"),
     (Agent(1, Request("db", Exclusive)), "Ok(1)"),
     (Agent(1, Request("db", Stealing)), "Ok(2)"),
@@ -52,11 +52,11 @@ const STOLEN: [(Call, &str); 7] = [
 
 #[test]
 fn a_lock_that_was_stolen_is_never_taken(rt: HostRuntime) -> Result<(), Fail> {
-    Ok(assert_calls(&rt, rt.alloc(), STOLEN.as_slice())?)
+    Ok(assert_calls(&rt, rt.alloc(), STOLEN)?)
 }
 
 /// Whose ticket is gone by then, though the lock is held.
-const STOLEN_BY_ANOTHER: [(Call, &str); 8] = [
+const STOLEN_BY_ANOTHER: &[(Call, &str)] = &[
     (Open(Window), "Ok(1)"),
     (Open(Window), "Ok(2)"),
     (Agent(1, Request("db", Exclusive)), "Ok(1)"),
@@ -69,11 +69,11 @@ const STOLEN_BY_ANOTHER: [(Call, &str); 8] = [
 
 #[test]
 fn a_watch_sees_that_another_agent_steals(rt: HostRuntime) -> Result<(), Fail> {
-    Ok(assert_calls(&rt, rt.alloc(), STOLEN_BY_ANOTHER.as_slice())?)
+    Ok(assert_calls(&rt, rt.alloc(), STOLEN_BY_ANOTHER)?)
 }
 
 /// The ticket of the lock is gone by then, and the other one has its place.
-const NOT_AVAILABLE: [(Call, &str); 6] = [
+const NOT_AVAILABLE: &[(Call, &str)] = &[
     (Open(Window), "Ok(1)"),
     (Agent(1, Request("db", Exclusive)), "Ok(1)"),
     (DropTicket, "Some(1)"),
@@ -84,10 +84,10 @@ const NOT_AVAILABLE: [(Call, &str); 6] = [
 
 #[test]
 fn a_lock_that_is_not_available_is_not_waited_for(rt: HostRuntime) -> Result<(), Fail> {
-    Ok(assert_calls(&rt, rt.alloc(), NOT_AVAILABLE.as_slice())?)
+    Ok(assert_calls(&rt, rt.alloc(), NOT_AVAILABLE)?)
 }
 
-const INACTIVE: [(Call, &str); 7] = [
+const INACTIVE: &[(Call, &str)] = &[
     (Open(Window), "Ok(1)"),
     (Agent(1, Query), "1 entries, held, waiting"),
     (Open(Worker), "Ok(2)"),
@@ -99,7 +99,7 @@ const INACTIVE: [(Call, &str); 7] = [
 
 #[test]
 fn an_inactive_window_asks_for_nothing(rt: HostRuntime) -> Result<(), Fail> {
-    Ok(assert_calls(&rt, rt.alloc(), INACTIVE.as_slice())?)
+    Ok(assert_calls(&rt, rt.alloc(), INACTIVE)?)
 }
 
 type Brief = Manager<PlainCore, Recent>;

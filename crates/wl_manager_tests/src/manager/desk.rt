@@ -1,13 +1,13 @@
 //! Calls of a manager, its agents, tickets and watches.
 
-use super::{Plain, PlainAgent, PlainTicket, sum_up};
+use super::plain::{PlainAgent, PlainManager, PlainTicket};
 use crate::rows::{Driver, show};
 use std::alloc::Global;
 use std::sync::{Arc, Wait};
 use wl_cell::Watch;
 use wl_core::{ReleaseAnswer, Reply};
 use wl_journal::{Entry, Sight};
-use wl_manager::{Bell, Manager, Ring, Visitor};
+use wl_manager::{Bell, Ring, Visitor};
 use wl_test_support::ask;
 use wl_types::{Ask, Kind, Memory, Mode, Phase, Reason, Refusal};
 
@@ -72,7 +72,7 @@ pub enum Manner {
 #[derive(Drop)]
 pub struct Desk {
     alloc: Global,
-    manager: Arc<Plain>,
+    manager: PlainManager,
     ring: Arc<Ring>,
     agents: Vec<PlainAgent>,
     tickets: Vec<PlainTicket>,
@@ -80,7 +80,7 @@ pub struct Desk {
 }
 
 impl Desk {
-    pub fn new(alloc: Global, manager: Arc<Plain>) -> Result<Desk, Memory> {
+    pub fn new(alloc: Global, manager: PlainManager) -> Result<Desk, Memory> {
         Ok(Desk {
             alloc,
             manager,
@@ -92,7 +92,7 @@ impl Desk {
     }
 
     fn open<R: Wait>(&mut self, rt: &R, kind: Kind) -> Result<u64, Refusal> {
-        let agent = Manager::open(&self.manager, rt, kind)?;
+        let agent = self.manager.open(rt, kind)?;
         self.seat(agent)
     }
 
@@ -101,7 +101,7 @@ impl Desk {
         let Ok(bell) = Bell::new(self.alloc, &self.ring, place) else {
             return Err(Refusal::Memory);
         };
-        let agent = Manager::open_heard(&self.manager, rt, kind, Some(bell))?;
+        let agent = self.manager.open_heard(rt, kind, bell)?;
         self.seat(agent)
     }
 
@@ -167,7 +167,7 @@ impl Driver for Desk {
             Call::DropTicket => show(alloc, &self.drop_last()),
             Call::LookOn(place) => show(alloc, &self.look_on(place)),
             Call::Ring => self.show_rung(),
-            Call::Entries => show(alloc, &sum_up(rt, &self.manager).entries),
+            Call::Entries => show(alloc, &self.manager.sum_up(rt).entries),
             Call::Entry(number) => Ok(self.entry(rt, number)),
         }
     }

@@ -1,52 +1,52 @@
 //! Each growth refused in turn.
 
-use super::{Plain, PlainAgent, PlainTicket, plain, sum_up};
+use super::plain::{PlainAgent, PlainManager, PlainTicket};
 use std::alloc::Global;
-use std::sync::{Arc, Wait};
+use std::sync::Wait;
 use std::test::Fail;
 use wl_cell::cell;
-use wl_manager::{CoarseClock, Manager};
+use wl_manager::CoarseClock;
 use wl_test_support::{ask, fail_refused};
 use wl_types::{AbortAnswer, Ask, Kind, Mode, Phase, Reason};
 
-fn try_open<R: Wait>(rt: &R, manager: &Arc<Plain, Global>) -> Result<PlainAgent, Fail> {
-    if let Ok(agent) = Manager::open(manager, rt, Kind::Window) {
+fn try_open<R: Wait>(rt: &R, manager: &PlainManager) -> Result<PlainAgent, Fail> {
+    if let Ok(agent) = manager.open(rt, Kind::Window) {
         return Ok(agent);
     }
-    let is_empty = sum_up(rt, manager).entries == 0;
-    let agent = Manager::open(manager, rt, Kind::Window)?;
-    fail_refused(is_empty && agent.client() == 1 && sum_up(rt, manager).entries == 1)?;
+    let is_empty = manager.sum_up(rt).entries == 0;
+    let agent = manager.open(rt, Kind::Window)?;
+    fail_refused(is_empty && agent.client() == 1 && manager.sum_up(rt).entries == 1)?;
     Ok(agent)
 }
 
-fn try_signal<R: Wait>(rt: &R, manager: &Plain, agent: &mut PlainAgent) -> Result<(), Fail> {
+fn try_signal<R: Wait>(rt: &R, manager: &PlainManager, agent: &mut PlainAgent) -> Result<(), Fail> {
     if agent.new_signal(rt).is_ok() {
         return Ok(());
     }
-    let is_opened_alone = sum_up(rt, manager).entries == 1;
+    let is_opened_alone = manager.sum_up(rt).entries == 1;
     let signal = agent.new_signal(rt)?;
-    fail_refused(is_opened_alone && signal == 1 && sum_up(rt, manager).entries == 2)
+    fail_refused(is_opened_alone && signal == 1 && manager.sum_up(rt).entries == 2)
 }
 
 fn try_request<R: Wait>(
     rt: &R,
-    manager: &Plain,
+    manager: &PlainManager,
     agent: &mut PlainAgent,
     wanted: &Ask,
 ) -> Result<(), Fail> {
     if agent.request(rt, wanted).is_ok() {
         return Ok(());
     }
-    let has_no_request = sum_up(rt, manager).entries == 2;
+    let has_no_request = manager.sum_up(rt).entries == 2;
     let number = agent.request(rt, wanted)?.number();
-    fail_refused(has_no_request && number == 1 && sum_up(rt, manager).entries == 3)
+    fail_refused(has_no_request && number == 1 && manager.sum_up(rt).entries == 3)
 }
 
-fn try_active<R: Wait>(rt: &R, manager: &Plain, agent: &mut PlainAgent) -> Result<(), Fail> {
+fn try_active<R: Wait>(rt: &R, manager: &PlainManager, agent: &mut PlainAgent) -> Result<(), Fail> {
     if agent.set_active(rt, true).is_ok() {
         return Ok(());
     }
-    let is_not_entered = sum_up(rt, manager).entries == 3;
+    let is_not_entered = manager.sum_up(rt).entries == 3;
     agent.set_active(rt, true)?;
     fail_refused(is_not_entered && agent.query(rt)?.seen == 4)
 }
@@ -59,11 +59,11 @@ fn try_query<R: Wait>(rt: &R, agent: &mut PlainAgent) -> Result<(), Fail> {
 }
 
 /// Refused memory, a list is no entry, and names the same lock when it is asked for again.
-fn try_list<R: Wait>(rt: &R, manager: &Plain) -> Result<(), Fail> {
+fn try_list<R: Wait>(rt: &R, manager: &PlainManager) -> Result<(), Fail> {
     if manager.list_locks(rt, 10, 0).is_ok() {
         return Ok(());
     }
-    let is_not_entered = sum_up(rt, manager).entries == 4;
+    let is_not_entered = manager.sum_up(rt).entries == 4;
     let list = manager.list_locks(rt, 10, 0)?;
     let is_first = list.held.first().is_some_and(|row| row.request == 1);
     fail_refused(is_not_entered && is_first && list.held.len() == 1 && list.left_out == 0)
@@ -76,12 +76,12 @@ fn try_clock(alloc: Global) -> Result<(), Fail> {
     fail_refused(CoarseClock::new(alloc).is_ok())
 }
 
-fn try_manager<R: Wait>(rt: &R, alloc: Global) -> Result<Arc<Plain>, Fail> {
-    if let Ok(manager) = plain(rt, alloc) {
+fn try_manager<R: Wait>(rt: &R, alloc: Global) -> Result<PlainManager, Fail> {
+    if let Ok(manager) = PlainManager::new(rt, alloc) {
         return Ok(manager);
     }
-    let manager = plain(rt, alloc)?;
-    fail_refused(sum_up(rt, &manager).entries == 0)?;
+    let manager = PlainManager::new(rt, alloc)?;
+    fail_refused(manager.sum_up(rt).entries == 0)?;
     Ok(manager)
 }
 
@@ -116,10 +116,10 @@ struct Table {
 impl Table {
     /// With three agents.
     fn new<R: Wait>(rt: &R, alloc: Global) -> Result<Table, Fail> {
-        let manager = plain(rt, alloc)?;
+        let manager = PlainManager::new(rt, alloc)?;
         let mut agents = Vec::new(alloc);
         for _ in 0..3 {
-            agents.push(Manager::open(&manager, rt, Kind::Window)?)?;
+            agents.push(manager.open(rt, Kind::Window)?)?;
         }
         let tickets = Vec::new(alloc);
         Ok(Table {
@@ -184,7 +184,7 @@ fn an_end_ends_all<R: Wait>(rt: &R, table: &mut Table) -> Result<bool, Fail> {
     let Some(last) = table.agents.pop() else {
         return Ok(false);
     };
-    drop(last.terminate(rt));
+    last.terminate(rt);
     let granted = Phase::Granted;
     Ok(table.has_phases(&[granted, Phase::Released, ABORTED, granted, granted]))
 }

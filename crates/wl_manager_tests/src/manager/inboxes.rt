@@ -9,7 +9,7 @@ use std::test::Fail;
 use wl_types::Kind::Window;
 
 /// A bell rings once for all that changes until the agent collects it.
-const TOLD_OF_CHANGES: [(Call, &str); 19] = [
+const TOLD_OF_CHANGES: &[(Call, &str)] = &[
     (OpenHeard(Window), "Ok(1)"),
     (OpenHeard(Window), "Ok(2)"),
     (Ring, "None"),
@@ -32,7 +32,7 @@ const TOLD_OF_CHANGES: [(Call, &str); 19] = [
 ];
 
 /// An agent that doesn't collect them is told of no more changes than it has places for.
-const TOLD_OF_TOO_MANY: [(Call, &str); 9] = [
+const TOLD_OF_TOO_MANY: &[(Call, &str)] = &[
     (OpenHeard(Window), "Ok(1)"),
     (Agent(1, Request("db", Exclusive)), "Ok(1)"),
     (Agent(1, Release(1)), "Some(Released)"),
@@ -46,6 +46,6 @@ const TOLD_OF_TOO_MANY: [(Call, &str); 9] = [
 
 #[test]
 fn an_agent_is_told_which_of_its_requests_changed(rt: HostRuntime) -> Result<(), Fail> {
-    assert_calls(&rt, rt.alloc(), TOLD_OF_CHANGES.as_slice())?;
-    Ok(assert_calls(&rt, rt.alloc(), TOLD_OF_TOO_MANY.as_slice())?)
+    assert_calls(&rt, rt.alloc(), TOLD_OF_CHANGES)?;
+    Ok(assert_calls(&rt, rt.alloc(), TOLD_OF_TOO_MANY)?)
 }

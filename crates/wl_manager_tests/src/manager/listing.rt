@@ -1,11 +1,11 @@
 //! What a manager lists of its locks, and since when.
 
-use super::{Plain, PlainAgent, PlainTicket};
+use super::plain::{PlainAgent, PlainManager, PlainTicket};
 use std::alloc::Global;
 use std::process::Abort;
-use std::sync::{Arc, Wait};
+use std::sync::Wait;
 use std::test::Fail;
-use wl_manager::{CoarseClock, LockList, LockRow, Manager};
+use wl_manager::{CoarseClock, LockList, LockRow};
 use wl_test_support::ask;
 use wl_types::{Kind, Memory, Mode};
 
@@ -14,7 +14,7 @@ use wl_types::{Kind, Memory, Mode};
 struct Watched {
     alloc: Global,
     clock: CoarseClock,
-    manager: Arc<Plain, Global>,
+    manager: PlainManager,
     agents: Vec<PlainAgent>,
     tickets: Vec<PlainTicket>,
 }
@@ -22,10 +22,10 @@ struct Watched {
 impl Watched {
     fn new<R: Wait>(rt: &R, alloc: Global) -> Result<Watched, Fail> {
         let clock = CoarseClock::new(alloc)?;
-        let manager = Manager::with_clock(rt, alloc, (), (), (), Some(clock.share()?))?;
+        let manager = PlainManager::with_clock(rt, alloc, clock.share()?)?;
         let mut agents = Vec::new(alloc);
         for _ in 0..2 {
-            agents.push(Manager::open(&manager, rt, Kind::Window)?)?;
+            agents.push(manager.open(rt, Kind::Window)?)?;
         }
         Ok(Watched {
             alloc,

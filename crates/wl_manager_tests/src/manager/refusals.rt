@@ -1,17 +1,16 @@
 //! Refusals come before want of memory: tests/refuse_growths runs this with all growths refused from some point on.
 
-use super::{Plain, PlainAgent, plain};
+use super::plain::{PlainAgent, PlainManager};
 use std::alloc::Global;
-use std::sync::{Arc, Wait};
+use std::sync::Wait;
 use std::test::Fail;
-use wl_manager::Manager;
 use wl_test_support::ask;
 use wl_types::{Ask, Kind, Mode, Reason, Refusal};
 
 /// A manager with as many agents as may be: a window, a worker and others.
 #[derive(Drop)]
 struct Full {
-    manager: Arc<Plain>,
+    manager: PlainManager,
     window: PlainAgent,
     worker: PlainAgent,
     others: Vec<PlainAgent>,
@@ -21,11 +20,11 @@ struct Full {
 fn open_others<R: Wait>(
     rt: &R,
     alloc: Global,
-    manager: &Arc<Plain>,
+    manager: &PlainManager,
 ) -> Result<Vec<PlainAgent>, Fail> {
     let mut others = Vec::new(alloc);
     for _ in 2..4096 {
-        others.push(Manager::open(manager, rt, Kind::Worker)?)?;
+        others.push(manager.open(rt, Kind::Worker)?)?;
     }
     Ok(others)
 }
@@ -40,9 +39,9 @@ fn spend<R: Wait>(rt: &R, full: &mut Full) -> Result<(), Refusal> {
 }
 
 fn open_all<R: Wait>(rt: &R, alloc: Global) -> Result<Full, Fail> {
-    let manager = plain(rt, alloc)?;
-    let window = Manager::open(&manager, rt, Kind::Window)?;
-    let worker = Manager::open(&manager, rt, Kind::Worker)?;
+    let manager = PlainManager::new(rt, alloc)?;
+    let window = manager.open(rt, Kind::Window)?;
+    let worker = manager.open(rt, Kind::Worker)?;
     let others = open_others(rt, alloc, &manager)?;
     Ok(Full {
         manager,
@@ -73,7 +72,7 @@ fn refusals<R: Wait>(rt: &R, full: &mut Full, asked: &Ask, reserved: &Ask) -> Re
         ..
     } = full;
     [
-        Manager::open(manager, rt, Kind::Window).err(),
+        manager.open(rt, Kind::Window).err(),
         window.request(rt, asked).err(),
         window.query(rt).err(),
         worker.request(rt, reserved).err(),

@@ -4,7 +4,7 @@ use super::Server;
 use crate::lists::assert_lists;
 use std::test::Fail;
 
-const LISTS: [&str; 4] = [
+const LISTS: &[&str] = &[
     // Targets: what they let open, and that they are looked at only where the server is sharded.
     "target  -> admitted
 target /?origin=null -> admitted
@@ -110,5 +110,5 @@ open https://b.test/ -> may not
 
 #[test]
 fn targets_do_the_lists(rt: HostRuntime) -> Result<(), Fail> {
-    assert_lists::<Server, _>(&rt, rt.alloc(), &LISTS)
+    assert_lists::<Server, _>(&rt, rt.alloc(), LISTS)
 }

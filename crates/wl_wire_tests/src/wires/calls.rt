@@ -13,7 +13,7 @@ use std::sync::{Arc, Wait};
 use std::test::Fail;
 use wl_wire::{Ending, Greeted, Speaker, Turn, Wire, take_turn};
 
-const LISTS: [&str; 1] = [
+const LISTS: &[&str] = &[
     "hello; ; blocked flush blocked ping close -> true Left false Left Left: ping closed 1001
 hello; ; ping close -> Waits Left: closed 1001
 hello; 0; flush ping blocked ping flush blocked -> Left Waits true Waits Left false: ping
@@ -90,5 +90,5 @@ fn take_one_turn<R: Wait>(
 
 #[test]
 fn wires_do_the_lists(rt: HostRuntime) -> Result<(), Fail> {
-    assert_lists::<Calls, _>(&rt, rt.alloc(), &LISTS)
+    assert_lists::<Calls, _>(&rt, rt.alloc(), LISTS)
 }

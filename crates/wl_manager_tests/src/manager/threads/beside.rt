@@ -1,13 +1,13 @@
 //! Two managers that go on at once.
 
-use crate::manager::{Plain, plain};
+use crate::manager::plain::PlainManager;
+use std::sync::Wait;
 use std::sync::atomic::{AtomicBool, Ordering};
-use std::sync::{Arc, Wait};
 use std::test::Fail;
 use std::thread;
 use std::thread::Threads;
 use wl_journal::Entry;
-use wl_manager::{Manager, Visitor};
+use wl_manager::Visitor;
 use wl_test_support::ask;
 use wl_types::{Ask, Kind, Mode, Phase, Refusal};
 
@@ -39,7 +39,7 @@ fn comes(flag: &AtomicBool) -> bool {
 
 fn visit_long<R: Wait>(
     rt: &R,
-    manager: &Plain,
+    manager: &PlainManager,
     entered: &AtomicBool,
     answered: &AtomicBool,
 ) -> bool {
@@ -55,13 +55,13 @@ fn visit_long<R: Wait>(
 /// Once the visitor has the one lock, an agent of the other manager opens and asks.
 fn ask_beside<R: Wait>(
     rt: &R,
-    manager: &Arc<Plain>,
+    manager: &PlainManager,
     asked: &Ask,
     entered: &AtomicBool,
     answered: &AtomicBool,
 ) -> Result<(bool, Phase), Refusal> {
     let is_beside = comes(entered);
-    let mut agent = Manager::open(manager, rt, Kind::Window)?;
+    let mut agent = manager.open(rt, Kind::Window)?;
     let mut ticket = agent.request(rt, asked)?;
     answered.store(true, Ordering::SeqCst);
     Ok((is_beside, ticket.look()))
@@ -69,8 +69,8 @@ fn ask_beside<R: Wait>(
 
 fn visit_and_ask<R: Threads + Wait + Sync>(
     rt: &R,
-    one: &Plain,
-    two: &Arc<Plain>,
+    one: &PlainManager,
+    two: &PlainManager,
     asked: &Ask,
 ) -> (bool, Result<(bool, Phase), Refusal>) {
     let entered = AtomicBool::new(false);
@@ -84,8 +84,8 @@ fn visit_and_ask<R: Threads + Wait + Sync>(
 
 #[test]
 fn managers_go_on_at_once(rt: HostRuntime) -> Result<(), Fail> {
-    let one = plain(&rt, rt.alloc())?;
-    let two = plain(&rt, rt.alloc())?;
+    let one = PlainManager::new(&rt, rt.alloc())?;
+    let two = PlainManager::new(&rt, rt.alloc())?;
     let asked = ask(rt.alloc(), "db", Mode::Exclusive)?;
     assert_eq!(rt;
         visit_and_ask(&rt, &one, &two, &asked),

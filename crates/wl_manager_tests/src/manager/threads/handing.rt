@@ -1,15 +1,14 @@
 //! A lock that goes from one agent to the next while a thread looks on.
 
-use crate::manager::{Plain, PlainAgent, PlainTicket, audit_book, plain};
+use crate::manager::plain::{PlainAgent, PlainManager, PlainTicket};
 use std::alloc::Global;
 use std::process::Abort;
-use std::sync::{Arc, Wait};
+use std::sync::Wait;
 use std::test::Fail;
 use std::thread;
 use std::thread::Threads;
 use wl_cell::Watch;
 use wl_core::ReleaseAnswer;
-use wl_manager::Manager;
 use wl_test_support::ask;
 use wl_types::{Ask, Kind, Mode, Phase};
 
@@ -78,18 +77,18 @@ fn assert_end_is_seen<R: Threads + Wait + Abort + Sync>(
 fn audit_handings<R: Threads + Wait + Abort + Sync>(
     rt: &R,
     alloc: Global,
-    manager: &Arc<Plain>,
+    manager: &PlainManager,
     asked: &Ask,
 ) -> Result<(bool, usize), Fail> {
-    let mut one = Manager::open(manager, rt, Kind::Window)?;
-    let mut two = Manager::open(manager, rt, Kind::Window)?;
+    let mut one = manager.open(rt, Kind::Window)?;
+    let mut two = manager.open(rt, Kind::Window)?;
     assert_end_is_seen(rt, &mut one, &mut two, asked)?;
-    Ok(audit_book(rt, alloc, manager))
+    Ok(manager.audit_book(rt, alloc))
 }
 
 #[test]
 fn ends_are_settled_before_grants(rt: HostRuntime) -> Result<(), Fail> {
-    let manager = plain(&rt, rt.alloc())?;
+    let manager = PlainManager::new(&rt, rt.alloc())?;
     let asked = ask(rt.alloc(), "db", Mode::Exclusive)?;
     let audit = audit_handings(&rt, rt.alloc(), &manager, &asked)?;
     assert_eq!(rt; audit, (true, 4002));

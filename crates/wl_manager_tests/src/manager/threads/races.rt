@@ -1,6 +1,6 @@
 //! A take and an abort of one granted lock, on two threads.
 
-use crate::manager::{PlainAgent, PlainTicket, audit_book, plain};
+use crate::manager::plain::{PlainAgent, PlainManager, PlainTicket};
 use std::alloc::Global;
 use std::process::Abort;
 use std::sync::Wait;
@@ -9,7 +9,6 @@ use std::thread;
 use std::thread::Threads;
 use wl_cell::Taking;
 use wl_core::ReleaseAnswer;
-use wl_manager::Manager;
 use wl_test_support::ask;
 use wl_types::{AbortAnswer, Ask, Kind, Mode, Phase, Reason, Refusal};
 
@@ -99,12 +98,12 @@ fn assert_legal_races<R: Threads + Wait + Abort + Sync>(
     alloc: Global,
     reason: Reason,
 ) -> Result<(), Fail> {
-    let manager = plain(rt, alloc)?;
-    let mut agent = Manager::open(&manager, rt, Kind::Window)?;
+    let manager = PlainManager::new(rt, alloc)?;
+    let mut agent = manager.open(rt, Kind::Window)?;
     let mut asked = ask(alloc, "db", Mode::Exclusive)?;
     let taken = assert_one_wins(rt, &mut agent, &mut asked, reason)?;
     assert_eq!(rt;
-        audit_book(rt, alloc, &manager),
+        manager.audit_book(rt, alloc),
         (true, taken.wrapping_mul(2).wrapping_add(3001))
     );
     Ok(())

@@ -1,15 +1,14 @@
 //! A take and a steal of one granted lock, on two threads.
 
-use crate::manager::{Plain, PlainAgent, PlainTicket, audit_book, plain, sum_up};
+use crate::manager::plain::{PlainAgent, PlainManager, PlainTicket};
 use std::alloc::Global;
 use std::process::Abort;
-use std::sync::{Arc, Wait};
+use std::sync::Wait;
 use std::test::Fail;
 use std::thread;
 use std::thread::Threads;
 use wl_cell::Taking;
 use wl_core::ReleaseAnswer;
-use wl_manager::Manager;
 use wl_test_support::ask;
 use wl_types::{Ask, Kind, Memory, Mode, Phase, Refusal, Text};
 
@@ -50,12 +49,12 @@ fn race_anew<R: Threads + Wait + Sync>(
 
 fn assert_thefts<R: Threads + Wait + Abort + Sync>(
     rt: &R,
-    manager: &Arc<Plain>,
+    manager: &PlainManager,
     asked: &Ask,
     stealing: &Ask,
 ) -> Result<(), Refusal> {
-    let mut agent = Manager::open(manager, rt, Kind::Window)?;
-    let mut thief = Manager::open(manager, rt, Kind::Window)?;
+    let mut agent = manager.open(rt, Kind::Window)?;
+    let mut thief = manager.open(rt, Kind::Window)?;
     for _ in 0..1000 {
         let outcome = race_anew(rt, &mut agent, asked, &mut thief, stealing)?;
         assert!(rt;
@@ -79,10 +78,10 @@ fn theft(alloc: Global) -> Result<Ask, Memory> {
 
 #[test]
 fn a_take_and_a_theft_race_a_thousand_times(rt: HostRuntime) -> Result<(), Fail> {
-    let manager = plain(&rt, rt.alloc())?;
+    let manager = PlainManager::new(&rt, rt.alloc())?;
     let asked = ask(rt.alloc(), "db", Mode::Exclusive)?;
     assert_thefts(&rt, &manager, &asked, &theft(rt.alloc())?)?;
-    assert_eq!(rt; audit_book(&rt, rt.alloc(), &manager), (true, 3002));
-    assert_eq!(rt; sum_up(&rt, &manager).takes, 0);
+    assert_eq!(rt; manager.audit_book(&rt, rt.alloc()), (true, 3002));
+    assert_eq!(rt; manager.sum_up(&rt).takes, 0);
     Ok(())
 }
