@@ -6,11 +6,11 @@
 #![tactic(auto)]
 
 #[cfg(test)]
-mod buckets;
-#[cfg(test)]
 mod codec;
 #[cfg(test)]
-mod origins;
+mod keys;
+#[cfg(test)]
+mod lists;
 #[cfg(test)]
 mod realm;
 #[cfg(test)]

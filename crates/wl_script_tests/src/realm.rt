@@ -1,10 +1,12 @@
 //! Cores of two origins, and of two buckets of one.
 
+use crate::keys::{add_key, key_at};
+use crate::lists::{Rows, Scene, assert_lists, part};
 use std::alloc::Global;
 use std::test::Fail;
-use wl_core::{Command, LockCore, PlainCore, Realm, Reply};
+use wl_core::{Command, LockCore, PlainCore, Reply};
 use wl_origin::ManagerKey;
-use wl_test_support::{ask, key_in, show};
+use wl_test_support::{ask, show};
 use wl_types::{Kind, Memory, Mode};
 
 /// A key that is there keeps its core. Agents and requests are numbered apart. A call that names no bucket means
@@ -39,89 +41,113 @@ add https://a.test:443/x archive -> 3
 first -> https://a.test archive NoSuch/agent
 ";
 
-/// Does the calls of a list on a new realm, a call a line, and gives the list as it came out.
-fn do_list(alloc: Global, list: &str) -> Result<String, Fail> {
-    let mut realm: Realm<PlainCore> = Realm::new(alloc);
-    let mut came = String::new(alloc);
-    for line in list.lines() {
-        let (call, _) = line.split_once(" -> ").unwrap_or((line, ""));
-        let answer = do_call(alloc, &mut realm, call)?;
-        write!(came, "{call} -> {answer}\n")?;
+/// Does a call of the realm, and adds its answer.
+pub fn do_call(scene: &mut Scene, came: &mut String, call: &str) -> Result<(), Memory> {
+    let (word, at) = part(call);
+    match word {
+        "empty" => Ok(came.push_str(if scene.realm.is_empty() {
+            "true"
+        } else {
+            "false"
+        })?),
+        "first" => add_first(scene, came),
+        _ => do_at(scene, came, word, at),
     }
-    Ok(came)
 }
 
-fn do_call(alloc: Global, realm: &mut Realm<PlainCore>, call: &str) -> Result<String, Fail> {
-    let (word, at) = call.split_once(' ').unwrap_or((call, ""));
+fn do_at(scene: &mut Scene, came: &mut String, word: &str, at: &str) -> Result<(), Memory> {
     let (url, bucket) = at.split_once(' ').unwrap_or((at, "default"));
+    match key_at(scene.alloc, url, bucket) {
+        Some(key) => do_there(scene, came, word, key),
+        None => Ok(came.push_str("no key")?),
+    }
+}
+
+fn do_there(
+    scene: &mut Scene,
+    came: &mut String,
+    word: &str,
+    key: ManagerKey,
+) -> Result<(), Memory> {
+    if word == "add" {
+        add(scene, came, key)
+    } else {
+        ask_core(scene, came, word, &key)
+    }
+}
+
+fn ask_core(
+    scene: &mut Scene,
+    came: &mut String,
+    word: &str,
+    key: &ManagerKey,
+) -> Result<(), Memory> {
     match word {
-        "empty" => Ok(if realm.is_empty() { "true" } else { "false" }.to_string(alloc)?),
-        "first" => Ok(first(alloc, realm)?),
-        "add" => add(alloc, realm, url, bucket),
-        _ => Ok(answer_at(alloc, realm, &key_in(alloc, url, bucket)?, word)?),
+        "open" => apply(scene, came, key, &Command::Enter(Kind::Window)),
+        "request" => request(scene, came, key),
+        _ => add_seen(scene, came, key),
     }
 }
 
 /// How many cores there are then.
-fn add(
-    alloc: Global,
-    realm: &mut Realm<PlainCore>,
-    url: &str,
-    bucket: &str,
-) -> Result<String, Fail> {
-    realm.add(key_in(alloc, url, bucket)?, ())?;
-    Ok(format!(in alloc; "{}", realm.len())?)
+fn add(scene: &mut Scene, came: &mut String, key: ManagerKey) -> Result<(), Memory> {
+    scene.realm.add(key, ())?;
+    write!(came, "{}", scene.realm.len())?;
+    Ok(())
+}
+
+fn request(scene: &mut Scene, came: &mut String, key: &ManagerKey) -> Result<(), Memory> {
+    let asked = ask(scene.alloc, "db", Mode::Exclusive)?;
+    apply(scene, came, key, &Command::Request(1, asked))
 }
 
 /// The answer of the core at the key, if there is one.
-fn answer_at(
-    alloc: Global,
-    realm: &mut Realm<PlainCore>,
+fn apply(
+    scene: &mut Scene,
+    came: &mut String,
     key: &ManagerKey,
-    word: &str,
-) -> Result<String, Memory> {
-    if !realm.has(key) {
-        return Ok("no core".to_string(alloc)?);
+    command: &Command,
+) -> Result<(), Memory> {
+    if scene.realm.has(key) {
+        add_reply(scene.alloc, came, &scene.realm.apply(key, command))
+    } else {
+        Ok(came.push_str("no core")?)
     }
-    let command = match word {
-        "open" => Command::Enter(Kind::Window),
-        "request" => Command::Request(1, ask(alloc, "db", Mode::Exclusive)?),
-        _ => return show_first(alloc, realm.core(key)),
-    };
-    show(alloc, &realm.apply(key, &command))
 }
 
-/// What the first agent of a core sees.
-fn show_first(alloc: Global, core: &PlainCore) -> Result<String, Memory> {
+fn add_reply(alloc: Global, came: &mut String, reply: &Reply) -> Result<(), Memory> {
+    Ok(came.push_str(show(alloc, reply)?.as_str())?)
+}
+
+/// What the first agent of the core at the key sees.
+fn add_seen(scene: &Scene, came: &mut String, key: &ManagerKey) -> Result<(), Memory> {
+    if scene.realm.has(key) {
+        add_snapshot(scene.alloc, came, scene.realm.core(key))
+    } else {
+        Ok(came.push_str("no core")?)
+    }
+}
+
+fn add_snapshot(alloc: Global, came: &mut String, core: &PlainCore) -> Result<(), Memory> {
     match core.snapshot(1) {
-        Ok(snapshot) => show(alloc, &Reply::Seen(snapshot)),
-        Err(refusal) => show(alloc, &Reply::Refused(refusal)),
+        Ok(snapshot) => add_reply(alloc, came, &Reply::Seen(snapshot)),
+        Err(refusal) => add_reply(alloc, came, &Reply::Refused(refusal)),
     }
 }
 
 /// The first key of a realm that has one, and what is seen at it.
-fn first(alloc: Global, realm: &Realm<PlainCore>) -> Result<String, Memory> {
-    if realm.is_empty() {
-        return Ok("no core".to_string(alloc)?);
+fn add_first(scene: &Scene, came: &mut String) -> Result<(), Memory> {
+    if scene.realm.is_empty() {
+        return Ok(came.push_str("no core")?);
     }
-    let (key, core) = realm.nth(0);
-    show_at(alloc, key, show_first(alloc, core)?)
-}
-
-/// What is seen at a key, behind the key.
-fn show_at(alloc: Global, key: &ManagerKey, seen: String) -> Result<String, Memory> {
-    let origin = key.origin.text(alloc)?;
-    Ok(format!(in alloc; "{origin} {} {seen}", key.bucket.as_str())?)
+    let (key, core) = scene.realm.nth(0);
+    add_key(scene.alloc, came, key)?;
+    came.push_str(" ")?;
+    add_snapshot(scene.alloc, came, core)
 }
 
 #[test]
-fn two_origins_number_their_agents_apart(rt: HostRuntime) -> Result<(), Fail> {
-    assert_eq!(rt; do_list(rt.alloc(), TWO_ORIGINS)?.as_str(), TWO_ORIGINS);
-    Ok(())
-}
-
-#[test]
-fn two_buckets_number_their_agents_apart(rt: HostRuntime) -> Result<(), Fail> {
-    assert_eq!(rt; do_list(rt.alloc(), TWO_BUCKETS)?.as_str(), TWO_BUCKETS);
+fn each_manager_numbers_its_agents_apart(rt: HostRuntime) -> Result<(), Fail> {
+    assert_lists(&rt, &rt, Rows::Realm, &[TWO_ORIGINS, TWO_BUCKETS])?;
     Ok(())
 }

@@ -1,100 +1,11 @@
 //! What is wrong with a message, of several faults the first.
 
-use super::{read_lines, read_messages, show_line, show_reading};
-use std::alloc::{AllocError, Global};
-use std::test::Fail;
-use wl_codec::{CodecFault, Member, read_line, read_message};
-use wl_types::Memory;
-
-const NO_JSON: [&[u8]; 11] = [
-    b"",
-    b"\n",
-    b"\xff",
-    b"{agent\":\"v\",\"id\":1,\"op\":\"poll\"}",
-    b"{\"id\":1,\"op\":\"poll\",}",
-    b"{\"id\":01,\"op\":\"poll\"}",
-    b"{\"id\":1,\"op\":\"poll\"} x",
-    b"{\"id\":1,\"op\":\"poll\",\"x\":\"\xff\"}",
-    b"{\"id\":1,\"op\":\"poll\",\"x\":\"\\ud800\"}",
-    b"{\"id\":1,\"op\":\"poll\",\"x\":1e400}",
-    b"\xef\xbb\xbf{\"id\":1,\"op\":\"poll\"}",
-];
-
-const NO_JSON_TOLD: &str = "\
-BadJson/json, BadJson/json
-BadJson/json, BadJson/json
-BadJson/json, BadJson/json
-BadJson/json, BadJson/json
-BadJson/json, BadJson/json
-BadJson/json, BadJson/json
-BadJson/json, BadJson/json
-BadJson/json, BadJson/json
-BadJson/json, BadJson/json
-BadJson/json, BadJson/json
-BadJson/json, BadJson/json
-";
-
-/// Adds a line that says what the bytes are as a message, and what they are as a line.
-fn add_both(alloc: Global, came: &mut String, text: &[u8]) -> Result<(), Memory> {
-    let message = show_reading(alloc, &read_message(alloc, text)?)?;
-    let line = show_line(alloc, &read_line(alloc, text)?)?;
-    write!(came, "{message}, {line}\n")?;
-    Ok(())
-}
-
-fn read_both(alloc: Global, texts: &[&[u8]]) -> Result<String, Memory> {
-    let mut came = String::new(alloc);
-    for text in texts {
-        add_both(alloc, &mut came, text)?;
-    }
-    Ok(came)
-}
-
-#[test]
-fn what_is_no_json_text_is_refused(rt: HostRuntime) -> Result<(), Fail> {
-    assert_eq!(rt; read_both(rt.alloc(), &NO_JSON)?.as_str(), NO_JSON_TOLD);
-    Ok(())
-}
-
-/// A message to poll with arrays in it that nest so deep.
-fn nest(alloc: Global, levels: usize) -> Result<Vec<u8>, AllocError> {
-    let mut text = Vec::from_slice(alloc, b"{\"id\":1,\"op\":\"poll\",\"x\":")?;
-    for _ in 0..levels {
-        text.push(b'[')?;
-    }
-    for _ in 0..levels {
-        text.push(b']')?;
-    }
-    text.push(b'}')?;
-    Ok(text)
-}
-
-const LEVELS: [usize; 4] = [100, 126, 127, 200];
-
-/// As a line it names no agent.
-const LEVELS_TOLD: &str = "\
-1 Poll, 1 TypeError/agent
-1 Poll, 1 TypeError/agent
-BadJson/json, BadJson/json
-BadJson/json, BadJson/json
-";
-
-fn read_nested(alloc: Global) -> Result<String, Memory> {
-    let mut came = String::new(alloc);
-    for levels in LEVELS {
-        add_both(alloc, &mut came, &nest(alloc, levels)?)?;
-    }
-    Ok(came)
-}
-
-#[test]
-fn a_message_nests_at_most_127_deep(rt: HostRuntime) -> Result<(), Fail> {
-    assert_eq!(rt; read_nested(rt.alloc())?.as_str(), LEVELS_TOLD);
-    Ok(())
-}
+use crate::lists::assert_came;
+use std::process::Abort;
+use wl_codec::{CodecFault, Member};
 
 /// Options are read in the order of their names' letters, as Web IDL reads a dictionary.
-const FAULTS: &str = r#"[] -> NotAnObject/json
+pub const FAULTS: &str = r#"[] -> NotAnObject/json
 7 -> NotAnObject/json
 "id" -> NotAnObject/json
 null -> NotAnObject/json
@@ -143,14 +54,8 @@ true -> NotAnObject/json
 {"id":1,"op":"active","active":1} -> 1 TypeError/active
 "#;
 
-#[test]
-fn the_first_fault_of_a_message_is_told(rt: HostRuntime) -> Result<(), Fail> {
-    assert_eq!(rt; read_messages(rt.alloc(), FAULTS)?.as_str(), FAULTS);
-    Ok(())
-}
-
 /// Ids are whole numbers, from 0 to 9007199254740991.
-const IDS: &str = r#"{"id":0,"op":"poll"} -> 0 Poll
+pub const IDS: &str = r#"{"id":0,"op":"poll"} -> 0 Poll
 {"id":9007199254740991,"op":"poll"} -> 9007199254740991 Poll
 {"id":9007199254740992,"op":"query"} -> BadId/id
 {"id":18446744073709551616,"op":"query"} -> BadId/id
@@ -164,13 +69,8 @@ const IDS: &str = r#"{"id":0,"op":"poll"} -> 0 Poll
 {} -> BadId/id
 "#;
 
-#[test]
-fn ids_are_whole_numbers(rt: HostRuntime) -> Result<(), Fail> {
-    assert_eq!(rt; read_messages(rt.alloc(), IDS)?.as_str(), IDS);
-    Ok(())
-}
-
-const LINES: &str = r#"{"agent":"a","id":7,"op":"poll"} -> a: 7 Poll
+/// A line names its agent.
+pub const LINES: &str = r#"{"agent":"a","id":7,"op":"poll"} -> a: 7 Poll
 [] -> NotAnObject/json
 {"agent":"a","op":"poll"} -> BadId/id
 {"id":-1} -> BadId/id
@@ -180,12 +80,6 @@ const LINES: &str = r#"{"agent":"a","id":7,"op":"poll"} -> a: 7 Poll
 {"agent":"a","id":5,"op":"request"} -> 5 TypeError/name
 {"agent":"a","id":6,"name":"n","op":"request","options":{"mode":"both"}} -> 6 TypeError/mode
 "#;
-
-#[test]
-fn a_line_names_its_agent(rt: HostRuntime) -> Result<(), Fail> {
-    assert_eq!(rt; read_lines(rt.alloc(), LINES)?.as_str(), LINES);
-    Ok(())
-}
 
 const RULES: &[(CodecFault, &str)] = &[
     (CodecFault::BadJson, "BadJson/json"),
@@ -230,7 +124,7 @@ fn find_misnamed() -> Option<&'static str> {
     None
 }
 
-#[test]
-fn each_fault_has_a_name_and_a_rule(rt: HostRuntime) {
-    assert_eq!(rt; find_misnamed(), None);
+/// Wants each fault to have its name and its rule.
+pub fn assert_rules<R: Abort>(test: &R) {
+    assert_came(test, find_misnamed().unwrap_or("none"), "none");
 }

@@ -3,6 +3,7 @@
 ghost use Rattle.std.specs.Prelude.{All, IfOk};
 ghost use Rattle.wl_codec.specs.Replies.{IsReported};
 
+use crate::lists::Rows;
 use std::alloc::Global;
 use std::test::Fail;
 use wl_codec::{
@@ -27,22 +28,8 @@ fn is_read(line: &Line) -> bool {
     agent.as_str() == "a" && ask.name.as_str() == "db" && ask.mode == Mode::Shared
 }
 
-/// A line that is refused memory is no fault.
-fn try_line(alloc: Global) -> Result<(), Fail> {
-    match read_line(alloc, LINE) {
-        Ok(line) if is_read(&line) => Ok(()),
-        Ok(_) => fail_refused(false),
-        Err(Memory) => fail_refused(is_read(&read_line(alloc, LINE)?)),
-    }
-}
-
-/// A message that is refused memory is no fault.
-fn try_message(alloc: Global) -> Result<(), Fail> {
-    match read_message(alloc, LINE) {
-        Ok(Reading::Good(_)) => Ok(()),
-        Ok(_) => fail_refused(false),
-        Err(Memory) => fail_refused(matches!(read_message(alloc, LINE)?, Reading::Good(_))),
-    }
+fn is_good(reading: &Reading) -> bool {
+    matches!(reading, Reading::Good(_))
 }
 
 /// A request that was granted.
@@ -61,20 +48,37 @@ fn make_granted(alloc: Global) -> Result<WireReply, Memory>
     })
 }
 
-/// A reply that is refused memory is no shorter text.
-fn try_reply(alloc: Global, reply: &WireReply) -> Result<(), Fail>
+/// Whether a line or a message is read as it is to, or else the reply is written so.
+fn is_right(alloc: Global, rows: Rows, reply: &WireReply) -> Result<bool, Memory>
     requires { All (λ n. IsReported n.phase) reply.now.notices }
 {
-    match write_reply(alloc, reply) {
-        Ok(text) if text.as_str() == TEXT => Ok(()),
-        Ok(_) => fail_refused(false),
-        Err(Memory) => fail_refused(write_reply(alloc, reply)?.as_str() == TEXT),
+    match rows {
+        Rows::Lines => Ok(is_read(&read_line(alloc, LINE)?)),
+        Rows::Messages => Ok(is_good(&read_message(alloc, LINE)?)),
+        _ => Ok(write_reply(alloc, reply)?.as_str() == TEXT),
     }
+}
+
+/// A line or a message that is refused memory is no fault, and a reply no shorter text.
+fn try_rows(alloc: Global, rows: Rows, reply: &WireReply) -> Result<(), Fail>
+    requires { All (λ n. IsReported n.phase) reply.now.notices }
+{
+    match is_right(alloc, rows, reply) {
+        Ok(true) => Ok(()),
+        Ok(false) => fail_refused(false),
+        Err(Memory) => fail_refused(is_right(alloc, rows, reply)?),
+    }
+}
+
+fn try_all(alloc: Global, reply: &WireReply) -> Result<(), Fail>
+    requires { All (λ n. IsReported n.phase) reply.now.notices }
+{
+    try_rows(alloc, Rows::Lines, reply)?;
+    try_rows(alloc, Rows::Messages, reply)?;
+    try_rows(alloc, Rows::Replies, reply)
 }
 
 #[test]
 fn a_refused_growth_is_no_fault(rt: HostRuntime) -> Result<(), Fail> {
-    try_line(rt.alloc())?;
-    try_message(rt.alloc())?;
-    try_reply(rt.alloc(), &make_granted(rt.alloc())?)
+    try_all(rt.alloc(), &make_granted(rt.alloc())?)
 }

@@ -1,11 +1,7 @@
 //! What messages say.
 
-use super::{read_messages, show_reading};
-use std::test::Fail;
-use wl_codec::read_message;
-
 /// Of two members of one name the last counts; what the operation doesn't know plays no part.
-const MESSAGES: &str =
+pub const MESSAGES: &str =
     r#"{"id":7,"op":"open","url":"https://a.test/"} -> 7 open https://a.test/ default Window
 {"id":7,"op":"open","url":"","kind":"window"} -> 7 open  default Window
 {"id":7,"op":"open","url":"no","kind":"worker"} -> 7 open no default Worker
@@ -36,16 +32,3 @@ const MESSAGES: &str =
 {"id":1,"id":7,"\u006fp":"p\u006fll"} -> 7 Poll
 {"id":7,"op":"close","signal":null,"options":7,"x":[1]} -> 7 Close
 "#;
-
-#[test]
-fn messages_are_read(rt: HostRuntime) -> Result<(), Fail> {
-    assert_eq!(rt; read_messages(rt.alloc(), MESSAGES)?.as_str(), MESSAGES);
-    Ok(())
-}
-
-#[test]
-fn space_plays_no_part(rt: HostRuntime) -> Result<(), Fail> {
-    let read = read_message(rt.alloc(), b" {\"op\":\"poll\",\r\n\t\"id\":7} ")?;
-    assert_eq!(rt; show_reading(rt.alloc(), &read)?.as_str(), "7 Poll");
-    Ok(())
-}

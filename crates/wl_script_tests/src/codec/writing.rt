@@ -3,47 +3,29 @@
 ghost use Rattle.std.specs.Prelude.{All, IfOk};
 ghost use Rattle.wl_codec.specs.Replies.{IsReported};
 
+use crate::lists::part;
 use std::alloc::Global;
-use std::test::Fail;
 use wl_codec::{CodecFault, Member, Notice, Notices, Outcome, WireReply, write_reply};
 use wl_types::{
     AbortAnswer, Infos, LockInfo, Memory, Mode, Name, Phase, Reason, Refusal, ReleaseAnswer,
     Snapshot,
 };
 
-/// The text of a reply without notices.
-fn write_plain(alloc: Global, id: Option<u64>, outcome: Outcome) -> Result<String, Memory> {
-    let reply = WireReply {
-        id,
-        notices: Notices::new(alloc),
-        outcome,
-    };
-    write_reply(alloc, &reply)
-}
-
-/// What stands between the two in a text that has them at its ends; else the whole text.
-fn between<'a>(text: &'a str, before: &str, behind: &str) -> &'a str {
-    match text.strip_prefix(before) {
-        Some(rest) => rest.strip_suffix(behind).unwrap_or(text),
-        None => text,
-    }
-}
-
-const ANSWERS: [&str; 13] = [
-    r#"{"client":"client-12"}"#,
-    r#"{"client":null}"#,
-    r#"{"signal":9007199254740991}"#,
-    r#"{"request":0}"#,
-    r#"{"release":"released"}"#,
-    r#"{"release":"not-held"}"#,
-    r#"{"abort":"done"}"#,
-    r#"{"abort":"already-aborted"}"#,
-    r#"{"active":true}"#,
-    r#"{"active":false}"#,
-    r#"{"held":[],"pending":[]}"#,
-    "{}",
-    "{}",
-];
+/// Each outcome has its text.
+pub const ANSWERS: &str = r#"answer 0 -> {"id":6,"notices":[],"ok":{"client":"client-12"}}
+answer 1 -> {"id":6,"notices":[],"ok":{"client":null}}
+answer 2 -> {"id":6,"notices":[],"ok":{"signal":9007199254740991}}
+answer 3 -> {"id":6,"notices":[],"ok":{"request":0}}
+answer 4 -> {"id":6,"notices":[],"ok":{"release":"released"}}
+answer 5 -> {"id":6,"notices":[],"ok":{"release":"not-held"}}
+answer 6 -> {"id":6,"notices":[],"ok":{"abort":"done"}}
+answer 7 -> {"id":6,"notices":[],"ok":{"abort":"already-aborted"}}
+answer 8 -> {"id":6,"notices":[],"ok":{"active":true}}
+answer 9 -> {"id":6,"notices":[],"ok":{"active":false}}
+answer 10 -> {"id":6,"notices":[],"ok":{"held":[],"pending":[]}}
+answer 11 -> {"id":6,"notices":[],"ok":{}}
+answer 12 -> {"id":6,"notices":[],"ok":{}}
+"#;
 
 /// The outcomes of these answers, by their place.
 fn answer(alloc: Global, place: usize) -> Outcome {
@@ -71,31 +53,22 @@ fn no_locks(alloc: Global) -> Snapshot {
     }
 }
 
-#[test]
-fn each_outcome_has_its_text(rt: HostRuntime) -> Result<(), Fail> {
-    for (place, wanted) in ANSWERS.iter().enumerate() {
-        let text = write_plain(rt.alloc(), Some(6), answer(rt.alloc(), place))?;
-        let shown = between(text.as_str(), r#"{"id":6,"notices":[],"ok":"#, "}");
-        assert_eq!(rt; shown, *wanted);
-    }
-    Ok(())
-}
-
-const ERRORS: [&str; 13] = [
-    r#"{"name":"InvalidStateError","rule":"inactive"}"#,
-    r#"{"name":"AbortError","rule":"signal-aborted"}"#,
-    r#"{"name":"TimeoutError","rule":"signal-aborted"}"#,
-    r#"{"name":"AbortCode","reason":0,"rule":"signal-aborted"}"#,
-    r#"{"name":"AbortCode","reason":7,"rule":"signal-aborted"}"#,
-    r#"{"name":"AbortCode","reason":65535,"rule":"signal-aborted"}"#,
-    r#"{"name":"Limit","rule":"name-length"}"#,
-    r#"{"name":"BadJson","rule":"json"}"#,
-    r#"{"name":"TypeError","rule":"ifAvailable"}"#,
-    r#"{"name":"NotOpen","rule":"session"}"#,
-    r#"{"name":"AlreadyOpen","rule":"session"}"#,
-    r#"{"name":"BadUrl","rule":"url"}"#,
-    r#"{"name":"BadBucket","rule":"bucket"}"#,
-];
+/// Each error has its name and its rule.
+pub const ERRORS: &str =
+    r#"error 0 -> {"error":{"name":"InvalidStateError","rule":"inactive"},"id":null,"notices":[]}
+error 1 -> {"error":{"name":"AbortError","rule":"signal-aborted"},"id":null,"notices":[]}
+error 2 -> {"error":{"name":"TimeoutError","rule":"signal-aborted"},"id":null,"notices":[]}
+error 3 -> {"error":{"name":"AbortCode","reason":0,"rule":"signal-aborted"},"id":null,"notices":[]}
+error 4 -> {"error":{"name":"AbortCode","reason":7,"rule":"signal-aborted"},"id":null,"notices":[]}
+error 5 -> {"error":{"name":"AbortCode","reason":65535,"rule":"signal-aborted"},"id":null,"notices":[]}
+error 6 -> {"error":{"name":"Limit","rule":"name-length"},"id":null,"notices":[]}
+error 7 -> {"error":{"name":"BadJson","rule":"json"},"id":null,"notices":[]}
+error 8 -> {"error":{"name":"TypeError","rule":"ifAvailable"},"id":null,"notices":[]}
+error 9 -> {"error":{"name":"NotOpen","rule":"session"},"id":null,"notices":[]}
+error 10 -> {"error":{"name":"AlreadyOpen","rule":"session"},"id":null,"notices":[]}
+error 11 -> {"error":{"name":"BadUrl","rule":"url"},"id":null,"notices":[]}
+error 12 -> {"error":{"name":"BadBucket","rule":"bucket"},"id":null,"notices":[]}
+"#;
 
 /// What a request is answered whose signal was aborted for this reason.
 fn abort_outcome(reason: Reason) -> Outcome {
@@ -121,18 +94,10 @@ fn error(place: usize) -> Outcome {
     }
 }
 
-#[test]
-fn each_error_has_its_name_and_rule(rt: HostRuntime) -> Result<(), Fail> {
-    for (place, wanted) in ERRORS.iter().enumerate() {
-        let text = write_plain(rt.alloc(), None, error(place))?;
-        let shown = between(text.as_str(), r#"{"error":"#, r#","id":null,"notices":[]}"#);
-        assert_eq!(rt; shown, *wanted);
-    }
-    Ok(())
-}
-
-const NOTICES_TEXT: &str =
-    r#"{"id":2,"notices":[{"phase":"granted","request":3},{"phase":"unavailable","request":1},{"phase":"aborted","reason":"AbortError","request":4},{"phase":"aborted","reason":0,"request":6},{"phase":"aborted","reason":65535,"request":2},{"phase":"stolen","request":5}],"ok":{}}"#;
+/// Notices keep their order. Before the text is how many there are.
+pub const NOTICES: &str =
+    r#"notices -> 6: {"id":2,"notices":[{"phase":"granted","request":3},{"phase":"unavailable","request":1},{"phase":"aborted","reason":"AbortError","request":4},{"phase":"aborted","reason":0,"request":6},{"phase":"aborted","reason":65535,"request":2},{"phase":"stolen","request":5}],"ok":{}}
+"#;
 
 fn all_notices(alloc: Global) -> Result<Notices, Memory>
     ensures { IfOk result (λ notices. All (λ n. IsReported n.phase) notices) }
@@ -165,71 +130,118 @@ fn all_notices(alloc: Global) -> Result<Notices, Memory>
     Ok(notices)
 }
 
-#[test]
-fn notices_keep_their_order(rt: HostRuntime) -> Result<(), Fail> {
+/// A snapshot shows what is held and what waits.
+pub const SEEN: &str =
+    r#"three -> {"id":1,"notices":[],"ok":{"held":[{"clientId":"client-1","mode":"exclusive","name":"db"}],"pending":[{"clientId":"client-2","mode":"shared","name":"db"},{"clientId":"client-3","mode":"shared","name":"db"}]}}
+"#;
+
+const NAMES: [&str; 8] = [
+    "",
+    "db/1 'x'",
+    "a\"b",
+    "a\\b",
+    "\u{8}\u{c}\n\r\t",
+    "\u{0}\u{1}\u{1f}",
+    "\u{7f}",
+    "\u{e9}\u{20ac}\u{1f512}\u{2028}",
+];
+
+/// Those names by their place: they are escaped only where JSON asks for it.
+pub const ESCAPED: &str = "\
+name 0 -> {\"id\":1,\"notices\":[],\"ok\":{\"held\":[{\"clientId\":\"client-1\",\"mode\":\"exclusive\",\"name\":\"\"}],\"pending\":[]}}
+name 1 -> {\"id\":1,\"notices\":[],\"ok\":{\"held\":[{\"clientId\":\"client-1\",\"mode\":\"exclusive\",\"name\":\"db/1 'x'\"}],\"pending\":[]}}
+name 2 -> {\"id\":1,\"notices\":[],\"ok\":{\"held\":[{\"clientId\":\"client-1\",\"mode\":\"exclusive\",\"name\":\"a\\\"b\"}],\"pending\":[]}}
+name 3 -> {\"id\":1,\"notices\":[],\"ok\":{\"held\":[{\"clientId\":\"client-1\",\"mode\":\"exclusive\",\"name\":\"a\\\\b\"}],\"pending\":[]}}
+name 4 -> {\"id\":1,\"notices\":[],\"ok\":{\"held\":[{\"clientId\":\"client-1\",\"mode\":\"exclusive\",\"name\":\"\\b\\f\\n\\r\\t\"}],\"pending\":[]}}
+name 5 -> {\"id\":1,\"notices\":[],\"ok\":{\"held\":[{\"clientId\":\"client-1\",\"mode\":\"exclusive\",\"name\":\"\\u0000\\u0001\\u001f\"}],\"pending\":[]}}
+name 6 -> {\"id\":1,\"notices\":[],\"ok\":{\"held\":[{\"clientId\":\"client-1\",\"mode\":\"exclusive\",\"name\":\"\u{7f}\"}],\"pending\":[]}}
+name 7 -> {\"id\":1,\"notices\":[],\"ok\":{\"held\":[{\"clientId\":\"client-1\",\"mode\":\"exclusive\",\"name\":\"\u{e9}\u{20ac}\u{1f512}\u{2028}\"}],\"pending\":[]}}
+";
+
+/// Adds the text of a reply that a call names.
+pub fn add_written(alloc: Global, came: &mut String, call: &str) -> Result<(), Memory> {
+    let (word, place) = part(call);
+    let place = place.parse::<usize>().unwrap_or(0);
+    match word {
+        "answer" => add_plain(alloc, came, Some(6), answer(alloc, place)),
+        "error" => add_plain(alloc, came, None, error(place)),
+        "notices" => add_notices(alloc, came),
+        "three" => add_held(alloc, came, "db", 3),
+        _ => add_held(
+            alloc,
+            came,
+            NAMES.get(place).copied().unwrap_or("no name"),
+            1,
+        ),
+    }
+}
+
+fn add_reply(alloc: Global, came: &mut String, reply: &WireReply) -> Result<(), Memory>
+    requires { All (λ n. IsReported n.phase) reply.now.notices }
+{
+    match write_reply(alloc, reply) {
+        Ok(text) => Ok(came.push_str(text.as_str())?),
+        Err(Memory) => Err(Memory),
+    }
+}
+
+/// The text of a reply without notices.
+fn add_plain(
+    alloc: Global,
+    came: &mut String,
+    id: Option<u64>,
+    outcome: Outcome,
+) -> Result<(), Memory> {
+    let reply = WireReply {
+        id,
+        notices: Notices::new(alloc),
+        outcome,
+    };
+    add_reply(alloc, came, &reply)
+}
+
+fn add_notices(alloc: Global, came: &mut String) -> Result<(), Memory> {
     let reply = WireReply {
         id: Some(2),
-        notices: all_notices(rt.alloc())?,
+        notices: all_notices(alloc)?,
         outcome: Outcome::Polled,
     };
-    assert_eq!(rt; reply.notices.as_slice().len(), 6);
-    assert_eq!(rt; write_reply(rt.alloc(), &reply)?.as_str(), NOTICES_TEXT);
-    Ok(())
+    add_counted(alloc, came, &reply)
+}
+
+fn add_counted(alloc: Global, came: &mut String, reply: &WireReply) -> Result<(), Memory>
+    requires { All (λ n. IsReported n.phase) reply.now.notices }
+{
+    write!(came, "{}: ", reply.notices.as_slice().len())?;
+    add_reply(alloc, came, reply)
 }
 
 /// Adds a lock or a request of this name.
-fn add(alloc: Global, infos: &mut Infos, name: &str, mode: Mode, client: u64) -> Result<(), Fail> {
-    let name = Name::of(alloc, name)?;
-    infos.push(LockInfo { name, mode, client })?;
-    Ok(())
+fn add_info(
+    alloc: Global,
+    infos: &mut Infos,
+    name: &str,
+    mode: Mode,
+    client: u64,
+) -> Result<(), Memory> {
+    match Name::of(alloc, name) {
+        Ok(name) => Ok(infos.push(LockInfo { name, mode, client })?),
+        Err(_) => Err(Memory),
+    }
 }
 
-/// The text of a reply that shows that the first agent holds a lock of this name, and that agents up to the last wait
-/// for one of the name `db`.
-fn show_held(alloc: Global, name: &str, last: u64) -> Result<String, Fail> {
-    let mut seen = no_locks(alloc);
-    add(alloc, &mut seen.held, name, Mode::Exclusive, 1)?;
+/// The first agent holds a lock of this name, and agents up to the last wait for one of the name `db`.
+fn see(alloc: Global, seen: &mut Snapshot, name: &str, last: u64) -> Result<(), Memory> {
+    add_info(alloc, &mut seen.held, name, Mode::Exclusive, 1)?;
     for client in 2..=last {
-        add(alloc, &mut seen.pending, "db", Mode::Shared, client)?;
-    }
-    Ok(write_plain(alloc, Some(1), Outcome::Seen(seen))?)
-}
-
-const SEEN: &str =
-    r#"{"id":1,"notices":[],"ok":{"held":[{"clientId":"client-1","mode":"exclusive","name":"db"}],"pending":[{"clientId":"client-2","mode":"shared","name":"db"},{"clientId":"client-3","mode":"shared","name":"db"}]}}"#;
-
-#[test]
-fn a_snapshot_shows_what_is_held_and_what_waits(rt: HostRuntime) -> Result<(), Fail> {
-    assert_eq!(rt; show_held(rt.alloc(), "db", 3)?.as_str(), SEEN);
-    Ok(())
-}
-
-const ESCAPED: &[(&str, &str)] = &[
-    ("", ""),
-    ("db/1 'x'", "db/1 'x'"),
-    ("a\"b", "a\\\"b"),
-    ("a\\b", "a\\\\b"),
-    ("\u{8}\u{c}\n\r\t", "\\b\\f\\n\\r\\t"),
-    ("\u{0}\u{1}\u{1f}", "\\u0000\\u0001\\u001f"),
-    ("\u{7f}", "\u{7f}"),
-    (
-        "\u{e9}\u{20ac}\u{1f512}\u{2028}",
-        "\u{e9}\u{20ac}\u{1f512}\u{2028}",
-    ),
-];
-
-const BEFORE_THE_NAME: &str =
-    r#"{"id":1,"notices":[],"ok":{"held":[{"clientId":"client-1","mode":"exclusive","name":""#;
-
-fn is_written(alloc: Global, name: &str, wanted: &str) -> Result<bool, Fail> {
-    let text = show_held(alloc, name, 1)?;
-    Ok(between(text.as_str(), BEFORE_THE_NAME, r#""}],"pending":[]}}"#) == wanted)
-}
-
-#[test]
-fn names_are_escaped_only_where_json_asks_for_it(rt: HostRuntime) -> Result<(), Fail> {
-    for (name, wanted) in ESCAPED {
-        assert!(rt; is_written(rt.alloc(), name, wanted)?);
+        add_info(alloc, &mut seen.pending, "db", Mode::Shared, client)?;
     }
     Ok(())
+}
+
+/// The text of a reply that shows them.
+fn add_held(alloc: Global, came: &mut String, name: &str, last: u64) -> Result<(), Memory> {
+    let mut seen = no_locks(alloc);
+    see(alloc, &mut seen, name, last)?;
+    add_plain(alloc, came, Some(1), Outcome::Seen(seen))
 }

@@ -19,9 +19,6 @@ pub const REPLIES: &str =
 {\"error\":{\"name\":\"TypeError\",\"rule\":\"agent\"},\"id\":3,\"notices\":[]}
 ";
 
-/// Where the replies end.
-pub const ENDS: [usize; 4] = [0, 66, 132, 198];
-
 /// The replies to three lines that are no JSON, of 66 bytes each.
 pub const BAD_JSON: &str =
     "{\"error\":{\"name\":\"BadJson\",\"rule\":\"json\"},\"id\":null,\"notices\":[]}
@@ -82,7 +79,7 @@ impl Input for Pieces<'_> {
 }
 
 /// What a writer does that has no room left.
-#[derive(Clone, Copy, Debug, PartialEq, Eq, Drop)]
+#[derive(Clone, Copy, Drop)]
 pub enum Full {
     Fails,
     TakesNone,

@@ -1,7 +1,6 @@
 //! Each growth refused in turn.
 
-use super::runs::plain;
-use std::random::RandomSource;
+use super::ends::plain;
 use std::test::Fail;
 use wl_script::ScriptFault;
 use wl_test_support::fail_refused;
@@ -18,7 +17,7 @@ const REPLIES: &str = "{\"id\":1,\"notices\":[],\"ok\":{\"client\":\"client-1\"}
 const ENDS: [usize; 3] = [0, 49, 121];
 
 /// A run that is refused memory says how many lines were answered, and just their replies are written.
-fn try_run<R: RandomSource + AllocGlobal>(rt: &R) -> Result<(), Fail> {
+fn try_run(rt: &HostRuntime) -> Result<(), Fail> {
     let ended = plain(SCRIPT, 100).ends(rt, REPLIES)?;
     match ended.result {
         Ok(2) if ended.written == Some(121) => Ok(()),
@@ -32,7 +31,7 @@ fn try_run<R: RandomSource + AllocGlobal>(rt: &R) -> Result<(), Fail> {
 const AUDIT: &str = "{\"entries\":3,\"legal\":true,\"origin\":\"https://a.test\"}\n";
 
 /// An audit that is refused memory says how many lines were done, and nothing is written.
-fn try_audit<R: RandomSource + AllocGlobal>(rt: &R) -> Result<(), Fail> {
+fn try_audit(rt: &HostRuntime) -> Result<(), Fail> {
     let ended = plain(SCRIPT, 100).audit_ends(rt, AUDIT)?;
     match ended.result {
         Ok(1) if ended.written == Some(AUDIT.len()) => Ok(()),

@@ -2,90 +2,71 @@
 
 ghost use Rattle.wl_session.specs.LastReported.{IsByNumber};
 
-use super::planning::plan;
+use super::planning::add_plan;
 use std::alloc::Global;
 use wl_codec::{CodecFault, Outcome};
 use wl_session::{Session, SessionOf, Upkeep};
 use wl_types::{AbortAnswer, Memory, Phase, Reason, Refusal, ReleaseAnswer};
 
-/// Does the steps of a list with a new session, a step a line, and gives the list as it came out. A line is an outcome,
-/// what is found of at most two requests in brackets, an arrow, the reply, and then the told list: `release [1
-/// released, 4 granted] -> ..`. `aborted` may have a code behind it. With `all: ` before it, all requests are looked
-/// at. `plan` and a message is what is planned.
-pub fn finish_all(alloc: Global, list: &str) -> Result<String, Memory> {
-    let mut session = Session::new(alloc);
-    let mut came = String::new(alloc);
-    for line in list.lines() {
-        let (step, _) = line.split_once(" -> ").unwrap_or((line, ""));
-        let answer = do_step(alloc, &mut session, step)?;
-        write!(came, "{step} -> {answer} {:?}\n", session.live())?;
-    }
-    Ok(came)
-}
-
-fn do_step(alloc: Global, session: &mut Session, step: &str) -> Result<String, Memory> {
-    match step.strip_prefix("plan ") {
-        Some(message) => plan(alloc, session, message),
-        None => finish(session, step),
-    }
-}
-
-/// The replies alone, of a session of either upkeep.
-pub fn replies<U: Upkeep>(alloc: Global, list: &str) -> Result<String, Memory> {
-    let mut came = String::new(alloc);
-    add_replies(&mut SessionOf::<U>::new(alloc), &mut came, list)?;
-    Ok(came)
-}
-
-fn add_replies<U: Upkeep>(
-    session: &mut SessionOf<U>,
+/// Does a step, and adds what it comes to and then the told list. A step is an outcome and what is found of at most two
+/// requests in brackets, which is answered by the reply: `release [1 released, 4 granted]`. `aborted` may have a code
+/// behind it. With `all: ` before it, all requests are looked at. `plan` and a message is what is planned.
+pub fn do_step(
+    alloc: Global,
+    session: &mut Session,
     came: &mut String,
-    list: &str,
+    step: &str,
 ) -> Result<(), Memory> {
-    for line in list.lines() {
-        let (step, _) = line.split_once(" -> ").unwrap_or((line, ""));
-        let reply = finish(session, step)?;
-        write!(came, "{step} -> {reply}\n")?;
+    match step.strip_prefix("plan ") {
+        Some(message) => add_plan(alloc, session, came, message)?,
+        None => finish(session, came, step)?,
     }
+    write!(came, " {:?}", session.live())?;
     Ok(())
 }
 
-fn finish<U: Upkeep>(session: &mut SessionOf<U>, step: &str) -> Result<String, Memory> {
+/// The reply alone, of a session of either upkeep.
+pub fn finish<U: Upkeep>(
+    session: &mut SessionOf<U>,
+    came: &mut String,
+    step: &str,
+) -> Result<(), Memory> {
     let (words, looks) = step.split_once(" [").unwrap_or((step, ""));
     let looks = looks.strip_suffix(']').unwrap_or("");
-    let whole = words.strip_prefix("all: ");
-    let outcome = outcome(whole.unwrap_or(words));
     match (looks.split_once(", "), looks) {
-        (None, "") => tell(session, whole.is_some(), outcome, &[]),
-        (None, one) => tell(session, whole.is_some(), outcome, &[look(one)]),
-        (Some((one, two)), _) => tell_two(session, whole.is_some(), outcome, look(one), look(two)),
+        (None, "") => tell(session, came, words, &[]),
+        (None, one) => tell(session, came, words, &[look(one)]),
+        (Some((one, two)), _) => tell_two(session, came, words, look(one), look(two)),
     }
 }
 
 fn tell<U: Upkeep>(
     session: &mut SessionOf<U>,
-    is_whole: bool,
-    outcome: Outcome,
+    came: &mut String,
+    words: &str,
     looks: &[(u64, Phase)],
-) -> Result<String, Memory>
+) -> Result<(), Memory>
     requires { IsByNumber looks.now }
 {
-    if is_whole {
-        session.finish(Some(7), outcome, looks)
-    } else {
-        session.finish_changed(Some(7), outcome, looks)
+    let told = match words.strip_prefix("all: ") {
+        Some(words) => session.finish(Some(7), outcome(words), looks),
+        None => session.finish_changed(Some(7), outcome(words), looks),
+    };
+    match told {
+        Ok(reply) => Ok(came.push_str(reply.as_str())?),
+        Err(Memory) => Err(Memory),
     }
 }
 
 fn tell_two<U: Upkeep>(
     session: &mut SessionOf<U>,
-    is_whole: bool,
-    outcome: Outcome,
+    came: &mut String,
+    words: &str,
     one: (u64, Phase),
     two: (u64, Phase),
-) -> Result<String, Memory> {
+) -> Result<(), Memory> {
     if one.0 < two.0 {
-        tell(session, is_whole, outcome, &[one, two])
+        tell(session, came, words, &[one, two])
     } else {
         // Looks are by number: no list has these.
         Err(Memory)

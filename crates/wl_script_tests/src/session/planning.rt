@@ -2,13 +2,23 @@
 
 use std::alloc::Global;
 use wl_codec::{Body, CodecFault, Outcome, read_message};
-use wl_session::{Action, Session};
+use wl_session::{Action, Plan, Session};
 use wl_types::{Kind, Memory};
 
-/// The id that the message's reply has, and what is to be done.
-pub fn plan(alloc: Global, session: &Session, message: &str) -> Result<String, Memory> {
-    let plan = session.plan(read_message(alloc, message.as_bytes())?);
-    Ok(format!(in alloc; "{:?} {}", plan.id, show_action(&plan.action))?)
+/// Adds the id that the message's reply has, and what is to be done.
+pub fn add_plan(
+    alloc: Global,
+    session: &Session,
+    came: &mut String,
+    message: &str,
+) -> Result<(), Memory> {
+    let reading = read_message(alloc, message.as_bytes())?;
+    show_plan(came, &session.plan(reading))
+}
+
+fn show_plan(came: &mut String, plan: &Plan) -> Result<(), Memory> {
+    write!(came, "{:?} {}", plan.id, show_action(&plan.action))?;
+    Ok(())
 }
 
 fn show_action(action: &Action) -> &'static str {

@@ -3,9 +3,9 @@
 ghost use Rattle.std.specs.Prelude.{◌+◌, ◌<◌, ◌≤◌};
 ghost use Rattle.wl_session.specs.LastReported.{IsByNumber};
 
-use super::finishing::replies;
+use crate::lists::{Scene, assert_came};
 use std::alloc::Global;
-use std::test::Fail;
+use std::process::Abort;
 use wl_codec::Outcome;
 use wl_session::{AtOnce, InTime, SessionOf, Upkeep};
 use wl_types::{Memory, Phase};
@@ -51,49 +51,57 @@ fn request_often<U: Upkeep>(session: &mut SessionOf<U>, text: &mut String) -> Re
 }
 
 /// A poll that finds three of them as they were, and the last stolen.
-fn poll<U: Upkeep>(session: &mut SessionOf<U>) -> Result<String, Memory> {
+fn poll<U: Upkeep>(session: &mut SessionOf<U>, text: &mut String) -> Result<(), Memory> {
     let looks = [
         (285, Phase::Taken),
         (287, Phase::Taken),
         (299, Phase::Taken),
         (300, Phase::Stolen),
     ];
-    session.finish_changed(Some(7), Outcome::Polled, &looks)
+    match session.finish_changed(Some(7), Outcome::Polled, &looks) {
+        Ok(reply) => Ok(text.push_str(reply.as_str())?),
+        Err(Memory) => Err(Memory),
+    }
 }
 
-/// All these replies.
-fn replies_to_many<U: Upkeep>(alloc: Global) -> Result<String, Memory> {
-    let mut session = SessionOf::<U>::new(alloc);
-    let mut text = String::new(alloc);
-    request_often(&mut session, &mut text)?;
-    text.push_str(poll(&mut session)?.as_str())?;
-    Ok(text)
+/// Adds all these replies.
+fn add_many<U: Upkeep>(session: &mut SessionOf<U>, text: &mut String) -> Result<(), Memory> {
+    request_often(session, text)?;
+    poll(session, text)
+}
+
+/// Adds them of both upkeeps.
+fn add_both(scene: &mut Scene, at_once: &mut String, in_time: &mut String) -> Result<(), Memory> {
+    add_many(&mut scene.session, at_once)?;
+    add_many(&mut scene.in_time, in_time)
 }
 
 const LAST: &str = "{\"id\":7,\"notices\":[{\"phase\":\"stolen\",\"request\":300}],\"ok\":{}}";
 
-#[test]
-fn ends_that_stay_are_not_told_again(rt: HostRuntime) -> Result<(), Fail> {
-    let at_once = replies_to_many::<AtOnce>(rt.alloc())?;
-    let in_time = replies_to_many::<InTime>(rt.alloc())?;
-    assert_eq!(rt; at_once.as_str(), in_time.as_str());
-    assert!(rt; in_time.as_str().ends_with(LAST));
+/// Wants both to tell the same.
+pub fn assert_same<R: Abort>(test: &R, alloc: Global) -> Result<(), Memory> {
+    let mut at_once = String::new(alloc);
+    let mut in_time = String::new(alloc);
+    add_both(&mut Scene::new(alloc), &mut at_once, &mut in_time)?;
+    assert_both(test, at_once.as_str(), in_time.as_str());
     Ok(())
 }
 
-const A_NUMBER_AGAIN: &str =
+fn assert_both<R: Abort>(test: &R, at_once: &str, in_time: &str) {
+    assert_came(test, at_once, in_time);
+    assert_came(test, last_of(in_time), LAST);
+}
+
+/// The last reply; the whole text where it isn't at its end.
+fn last_of(text: &str) -> &str {
+    if text.ends_with(LAST) { LAST } else { text }
+}
+
+/// A number starts anew after its end.
+pub const A_NUMBER_AGAIN: &str =
     r#"request 1 [1 granted] -> {"id":7,"notices":[{"phase":"granted","request":1}],"ok":{"request":1}}
 request 2 [1 released, 2 granted] -> {"id":7,"notices":[{"phase":"granted","request":2}],"ok":{"request":2}}
 poll [2 stolen] -> {"id":7,"notices":[{"phase":"stolen","request":2}],"ok":{}}
 request 1 [1 granted, 2 granted] -> {"id":7,"notices":[{"phase":"granted","request":1},{"phase":"granted","request":2}],"ok":{"request":1}}
 poll [1 granted, 2 granted] -> {"id":7,"notices":[],"ok":{}}
 "#;
-
-#[test]
-fn a_number_starts_anew_after_its_end(rt: HostRuntime) -> Result<(), Fail> {
-    let at_once = replies::<AtOnce>(rt.alloc(), A_NUMBER_AGAIN)?;
-    assert_eq!(rt; at_once.as_str(), A_NUMBER_AGAIN);
-    let in_time = replies::<InTime>(rt.alloc(), A_NUMBER_AGAIN)?;
-    assert_eq!(rt; in_time.as_str(), A_NUMBER_AGAIN);
-    Ok(())
-}
