@@ -10,11 +10,15 @@
 //! - `serve_gated` and `serve_waiting`: what a gate is told of two connections, and whether the one goes on while the
 //!   other waits (`server::hooks`);
 //! - `serve_dropped`: a connection whose stream ends while somebody waits for its lock (`server::dropped`);
+//! - `peer CALL ..`: a peer of the service (`server::peers`);
+//! - `steal_at_once`: peers that steal a lock from one another (`server::fences`);
+//! - `without_random_words`: whether there is no service then (`service::keeping`);
+//! - `faults`: the texts of why no client is opened (`service::opening`);
 //! - `serve_crowd COUNT` and `serve_nobody COUNT`: that many connections, or none of them (`server::crowds`).
 
 use crate::scene::Scene;
-use crate::server::{crowds, dropped, hooks, hosts, loopback, streams};
-use crate::service::threads;
+use crate::server::{crowds, dropped, fences, hooks, hosts, loopback, peers, streams};
+use crate::service::{keeping, opening, threads};
 use std::alloc::{AllocError, Global};
 use std::fmt::Debug;
 use std::net::{Net, TcpListener, TcpStream};
@@ -34,24 +38,27 @@ where
         + Sync
         + Abort,
 {
+    let mut came = String::new(alloc);
     for list in lists {
-        assert_eq!(rt; do_list(rt, alloc, list)?.as_str(), *list);
+        came.clear();
+        do_list(rt, alloc, list, &mut came)?;
+        assert_eq!(rt; came.as_str(), *list);
     }
     Ok(())
 }
 
-/// A list as it came out.
-fn do_list<R>(rt: &R, alloc: Global, list: &str) -> Result<String, Fail>
+/// Adds a list as it comes out.
+fn do_list<R>(rt: &R, alloc: Global, list: &str, came: &mut String) -> Result<(), Fail>
 where
     R: Net<Listener = TcpListener, Stream = TcpStream> + Threads + Wait + RandomSource + Sync,
 {
     let mut scene = Scene::new(rt, alloc)?;
-    let mut came = String::new(alloc);
-    do_calls(rt, &mut scene, list, &mut came)?;
-    Ok(came)
+    let done = do_calls(rt, &mut scene, list, came);
+    scene.leave(rt);
+    done
 }
 
-fn do_calls<R>(rt: &R, scene: &mut Scene, list: &str, came: &mut String) -> Result<(), Fail>
+pub fn do_calls<R>(rt: &R, scene: &mut Scene, list: &str, came: &mut String) -> Result<(), Fail>
 where
     R: Net<Listener = TcpListener, Stream = TcpStream> + Threads + Wait + RandomSource + Sync,
 {
@@ -62,6 +69,39 @@ where
         }
     }
     Ok(())
+}
+
+/// Does the calls of a list, as `do_calls` does, but each that is refused memory once more. Whether one was.
+pub fn do_again<R: Wait>(
+    rt: &R,
+    scene: &mut Scene,
+    list: &str,
+    came: &mut String,
+) -> Result<bool, Fail> {
+    let mut was_refused = false;
+    for line in list.lines() {
+        if let Some((call, _)) = line.split_once(" -> ") {
+            write!(came, "{call} -> ")?;
+            was_refused |= try_call(rt, scene, call, came)?;
+        }
+    }
+    Ok(was_refused)
+}
+
+fn try_call<R: Wait>(
+    rt: &R,
+    scene: &mut Scene,
+    call: &str,
+    came: &mut String,
+) -> Result<bool, Fail> {
+    let mut first = String::new(scene.alloc);
+    scene.do_call(rt, call, &mut first)?;
+    if first.as_str() == "Err(Memory)\n" {
+        scene.do_call(rt, call, came)?;
+        return Ok(true);
+    }
+    came.push_str(first.as_str())?;
+    Ok(false)
 }
 
 fn do_call<R>(rt: &R, scene: &mut Scene, call: &str, came: &mut String) -> Result<(), Fail>
@@ -83,6 +123,10 @@ where
         "serve_nobody" => crowds::serve_nobody(rt, alloc, service, call, came),
         "visit_and_ask" => threads::visit_and_ask(rt, alloc, service, came),
         "open_pairs" => threads::open_pairs(rt, alloc, service, came),
+        "steal_at_once" => fences::steal_at_once(rt, alloc, service, came),
+        "peer" => peers::do_call(rt, scene, call, came),
+        "without_random_words" => show(came, Some(keeping::lack_random_words(alloc))),
+        "faults" => opening::put_faults(came),
         _ => scene.do_call(rt, call, came),
     }
 }

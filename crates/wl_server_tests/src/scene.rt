@@ -2,34 +2,39 @@
 //!
 //! Clients and tickets are called by their places, from 1 in the order in which they came; those behind a client that
 //! ends move up. The calls are `open KIND URL`, which answers the client's number; `open_in KIND BUCKET URL` and
-//! `enter KIND BUCKET URL`, which answer it too, and lend their bucket or hand it over; `fill COUNT URL`, which opens
-//! that many workers and answers the last one's; `request CLIENT NAME SIGNAL`, which answers the request's number, and
-//! `look TICKET`; `release CLIENT TICKET`; `signal CLIENT` and `abort CLIENT SIGNAL REASON`; `set CLIENT active`;
-//! `query CLIENT`, which answers how many entries were seen and how many locks are held; `terminate CLIENT` and
-//! `close CLIENT`, which answer whether it left something; and `visit URL BUCKET`, which answers whether the visitor
-//! was called, and how many entries it was shown. One that names no bucket visits that of `default`. `keep COUNT` puts
-//! a new service in the place of the one that keeps each manager, which has so many at most, and `managers` answers how
-//! many.
+//! `enter KIND BUCKET URL`, which answer it too, and lend their bucket or hand it over; `open_heard window PLACE URL`,
+//! which gives the client a bell; `fill COUNT URL`, which opens that many workers and answers the last one's;
+//! `request CLIENT NAME SIGNAL`, which answers the request's number, and `look TICKET`; `ask_often CLIENT NAME`, which
+//! requests more than is listed; `release CLIENT TICKET`; `signal CLIENT` and `abort CLIENT SIGNAL REASON`;
+//! `set CLIENT active`; `query CLIENT`, which answers how many entries were seen and how many locks are held;
+//! `hear CLIENT` and `changes CLIENT`, what its bell tells (`service::hearing`); `terminate CLIENT` and `close CLIENT`,
+//! which answer whether it left something; and `visit URL BUCKET`, which answers whether the visitor was called, and
+//! how many entries it was shown. One that names no bucket visits that of `default`. `keep COUNT` puts a new service in
+//! the place of the one that keeps each manager, which has so many at most, and `managers` answers how many.
 //! `locks URL` lists the locks of that URL's origin, or without it all: each manager with the numbers of the requests
-//! that hold and, behind a bar, of those that wait, and how many were left out.
+//! that hold and, behind a bar, of those that wait, and how many were left out; `cut` counts those of the first one.
 
 use crate::lists::{number, rest, show, word};
+use crate::server::peers::Seat;
+use crate::service::{hearing, listing};
 use std::alloc::{AllocError, Global};
 use std::random::RandomSource;
-use std::sync::Wait;
+use std::sync::{Arc, Wait};
 use std::test::Fail;
 use wl_journal::{Entry, Sight};
-use wl_manager::{LockList, LockRow, Visitor};
-use wl_service::{Client, Keeping, OpenFault, Service, Ticket};
+use wl_manager::{LockList, LockRow, Ring, Visitor};
+use wl_service::{Client, Keeping, OpenFault, Service, ServiceLocks, Ticket};
 use wl_test_support::{ask, key_in, origin_key};
 use wl_types::{Ask, Kind, Memory, Mode, Phase, Reason, Refusal, ReleaseAnswer, Text};
 
-#[derive(Drop)]
+/// It ends by `leave`, since a peer has to.
 pub struct Scene {
     pub service: Service,
+    pub seat: Seat,
+    pub alloc: Global,
     clients: Vec<Client>,
     tickets: Vec<Ticket>,
-    pub alloc: Global,
+    ring: Arc<Ring>,
 }
 
 /// How many entries a visit showed, if it showed any.
@@ -45,10 +50,10 @@ impl Visitor for Shown {
 }
 
 fn kind(word: &str) -> Kind {
-    if word == "worker" {
-        Kind::Worker
-    } else {
+    if word == "window" {
         Kind::Window
+    } else {
+        Kind::Worker
     }
 }
 
@@ -76,6 +81,8 @@ fn count_sight(seen: Result<Sight, Refusal>) -> Result<(u64, usize), Refusal> {
 /// The calls that take a client alone.
 fn call_client<R: Wait>(
     rt: &R,
+    alloc: Global,
+    ring: &Arc<Ring>,
     client: &mut Client,
     call: &str,
     came: &mut String,
@@ -88,18 +95,36 @@ fn call_client<R: Wait>(
         }
         "set" => show(came, Some(client.set_active(rt, word(call, 2) == "active"))),
         "query" => show(came, Some(count_sight(client.query(rt)))),
+        "hear" => hearing::put_hearing(alloc, came, client, ring),
+        "changes" => hearing::put_changes(alloc, came, client),
         _ => show(came, None::<u64>),
     }
 }
 
 impl Scene {
     pub fn new<R: RandomSource>(rt: &R, alloc: Global) -> Result<Scene, Memory> {
+        let ring = Arc::new(alloc, Ring::new(alloc))?;
+        let service = Service::new(rt, alloc)?;
         Ok(Scene {
-            service: Service::new(rt, alloc)?,
+            service,
+            seat: Seat::new(),
+            alloc,
             clients: Vec::new(alloc),
             tickets: Vec::new(alloc),
-            alloc,
+            ring,
         })
+    }
+
+    pub fn leave<R: Wait>(self, rt: &R) {
+        let Scene {
+            service: _service,
+            seat,
+            alloc: _alloc,
+            clients: _clients,
+            tickets: _tickets,
+            ring: _ring,
+        } = self;
+        seat.end(rt);
     }
 
     /// A new service takes the place of this one, and keeps so many managers at most.
@@ -111,61 +136,72 @@ impl Scene {
     pub fn do_call<R: Wait>(&mut self, rt: &R, call: &str, came: &mut String) -> Result<(), Fail> {
         let place = number(call, 1);
         match word(call, 0) {
-            "open" => show(came, Some(self.open(rt, kind(word(call, 1)), rest(call)))),
-            "open_in" => show(
-                came,
-                Some(self.open_in(rt, kind(word(call, 1)), rest(call))),
-            ),
-            "enter" => show(came, Some(self.enter(rt, kind(word(call, 1)), rest(call)))),
-            "fill" => show(came, Some(self.fill(rt, place, rest(call)))),
+            "open" | "open_in" | "enter" | "open_heard" => show(came, Some(self.open(rt, call))),
+            "fill" => show(came, Some(self.fill(rt, call))),
             "visit" => self.visit(rt, call, came),
-            "request" => self.request(rt, place, call, came),
+            "request" | "ask_often" => self.request(rt, place, call, came),
             "look" => show(came, self.look(place)),
             "release" => show(came, self.release(rt, place, number(call, 2))),
-            "terminate" => show(came, self.terminate(rt, place)),
-            "close" => show(came, self.close(rt, place)),
+            "terminate" | "close" => show(came, self.end(rt, place, word(call, 0))),
             "managers" => show(came, Some(self.service.managers(rt))),
             "locks" => self.list(rt, word(call, 1), came),
+            "cut" => show(came, Some(listing::cut(rt, &self.service))),
             _ => match at(&mut self.clients, place) {
-                Some(client) => call_client(rt, client, call, came),
+                Some(client) => call_client(rt, self.alloc, &self.ring, client, call, came),
                 None => show(came, None::<u64>),
             },
         }
     }
 
-    fn open<R: Wait>(&mut self, rt: &R, kind: Kind, url: &str) -> Result<Option<u64>, OpenFault> {
-        let client = self.service.open(rt, url, kind)?;
-        self.seat(client)
-    }
-
-    /// In a bucket, which stands before the URL.
-    fn open_in<R: Wait>(&mut self, rt: &R, kind: Kind, at: &str) -> Result<Option<u64>, OpenFault> {
-        let (bucket, url) = at.split_once(' ').unwrap_or((at, ""));
-        let client = self.service.open_in(rt, url, bucket, kind)?;
-        self.seat(client)
-    }
-
-    /// The same, with a text of the bucket's own.
-    fn enter<R: Wait>(&mut self, rt: &R, kind: Kind, at: &str) -> Result<Option<u64>, OpenFault> {
-        let (bucket, url) = at.split_once(' ').unwrap_or((at, ""));
-        let bucket = Text::of(self.alloc, bucket).map_err(|_| OpenFault::Memory)?;
-        let client = self.service.open_in_text(rt, url, bucket, kind)?;
-        self.seat(client)
-    }
-
-    /// Answers the client's number.
-    fn seat(&mut self, client: Client) -> Result<Option<u64>, OpenFault> {
+    /// Answers the client's number. There is room for the client before it opens, so that none is lost.
+    fn open<R: Wait>(&mut self, rt: &R, call: &str) -> Result<Option<u64>, OpenFault> {
+        if self.clients.reserve(1).is_err() {
+            return Err(OpenFault::Memory);
+        }
+        let client = self.open_client(rt, call)?;
         let number = client.client();
-        match self.clients.push(client) {
-            Ok(()) => Ok(number),
+        self.clients.push_reserved(client);
+        Ok(number)
+    }
+
+    /// A bucket, or the place of a bell, stands before the URL.
+    fn open_client<R: Wait>(&self, rt: &R, call: &str) -> Result<Client, OpenFault> {
+        let kind = kind(word(call, 1));
+        let at = rest(call);
+        let (bucket, url) = at.split_once(' ').unwrap_or((at, ""));
+        match word(call, 0) {
+            "open_in" => self.service.open_in(rt, url, bucket, kind),
+            "enter" => self.enter(rt, url, bucket, kind),
+            "open_heard" => hearing::open(
+                rt,
+                self.alloc,
+                &self.service,
+                &self.ring,
+                url,
+                number(call, 2),
+            ),
+            _ => self.service.open(rt, at, kind),
+        }
+    }
+
+    /// In a bucket, with a text of its own.
+    fn enter<R: Wait>(
+        &self,
+        rt: &R,
+        url: &str,
+        bucket: &str,
+        kind: Kind,
+    ) -> Result<Client, OpenFault> {
+        match Text::of(self.alloc, bucket) {
+            Ok(bucket) => self.service.open_in_text(rt, url, bucket, kind),
             Err(_) => Err(OpenFault::Memory),
         }
     }
 
-    fn fill<R: Wait>(&mut self, rt: &R, count: usize, url: &str) -> Result<Option<u64>, OpenFault> {
+    fn fill<R: Wait>(&mut self, rt: &R, call: &str) -> Result<Option<u64>, OpenFault> {
         let mut last = None;
-        for _ in 0..count {
-            last = self.open(rt, Kind::Worker, url)?;
+        for _ in 0..number(call, 1) {
+            last = self.open(rt, call)?;
         }
         Ok(last)
     }
@@ -179,28 +215,41 @@ impl Scene {
     ) -> Result<(), Fail> {
         let mut asked = ask(self.alloc, word(call, 2), Mode::Exclusive)?;
         asked.signal = word(call, 3).parse::<u64>().ok();
-        show(came, self.request_as(rt, client, &asked))
+        if word(call, 0) == "request" {
+            show(came, self.request_as(rt, client, &asked))
+        } else {
+            show(came, self.ask_often(rt, client, &asked))
+        }
     }
 
+    /// Answers the request's number. There is room for the ticket before, as there is for a client.
     fn request_as<R: Wait>(
         &mut self,
         rt: &R,
         client: usize,
         asked: &Ask,
     ) -> Option<Result<u64, Refusal>> {
-        match at(&mut self.clients, client)?.request(rt, asked) {
-            Ok(ticket) => Some(self.keep(ticket)),
+        let client = at(&mut self.clients, client)?;
+        if self.tickets.reserve(1).is_err() {
+            return Some(Err(Refusal::Memory));
+        }
+        match client.request(rt, asked) {
+            Ok(ticket) => {
+                let number = ticket.number();
+                self.tickets.push_reserved(ticket);
+                Some(Ok(number))
+            }
             Err(refusal) => Some(Err(refusal)),
         }
     }
 
-    /// Answers the request's number.
-    fn keep(&mut self, ticket: Ticket) -> Result<u64, Refusal> {
-        let number = ticket.number();
-        match self.tickets.push(ticket) {
-            Ok(()) => Ok(number),
-            Err(_) => Err(Refusal::Memory),
-        }
+    fn ask_often<R: Wait>(
+        &mut self,
+        rt: &R,
+        client: usize,
+        asked: &Ask,
+    ) -> Option<Result<(), Refusal>> {
+        Some(listing::ask_often(rt, at(&mut self.clients, client)?, asked))
     }
 
     fn look(&mut self, ticket: usize) -> Option<Phase> {
@@ -212,23 +261,18 @@ impl Scene {
         Some(at(&mut self.clients, client)?.release(rt, ticket))
     }
 
-    /// Takes the client of a place away.
-    fn leave(&mut self, client: usize) -> Option<Client> {
-        let index = client.wrapping_sub(1);
-        if index < self.clients.len() {
-            Some(self.clients.remove(index))
-        } else {
-            None
+    /// Takes the client of a place away, and answers whether it left something.
+    fn end<R: Wait>(&mut self, rt: &R, place: usize, how: &str) -> Option<bool> {
+        let index = place.wrapping_sub(1);
+        if index >= self.clients.len() {
+            return None;
         }
-    }
-
-    fn terminate<R: Wait>(&mut self, rt: &R, client: usize) -> Option<bool> {
-        Some(self.leave(client)?.terminate(rt).is_some())
-    }
-
-    fn close<R: Wait>(&mut self, rt: &R, client: usize) -> Option<bool> {
-        let client = self.leave(client)?;
-        Some(self.service.close(rt, client).is_some())
+        let client = self.clients.remove(index);
+        if how == "close" {
+            Some(self.service.close(rt, client).is_some())
+        } else {
+            Some(client.terminate(rt).is_some())
+        }
     }
 
     fn visit<R: Wait>(&self, rt: &R, call: &str, came: &mut String) -> Result<(), Fail> {
@@ -244,18 +288,25 @@ impl Scene {
 
     fn list<R: Wait>(&self, rt: &R, url: &str, came: &mut String) -> Result<(), Fail> {
         let listed = if url.is_empty() {
-            self.service.list_locks(rt, None, 0)?
+            self.service.list_locks(rt, None, 0)
         } else {
             let origin = origin_key(self.alloc, url)?;
-            self.service.list_locks(rt, Some(&origin), 0)?
+            self.service.list_locks(rt, Some(&origin), 0)
         };
-        for one in &listed.managers {
-            let origin = one.key.origin.text(self.alloc)?;
-            write!(came, "{} {}:", origin.as_str(), one.key.bucket.as_str())?;
-            put_locks(came, &one.locks)?;
+        match listed {
+            Ok(listed) => put_managers(self.alloc, came, &listed),
+            Err(Memory) => show(came, Some(Err::<u64, Memory>(Memory))),
         }
-        show(came, Some(listed.left_out_managers))
     }
+}
+
+fn put_managers(alloc: Global, came: &mut String, listed: &ServiceLocks) -> Result<(), Fail> {
+    for one in &listed.managers {
+        let origin = one.key.origin.text(alloc)?;
+        write!(came, "{} {}:", origin.as_str(), one.key.bucket.as_str())?;
+        put_locks(came, &one.locks)?;
+    }
+    show(came, Some(listed.left_out_managers))
 }
 
 fn put_locks(came: &mut String, locks: &LockList) -> Result<(), AllocError> {
@@ -267,11 +318,7 @@ fn put_locks(came: &mut String, locks: &LockList) -> Result<(), AllocError> {
 
 fn put_numbers(came: &mut String, rows: &[LockRow]) -> Result<(), AllocError> {
     for row in rows {
-        put_number(came, row.request)?;
+        write!(came, " {}", row.request)?;
     }
     Ok(())
-}
-
-fn put_number(came: &mut String, number: u64) -> Result<(), AllocError> {
-    write!(came, " {number}")
 }

@@ -3,13 +3,13 @@
 pub mod crowds;
 pub mod dropped;
 mod endings;
-mod fences;
+pub mod fences;
 mod frames;
 mod growth;
 pub mod hooks;
 pub mod hosts;
 pub mod loopback;
-mod pushes;
+pub mod peers;
 mod relays;
 pub mod streams;
 mod taker;
@@ -32,5 +32,7 @@ impl Gate for NoHooks {
 #[test]
 fn servers_do_the_lists(rt: HostRuntime) -> Result<(), Fail> {
     assert_lists(&rt, rt.alloc(), &endings::LISTS)?;
-    assert_lists(&rt, rt.alloc(), &relays::LISTS)
+    assert_lists(&rt, rt.alloc(), &relays::LISTS)?;
+    assert_lists(&rt, rt.alloc(), &peers::LISTS)?;
+    assert_lists(&rt, rt.alloc(), &fences::LISTS)
 }

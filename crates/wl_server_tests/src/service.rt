@@ -3,10 +3,10 @@
 
 mod clients;
 mod growth;
-mod hearing;
-mod keeping;
-mod listing;
-mod opening;
+pub mod hearing;
+pub mod keeping;
+pub mod listing;
+pub mod opening;
 pub mod threads;
 
 use crate::lists::assert_lists;
@@ -22,5 +22,6 @@ fn services_do_the_lists(rt: HostRuntime) -> Result<(), Fail> {
     assert_lists(&rt, rt.alloc(), &clients::LISTS)?;
     assert_lists(&rt, rt.alloc(), &keeping::LISTS)?;
     assert_lists(&rt, rt.alloc(), &listing::LISTS)?;
+    assert_lists(&rt, rt.alloc(), &hearing::LISTS)?;
     assert_lists(&rt, rt.alloc(), &threads::LISTS)
 }

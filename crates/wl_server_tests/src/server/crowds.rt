@@ -59,11 +59,15 @@ fn come<R: Net<Stream = TcpStream>>(
 ) -> io::Result<Vec<TcpStream>> {
     let mut guests = Vec::new(alloc);
     for _ in 0..count {
-        let mut guest = guest(rt, listener)?;
-        guest.write_all(HELLO)?;
-        guests.push(guest)?;
+        guests.push(say_hello(rt, listener)?)?;
     }
     Ok(guests)
+}
+
+fn say_hello<R: Net<Stream = TcpStream>>(rt: &R, listener: &TcpListener) -> io::Result<TcpStream> {
+    let mut guest = guest(rt, listener)?;
+    guest.write_all(HELLO)?;
+    Ok(guest)
 }
 
 /// Serves so many that come at once, and tells what was served, and whether the last had to wait.

@@ -27,7 +27,9 @@ struct Seat {
 
 impl Seat {
     fn ask<R: Wait>(&mut self, rt: &R) {
-        self.ticket = self.client.request(rt, &self.asked).ok();
+        if let Ok(ticket) = self.client.request(rt, &self.asked) {
+            self.ticket = Some(ticket);
+        }
     }
 
     fn look(&mut self) -> Option<(u64, Phase)> {
@@ -90,14 +92,15 @@ pub fn serve_dropped<R>(
 where
     R: Net<Listener = TcpListener, Stream = TcpStream> + Threads + Wait + Sync,
 {
-    let seat = Seat {
-        client: service.open(rt, "https://a.test/", Kind::Window)?,
-        asked: ask(alloc, "db", Mode::Exclusive)?,
-        ticket: None,
-    };
+    let asked = ask(alloc, "db", Mode::Exclusive)?;
     let mut frames = Vec::new(alloc);
     add_frames(alloc, &mut frames, "open request")?;
     let (listener, stream) = pair(rt)?;
+    let seat = Seat {
+        client: service.open(rt, "https://a.test/", Kind::Window)?,
+        asked,
+        ticket: None,
+    };
     let ended = end_one(
         rt,
         alloc,

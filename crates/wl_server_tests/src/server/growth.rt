@@ -1,60 +1,46 @@
 //! Each growth of a peer refused in turn.
 
-use super::OPEN;
-use std::alloc::Global;
+use crate::lists::do_calls;
+use crate::scene::Scene;
+use std::net::{Net, TcpListener, TcpStream};
+use std::random::RandomSource;
 use std::sync::Wait;
 use std::test::Fail;
-use wl_server::Peer;
-use wl_service::{Client, Service};
-use wl_test_support::{ask, fail_refused};
-use wl_types::{Ask, Kind, Memory, Mode, Phase, Refusal};
+use std::thread::Threads;
+use wl_test_support::fail_refused;
 
-pub const REQUEST: &[u8] = b"{\"id\":2,\"name\":\"db\",\"op\":\"request\"}";
+const A_PEER_HAS_THE_LOCK: &str = "\
+peer new -> ()
+peer hear open -> {\"id\":1,\"notices\":[],\"ok\":{\"client\":\"client-1\"}}
+peer hear request -> {\"id\":2,\"notices\":[{\"phase\":\"granted\",\"request\":1}],\"ok\":{\"request\":1}}
+peer hear query -> {\"id\":3,\"notices\":[],\"ok\":{\"held\":[{\"clientId\":\"client-1\",\"mode\":\"exclusive\",\"name\":\"db\"}],\"pending\":[]}}
+peer hear poll -> {\"id\":4,\"notices\":[],\"ok\":{}}
+";
 
-const QUERY: &[u8] = b"{\"id\":3,\"op\":\"query\"}";
-
-const POLL: &[u8] = b"{\"id\":4,\"op\":\"poll\"}";
-
-/// Whether another client is granted the lock.
-fn is_free<R: Wait>(rt: &R, alloc: Global, service: &Service) -> Result<bool, Fail> {
-    let asked = ask(alloc, "db", Mode::Exclusive)?;
-    let mut client = service.open(rt, "https://a.test/", Kind::Window)?;
-    Ok(is_granted(rt, &mut client, &asked)?)
-}
-
-fn is_granted<R: Wait>(rt: &R, client: &mut Client, asked: &Ask) -> Result<bool, Refusal> {
-    Ok(client.request(rt, asked)?.look() == Phase::Granted)
-}
-
-/// Answers these messages, one after another.
-pub fn answer_all<R: Wait>(
-    rt: &R,
-    service: &Service,
-    peer: Peer,
-    messages: &[&[u8]],
-) -> Result<Peer, Memory> {
-    let mut peer = peer;
-    for message in messages {
-        let (next, _) = peer.answer(rt, service, message)?;
-        peer = next;
-    }
-    Ok(peer)
-}
+const ANOTHER_ASKS: &str = "\
+open window https://a.test/ -> Ok(Some(2))
+request 1 db -> Ok(2)
+look 1 -> Granted
+";
 
 /// A peer that is refused memory, before it has the lock or after, leaves it free.
-fn try_peer<R: Wait>(rt: &R, alloc: Global, service: &Service) -> Result<(), Fail> {
-    let messages = [OPEN, REQUEST, QUERY, POLL];
-    match answer_all(rt, service, Peer::new(alloc), &messages) {
-        Ok(peer) => {
-            peer.end(rt);
-            Ok(())
-        }
-        Err(Memory) => fail_refused(is_free(rt, alloc, service)?),
+fn try_peer<R>(rt: &R, scene: &mut Scene, came: &mut String) -> Result<(), Fail>
+where
+    R: Net<Listener = TcpListener, Stream = TcpStream> + Threads + Wait + RandomSource + Sync,
+{
+    do_calls(rt, scene, A_PEER_HAS_THE_LOCK, came)?;
+    if came.as_str() == A_PEER_HAS_THE_LOCK {
+        return Ok(());
     }
+    do_calls(rt, scene, ANOTHER_ASKS, came)?;
+    fail_refused(came.as_str().ends_with("look 1 -> Granted\n"))
 }
 
 #[test]
 fn a_refused_growth_ends_an_agent(rt: HostRuntime) -> Result<(), Fail> {
-    let service = Service::new(&rt, rt.alloc())?;
-    try_peer(&rt, rt.alloc(), &service)
+    let mut came = String::new(rt.alloc());
+    let mut scene = Scene::new(&rt, rt.alloc())?;
+    let tried = try_peer(&rt, &mut scene, &mut came);
+    scene.leave(&rt);
+    tried
 }

@@ -1,6 +1,6 @@
 //! How long a manager stays.
 
-use std::test::Fail;
+use std::alloc::Global;
 use wl_service::{Keeping, Service};
 use wl_test_support::NoRandom;
 
@@ -40,17 +40,23 @@ look 1 -> Released
 open window https://a.test/ -> Ok(Some(2))
 ";
 
-pub const LISTS: [&str; 3] = [
+const THERE_IS_NO_SERVICE_WITHOUT_RANDOM_WORDS: &str = "\
+without_random_words -> (true, true)
+";
+
+pub const LISTS: [&str; 4] = [
     EACH_MANAGER_STAYS,
     A_MANAGER_GOES_WITH_ITS_LAST_CLIENT,
     A_TICKET_HOLDS_ITS_MANAGER,
+    THERE_IS_NO_SERVICE_WITHOUT_RANDOM_WORDS,
 ];
 
-#[test]
-fn there_is_no_service_without_random_words(rt: HostRuntime) -> Result<(), Fail> {
-    let without = NoRandom { alloc: rt.alloc() };
-    assert!(rt; Service::new(&without, rt.alloc()).is_err());
+/// Whether there is no service that keeps each manager, and none that keeps those that are used.
+pub fn lack_random_words(alloc: Global) -> (bool, bool) {
+    let without = NoRandom { alloc };
     let used = Keeping::Used { most: 1 };
-    assert!(rt; Service::with_keeping(&without, rt.alloc(), used).is_err());
-    Ok(())
+    (
+        Service::new(&without, alloc).is_err(),
+        Service::with_keeping(&without, alloc, used).is_err(),
+    )
 }

@@ -1,13 +1,9 @@
 //! Which locks of a service are listed.
 
-use super::HERE;
-use std::alloc::Global;
 use std::sync::Wait;
-use std::test::Fail;
 use wl_manager::LockList;
 use wl_service::{Client, Service};
-use wl_test_support::ask;
-use wl_types::{Ask, Kind, Mode, Refusal};
+use wl_types::{Ask, Memory, Refusal};
 
 const LOCKS_ARE_LISTED_BY_MANAGER: &str = "\
 locks -> 0
@@ -38,42 +34,39 @@ managers -> 1
 locks -> https://b.test default: | and 0, 0
 ";
 
-pub const LISTS: [&str; 2] = [LOCKS_ARE_LISTED_BY_MANAGER, A_LIST_KEEPS_NO_MANAGER];
+/// One lock and 1,001 requests that wait for it: 1,000 rows are listed, and two are counted.
+const A_LONG_LIST_IS_CUT: &str = "\
+open window https://a.test/ -> Ok(Some(1))
+ask_often 1 db -> Ok(())
+cut -> Ok(Some((1, 999, 2, Some(1000))))
+";
+
+pub const LISTS: [&str; 3] = [
+    LOCKS_ARE_LISTED_BY_MANAGER,
+    A_LIST_KEEPS_NO_MANAGER,
+    A_LONG_LIST_IS_CUT,
+];
 
 /// How many locks and requests are listed, how many aren't, and the request that is listed last.
-type Cut = (usize, usize, u64, Option<u64>);
+pub type Cut = (usize, usize, u64, Option<u64>);
 
 fn cut_of(locks: &LockList) -> Cut {
     let last = locks.pending.last().map(|row| row.request);
     (locks.held.len(), locks.pending.len(), locks.left_out, last)
 }
 
-fn ask_often<R: Wait>(rt: &R, client: &mut Client, asked: &Ask) -> Result<(), Refusal> {
+/// Asks more often than there are rows in a list.
+pub fn ask_often<R: Wait>(rt: &R, client: &mut Client, asked: &Ask) -> Result<(), Refusal> {
     for _ in 0..1002 {
         client.request(rt, asked)?;
     }
     Ok(())
 }
 
-fn list_one<R: Wait>(rt: &R, service: &Service) -> Result<Cut, Fail> {
+/// What is listed of the first manager.
+pub fn cut<R: Wait>(rt: &R, service: &Service) -> Result<Option<Cut>, Memory> {
     match service.list_locks(rt, None, 0)?.managers.first() {
-        Some(one) => Ok(cut_of(&one.locks)),
-        None => Err(Fail::new("no manager is listed")),
+        Some(one) => Ok(Some(cut_of(&one.locks))),
+        None => Ok(None),
     }
-}
-
-fn list_often_asked<R: Wait>(rt: &R, alloc: Global, service: &Service) -> Result<Cut, Fail> {
-    let asked = ask(alloc, "db", Mode::Exclusive)?;
-    let mut client = service.open(rt, HERE, Kind::Window)?;
-    ask_often(rt, &mut client, &asked)?;
-    list_one(rt, service)
-}
-
-/// One lock and 1,001 requests that wait for it: 1,000 rows are listed, and two are counted.
-#[test]
-fn a_long_list_is_cut(rt: HostRuntime) -> Result<(), Fail> {
-    let service = Service::new(&rt, rt.alloc())?;
-    let cut = list_often_asked(&rt, rt.alloc(), &service)?;
-    assert_eq!(rt; cut, (1, 999, 2, Some(1000)));
-    Ok(())
 }

@@ -1,6 +1,5 @@
 //! Which client an opened URL gives.
 
-use std::alloc::{AllocError, Global};
 use std::test::Fail;
 use wl_service::OpenFault;
 
@@ -61,12 +60,22 @@ visit http://a.test/ -> (Ok(false), None)
 visit https://a.test/ -> (Ok(true), Some(1))
 ";
 
-pub const LISTS: [&str; 5] = [
+const FAULTS_HAVE_THEIR_TEXTS: &str = "\
+faults -> not a URL
+not the name of a bucket
+too many agents
+numbers spent
+too many managers
+out of memory
+";
+
+pub const LISTS: [&str; 6] = [
     CLIENTS_ARE_NUMBERED_IN_THEIR_ORIGIN,
     EACH_BUCKET_HAS_A_MANAGER,
     BAD_BUCKETS_OPEN_NOBODY,
     A_FULL_MANAGER_OPENS_NO_CLIENT,
     AN_ORIGIN_IS_SHOWN_ONCE_SOMEBODY_OPENED_THERE,
+    FAULTS_HAVE_THEIR_TEXTS,
 ];
 
 const FAULTS: [OpenFault; 6] = [
@@ -78,25 +87,10 @@ const FAULTS: [OpenFault; 6] = [
     OpenFault::Memory,
 ];
 
-const TEXTS: &str = "\
-not a URL
-not the name of a bucket
-too many agents
-numbers spent
-too many managers
-out of memory
-";
-
-fn texts(alloc: Global) -> Result<String, AllocError> {
-    let mut texts = String::new(alloc);
+/// Adds the text of each fault.
+pub fn put_faults(came: &mut String) -> Result<(), Fail> {
     for fault in FAULTS {
-        write!(texts, "{fault}\n")?;
+        write!(came, "{fault}\n")?;
     }
-    Ok(texts)
-}
-
-#[test]
-fn faults_have_their_texts(rt: HostRuntime) -> Result<(), Fail> {
-    assert_eq!(rt; texts(rt.alloc())?.as_str(), TEXTS);
     Ok(())
 }

@@ -12,7 +12,7 @@ use std::thread::Threads;
 use wl_journal::Entry;
 use wl_manager::Visitor;
 use wl_origin::ManagerKey;
-use wl_service::Service;
+use wl_service::{Client, Service};
 use wl_test_support::{ask, key};
 use wl_types::{Ask, Kind, Memory, Mode, Phase};
 
@@ -58,10 +58,25 @@ fn ask_elsewhere<R: Wait>(
     if !comes(entered) {
         return None;
     }
-    let mut client = service.open(rt, ELSEWHERE, Kind::Window).ok()?;
-    let mut ticket = client.request(rt, asked).ok()?;
-    answered.store(true, Ordering::SeqCst);
-    Some(ticket.look())
+    match service.open(rt, ELSEWHERE, Kind::Window) {
+        Ok(mut client) => ask_there(rt, &mut client, asked, answered),
+        Err(_) => None,
+    }
+}
+
+fn ask_there<R: Wait>(
+    rt: &R,
+    client: &mut Client,
+    asked: &Ask,
+    answered: &AtomicBool,
+) -> Option<Phase> {
+    match client.request(rt, asked) {
+        Ok(mut ticket) => {
+            answered.store(true, Ordering::SeqCst);
+            Some(ticket.look())
+        }
+        Err(_) => None,
+    }
 }
 
 /// Visits the manager here while another client asks elsewhere: whether the visit was waited for in time, and what
@@ -94,7 +109,10 @@ fn visit_beside<R: Threads + Wait + Sync>(
 
 /// The number of a client that opens here.
 fn number<R: Wait>(rt: &R, service: &Service, url: &str) -> Option<u64> {
-    service.open(rt, url, Kind::Window).ok()?.client()
+    match service.open(rt, url, Kind::Window) {
+        Ok(client) => client.client(),
+        Err(_) => None,
+    }
 }
 
 /// Whether two that open a new origin at once have one manager.
