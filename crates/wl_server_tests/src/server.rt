@@ -31,8 +31,8 @@ impl Gate for NoHooks {
 
 #[test]
 fn servers_do_the_lists(rt: HostRuntime) -> Result<(), Fail> {
-    assert_lists(&rt, rt.alloc(), &endings::LISTS)?;
-    assert_lists(&rt, rt.alloc(), &relays::LISTS)?;
-    assert_lists(&rt, rt.alloc(), &peers::LISTS)?;
-    assert_lists(&rt, rt.alloc(), &fences::LISTS)
+    assert_lists(&rt, rt.alloc(), endings::LISTS)?;
+    assert_lists(&rt, rt.alloc(), relays::LISTS)?;
+    assert_lists(&rt, rt.alloc(), peers::LISTS)?;
+    assert_lists(&rt, rt.alloc(), fences::LISTS)
 }

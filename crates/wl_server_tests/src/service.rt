@@ -18,10 +18,10 @@ const ELSEWHERE: &str = "http://a.test/";
 
 #[test]
 fn services_do_the_lists(rt: HostRuntime) -> Result<(), Fail> {
-    assert_lists(&rt, rt.alloc(), &opening::LISTS)?;
-    assert_lists(&rt, rt.alloc(), &clients::LISTS)?;
-    assert_lists(&rt, rt.alloc(), &keeping::LISTS)?;
-    assert_lists(&rt, rt.alloc(), &listing::LISTS)?;
-    assert_lists(&rt, rt.alloc(), &hearing::LISTS)?;
-    assert_lists(&rt, rt.alloc(), &threads::LISTS)
+    assert_lists(&rt, rt.alloc(), opening::LISTS)?;
+    assert_lists(&rt, rt.alloc(), clients::LISTS)?;
+    assert_lists(&rt, rt.alloc(), keeping::LISTS)?;
+    assert_lists(&rt, rt.alloc(), listing::LISTS)?;
+    assert_lists(&rt, rt.alloc(), hearing::LISTS)?;
+    assert_lists(&rt, rt.alloc(), threads::LISTS)
 }

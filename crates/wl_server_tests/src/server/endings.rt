@@ -87,7 +87,7 @@ terminate 2 -> true
 look 1 -> Granted
 ";
 
-pub const LISTS: [&str; 10] = [
+pub const LISTS: &[&str] = &[
     A_BROKEN_HANDSHAKE,
     A_DROPPED_STREAM_FREES_ITS_LOCKS,
     A_MESSAGE_THAT_IS_TOO_LONG,

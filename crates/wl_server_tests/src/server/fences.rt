@@ -107,4 +107,4 @@ const TOKENS_GROW_FROM_THEFT_TO_THEFT: &str = "\
 steal_at_once -> ((Ok(()), (Ok(()), Ok(()))), (true, true))
 ";
 
-pub const LISTS: [&str; 1] = [TOKENS_GROW_FROM_THEFT_TO_THEFT];
+pub const LISTS: &[&str] = &[TOKENS_GROW_FROM_THEFT_TO_THEFT];

@@ -290,7 +290,7 @@ peer hear request -> {\"fences\":[{\"fence\":\"000000000000001f-0000000000000003
 peer end -> ()
 ";
 
-pub const LISTS: [&str; 4] = [
+pub const LISTS: &[&str] = &[
     A_PEER_TELLS_ONCE_WHAT_CHANGED,
     AN_OPENER_MAY_TURN_A_PEER_AWAY,
     A_PEER_ANSWERS_WHERE_IT_STANDS,

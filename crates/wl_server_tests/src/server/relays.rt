@@ -84,7 +84,7 @@ const A_LISTENER_THAT_ACCEPTS_NOTHING: &str = "\
 serve_nobody 3 -> Err(Accept(0))
 ";
 
-pub const LISTS: [&str; 15] = [
+pub const LISTS: &[&str] = &[
     LINES_ARE_RELAYED_TO_A_SERVER,
     A_BROKEN_CONNECTION_ENDS_ALONE,
     AN_EMPTY_INPUT,

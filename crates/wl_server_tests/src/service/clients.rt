@@ -58,7 +58,7 @@ set 1 inactive -> Err(NotAWindow)
 query 1 -> Err(Security)
 ";
 
-pub const LISTS: [&str; 5] = [
+pub const LISTS: &[&str] = &[
     A_CLIENT_IS_AN_AGENT_OF_ITS_MANAGER,
     A_CLIENT_HAS_SIGNALS_AND_MAY_BE_INACTIVE,
     A_CODE_TELLS_WHY_A_SIGNAL_WAS_ABORTED,

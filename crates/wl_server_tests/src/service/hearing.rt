@@ -62,4 +62,4 @@ changes 1 -> changed [2] true
 hear 1 -> silent [] true
 ";
 
-pub const LISTS: [&str; 1] = [A_BELL_RINGS_WHEN_A_REQUEST_CHANGES];
+pub const LISTS: &[&str] = &[A_BELL_RINGS_WHEN_A_REQUEST_CHANGES];

@@ -44,7 +44,7 @@ const THERE_IS_NO_SERVICE_WITHOUT_RANDOM_WORDS: &str = "\
 without_random_words -> (true, true)
 ";
 
-pub const LISTS: [&str; 4] = [
+pub const LISTS: &[&str] = &[
     EACH_MANAGER_STAYS,
     A_MANAGER_GOES_WITH_ITS_LAST_CLIENT,
     A_TICKET_HOLDS_ITS_MANAGER,

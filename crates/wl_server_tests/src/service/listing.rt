@@ -41,7 +41,7 @@ ask_often 1 db -> Ok(())
 cut -> Ok(Some((1, 999, 2, Some(1000))))
 ";
 
-pub const LISTS: [&str; 3] = [
+pub const LISTS: &[&str] = &[
     LOCKS_ARE_LISTED_BY_MANAGER,
     A_LIST_KEEPS_NO_MANAGER,
     A_LONG_LIST_IS_CUT,

@@ -69,7 +69,7 @@ too many managers
 out of memory
 ";
 
-pub const LISTS: [&str; 6] = [
+pub const LISTS: &[&str] = &[
     CLIENTS_ARE_NUMBERED_IN_THEIR_ORIGIN,
     EACH_BUCKET_HAS_A_MANAGER,
     BAD_BUCKETS_OPEN_NOBODY,

@@ -154,7 +154,7 @@ const TWO_THAT_OPEN_AN_ORIGIN_AT_ONCE_SHARE_ITS_MANAGER: &str = "\
 open_pairs -> None
 ";
 
-pub const LISTS: [&str; 2] = [
+pub const LISTS: &[&str] = &[
     TWO_MANAGERS_GO_ON_AT_ONCE,
     TWO_THAT_OPEN_AN_ORIGIN_AT_ONCE_SHARE_ITS_MANAGER,
 ];
