@@ -3,6 +3,7 @@
 ghost use Rattle.std.specs.Prelude.{◌≡◌, IfErr, IfOk, OnErr, codes};
 ghost use Rattle.clap.specs.Words.{found_of, one_of, rows_of};
 ghost use Rattle.wl_cli.specs.Endpoints.{HasWrongEndpoint};
+ghost use Rattle.wl_cli.specs.inner.Daemon.{HasNumbers};
 ghost use Rattle.wl_cli.specs.Daemon.{AsksFor, HasNoAddress, HasNoLevel, HasTwoEpochs, MayHaveAddress};
 
 use crate::arguments::{OptionFault, number_if_any, number_in, texts_in};
@@ -75,6 +76,30 @@ fn status_in(options: &ArgMatches<'_>) -> Result<Option<SocketAddr>, OptionFault
     }
 }
 
+/// What the daemon's options have as numbers.
+#[derive(Clone, Copy)]
+pub struct DaemonNumbers {
+    connections: u32,
+    per_address: Option<u32>,
+    managers: u32,
+    idle: u32,
+    loops: Option<u32>,
+}
+
+/// The numbers of the options. They are read apart, where nothing is owned that each way out would drop.
+fn numbers_in(options: &ArgMatches<'_>) -> Result<DaemonNumbers, OptionFault>
+    ensures ok { IfOk result (HasNumbers (rows_of (found_of options.now))) }
+    ensures err { IfErr result (λ fault. fault ≡ OptionFault.Memory) }
+{
+    Ok(DaemonNumbers {
+        connections: number_in(options, "connections", MOST_CONNECTIONS)?,
+        per_address: number_if_any(options, "per-address", MOST_CONNECTIONS)?,
+        managers: number_in(options, "managers", MOST_MANAGERS)?,
+        idle: number_in(options, "idle", MOST_IDLE)?,
+        loops: number_if_any(options, "loops", MOST_LOOPS)?,
+    })
+}
+
 /// What the options ask for.
 pub fn daemon_in<'a>(
     alloc: Global,
@@ -96,13 +121,15 @@ pub fn daemon_in<'a>(
     let Some(log) = options.get_one::<LevelFilter>("log") else {
         return Err(OptionFault::Log);
     };
+    let listen = endpoints_in(alloc, options)?;
+    let numbers = numbers_in(options)?;
     Ok(DaemonOptions {
-        listen: endpoints_in(alloc, options)?,
-        connections: number_in(options, "connections", MOST_CONNECTIONS)?,
-        per_address: number_if_any(options, "per-address", MOST_CONNECTIONS)?,
-        managers: number_in(options, "managers", MOST_MANAGERS)?,
-        idle: number_in(options, "idle", MOST_IDLE)?,
-        loops: number_if_any(options, "loops", MOST_LOOPS)?,
+        listen,
+        connections: numbers.connections,
+        per_address: numbers.per_address,
+        managers: numbers.managers,
+        idle: numbers.idle,
+        loops: numbers.loops,
         token_file: options.get_str("token-file"),
         is_open: options.get_flag("open"),
         is_sharded: options.get_flag("sharded"),

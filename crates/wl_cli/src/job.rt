@@ -114,7 +114,7 @@ fn value_error(alloc: Global, text: &str, option: &str, why: &str) -> Result<Err
     ensures { IfOk result (λ error. kind_of error ≡ ErrorKind.ValueValidation) }
 {
     let message = format!(in alloc; "invalid value '{text}' for '--{option}': {why}")?;
-    weblocks_command(alloc)?.error(ErrorKind::ValueValidation, message.as_str())
+    command_error(alloc, ErrorKind::ValueValidation, message.as_str())
 }
 
 /// The error of two options that each give the epoch.
@@ -122,7 +122,14 @@ fn two_epochs_error(alloc: Global) -> Result<Error, AllocError>
     ensures { IfOk result (λ error. kind_of error ≡ ErrorKind.ArgumentConflict) }
 {
     let message = "the argument '--epoch <NUMBER>' cannot be used with '--epoch-file <FILE>'";
-    weblocks_command(alloc)?.error(ErrorKind::ArgumentConflict, message)
+    command_error(alloc, ErrorKind::ArgumentConflict, message)
+}
+
+/// An error of the program's command.
+fn command_error(alloc: Global, kind: ErrorKind, message: &str) -> Result<Error, AllocError>
+    ensures { IfOk result (λ error. kind_of error ≡ kind) }
+{
+    weblocks_command(alloc)?.error(kind, message)
 }
 
 /// The job of the subcommand that the matches have, if it is none with options of many kinds.

@@ -11,6 +11,7 @@ mod daemon_command;
 mod endpoint;
 mod epoch;
 mod job;
+mod parts;
 mod texts;
 
 pub use daemon::DaemonOptions;

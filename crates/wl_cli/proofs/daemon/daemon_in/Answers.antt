@@ -21,12 +21,12 @@ returns-clause-asked c =
     c.in-Some.log
     c.in-Some.ensures.none c.in-Some.ensures.value in
     record {
-      listen = c.in_ok-endpoints_in.ensures.ok;
-      connections = c.in_ok-number_in.ensures.ok;
-      per_address = c.in_ok-number_if_any.ensures.ok;
-      managers = c.in_ok-number_in-2.ensures.ok;
-      idle = c.in_ok-number_in-3.ensures.ok;
-      loops = c.in_ok-number_if_any-2.ensures.ok;
+      listen = c.in_ok-listen.ensures.ok;
+      connections = c.in_ok-numbers.ensures.ok.connections;
+      per_address = c.in_ok-numbers.ensures.ok.per_address;
+      managers = c.in_ok-numbers.ensures.ok.managers;
+      idle = c.in_ok-numbers.ensures.ok.idle;
+      loops = c.in_ok-numbers.ensures.ok.loops;
       token_file = c.get_str-2.ensures ∙ first_value-rows found (codes "token-file");
       is_open = is_used found (codes "open") c.get_flag.result c.get_flag.ensures.none c.get_flag.ensures.value
           c.get_flag.ensures.other;
