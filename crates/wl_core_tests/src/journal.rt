@@ -25,9 +25,12 @@ fn a_book_does_the_lists(rt: HostRuntime) -> Result<(), Fail> {
 fn show_entries(alloc: Global, entries: &[Entry]) -> Result<String, Memory> {
     let mut text = String::new(alloc);
     for entry in entries {
-        write!(text, "{:?}/{:?}, ", entry.command, entry.reply)?;
+        text.push_str(format!(in alloc; "{:?}", entry.command)?.as_str())?;
+        text.push_str("/")?;
+        text.push_str(show(alloc, &entry.reply)?.as_str())?;
+        text.push_str(", ")?;
     }
-    write!(text, "{}", entries.len())?;
+    text.push_str(format!(in alloc; "{}", entries.len())?.as_str())?;
     Ok(text)
 }
 
@@ -40,35 +43,27 @@ fn run_by_book<C: LockCore>(alloc: Global, seed: C::Seed, list: &str) -> Result<
     let mut came = String::new(alloc);
     for line in list.lines() {
         let (call, _) = line.split_once(" -> ").unwrap_or((line, ""));
-        add_call(alloc, &mut book, &mut came, call)?;
+        came.push_str(call_line(alloc, &mut book, call)?.as_str())?;
     }
     Ok(came)
 }
 
-fn add_call<C: LockCore>(
-    alloc: Global,
-    book: &mut Book<C>,
-    came: &mut String,
-    call: &str,
-) -> Result<(), Memory> {
-    match call {
-        "count" => write!(came, "count -> {} of {}\n", book.len(), book.total())?,
-        "audit" => write!(came, "audit -> {:?}\n", audit(book.base(), book.entries()))?,
-        "entries" => write!(
-            came,
-            "entries -> {}\n",
-            show_entries(alloc, book.entries())?
-        )?,
-        "cut" => write!(came, "cut -> {}\n", show_entries(alloc, &book.cut()?)?)?,
+/// A call and its answer.
+fn call_line<C: LockCore>(alloc: Global, book: &mut Book<C>, call: &str) -> Result<String, Memory> {
+    let answer = match call {
+        "count" => format!(in alloc; "{} of {}", book.len(), book.total())?,
+        "audit" => format!(in alloc; "{:?}", audit(book.base(), book.entries()))?,
+        "entries" => show_entries(alloc, book.entries())?,
+        "cut" => show_entries(alloc, &book.cut()?)?,
         "checkpoint" => {
             book.checkpoint()?;
-            came.push_str("checkpoint -> done\n")?;
+            "done".to_string(alloc)?
         }
-        "base" => write!(came, "base -> {}\n", book.copy_plain()? == *book.base())?,
-        "sight" => write!(came, "sight -> {}\n", sight(alloc, book)?)?,
-        _ => came.push_str(do_list(alloc, book, call)?.as_str())?,
-    }
-    Ok(())
+        "base" => format!(in alloc; "{}", book.copy_plain()? == *book.base())?,
+        "sight" => sight(alloc, book)?,
+        _ => return do_list(alloc, book, call),
+    };
+    Ok(format!(in alloc; "{call} -> {answer}\n")?)
 }
 
 fn sight<C: LockCore>(alloc: Global, book: &Book<C>) -> Result<String, Memory> {

@@ -218,13 +218,9 @@ fn list_locks(alloc: Global) -> Result<String, Fail> {
     }
     let mut text = String::new(alloc);
     for info in infos.as_slice() {
-        write!(
-            text,
-            "{} {} {},",
-            info.name.as_str(),
-            info.mode.word(),
-            info.client
-        )?;
+        let name = info.name.as_str();
+        let line = format!(in alloc; "{name} {} {},", info.mode.word(), info.client)?;
+        text.push_str(line.as_str())?;
     }
     Ok(text)
 }

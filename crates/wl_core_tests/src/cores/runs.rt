@@ -32,7 +32,8 @@ fn replies<C: LockCore>(alloc: Global, seed: C::Seed) -> Result<String, Memory> 
     };
     let mut text = String::new(alloc);
     for reply in replies.as_slice() {
-        write!(text, "{}\n", show(alloc, reply)?)?;
+        text.push_str(show(alloc, reply)?.as_str())?;
+        text.push_str("\n")?;
     }
     Ok(text)
 }
