@@ -14,6 +14,19 @@ from standins import put, stand_in
 
 Checks = Iterator[tuple[str, Callable[[], None]]]
 
+# A step that goes on once another has begun beside it: it leaves a file, and waits for the other's.
+MEETS = """#!/bin/sh
+touch {own}
+for _ in $(seq 200); do
+    [ ! -e {other} ] || exec {then}
+    sleep 0.1
+done
+exit 9
+"""
+
+# A step that would go on for long.
+STAYS = "#!/bin/sh\necho $$ >{file}\nexec sleep 300\n"
+
 # The steps of ./test that have a stand-in here, beside rt.
 STEPS = (
     *("try_edits", "read_proofs", "read_me", "using", "building"),
@@ -65,6 +78,28 @@ def gate_checks(made: Checkouts, kit: Kit) -> Checks:
         expect("standard error", ended.err, b"test: stopped at 'rt ci', which ended with status 1\n")
         expect("the status", ended.status, 1)
 
+    def goes_on_side_by_side() -> None:
+        top = stubbed()
+        library = top / "clients/c/build"
+        shutil.move(library, library.with_name("builds"))
+        daemon, built = top.parent / "daemon", top.parent / "built"
+        put(top / "tests/run_daemon", MEETS.format(own=daemon, other=built, then="true"))
+        put(library, MEETS.format(own=built, other=daemon, then='clients/c/builds "$@"'))
+        # (the last step alone fails, since nothing is shipped yet)
+        expect("the status", test(top).status, 1)
+        expect_end(kit.run(top, "tools/ship"), SHIPS.encode())
+
+    def ends_what_is_beside() -> None:
+        top = stubbed()
+        file = top.parent / "stays"
+        put(top / "clients/c/build", STAYS.format(file=file))
+        put(top / "tests/run_daemon", f"#!/bin/sh\nuntil [ -s {file} ]; do sleep 0.1; done\nexit 5\n")
+        ended = test(top)
+        told = f"test: stopped at 'tests/run_daemon {BUILT}', which ended with status 5\n"
+        expect("standard error", ended.err, told.encode())
+        expect("the status", ended.status, 5)
+        expect("what was beside it goes on", Path("/proc", file.read_text().strip()).exists(), False)
+
     def without_kit() -> None:
         """It says so before its first step."""
         top = stubbed()
@@ -89,5 +124,7 @@ def gate_checks(made: Checkouts, kit: Kit) -> Checks:
     for step, status in stopped:
         yield f"./test stops at {step}", lambda it=step, number=status: stops(it, number)
     yield "./test stops at rt ci", stops_at_proofs
+    yield "./test's steps go on side by side", goes_on_side_by_side
+    yield "./test ends what goes on beside a step that fails", ends_what_is_beside
     yield "./test without the kit", without_kit
     yield "a file is edited while ./test runs", edited_meanwhile
