@@ -1,4 +1,4 @@
-use Rattle.std.proofs.Common.{Ok, subst, sym}
+use Rattle.std.proofs.Common.{subst, sym}
 use Rattle.std.specs.Prelude.{IfOk, IsOkAnd}
 use Rattle.clap.specs.Words.{AddsSubcommand}
 use Rattle.wl_cli.proofs.parts.add_subcommand.Goals as goal
