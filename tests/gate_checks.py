@@ -6,7 +6,7 @@ import shutil
 from collections.abc import Callable, Iterator
 from pathlib import Path
 
-from build_checks import Kit
+from build_checks import Kit, in_time
 from checkouts import Checkouts, run_in
 from running import Ended, Wrong, expect, expect_end
 from ship_checks import BUILT, NO_RECORD, OUT, SHIPS
@@ -98,7 +98,8 @@ def gate_checks(made: Checkouts, kit: Kit) -> Checks:
         told = f"test: stopped at 'tests/run_daemon {BUILT}', which ended with status 5\n"
         expect("standard error", ended.err, told.encode())
         expect("the status", ended.status, 5)
-        expect("what was beside it goes on", Path("/proc", file.read_text().strip()).exists(), False)
+        process = Path("/proc", file.read_text().strip())
+        in_time(lambda: not process.exists(), "what was beside it didn't end")
 
     def without_kit() -> None:
         """It says so before its first step."""
