@@ -11,7 +11,7 @@ from __future__ import annotations
 
 import enum
 import re
-from dataclasses import dataclass
+from dataclasses import dataclass, replace
 from pathlib import Path
 
 from edited import TOP, Edit
@@ -56,7 +56,7 @@ class Place:
 
 @dataclass(frozen=True, eq=False)
 class Turn:
-    """An edit that turns lines of one function's body, and where it was refused by itself."""
+    """An edit that turns lines of one function's body, and where it was refused by itself, if that is on record."""
 
     edit: Edit
     place: Place
@@ -111,10 +111,10 @@ def bodies(file: str, text: str) -> list[tuple[Place, int]]:
     return found
 
 
-def turn_of(edit: Edit, reason: str | None) -> Turn | None:
-    """What the edit turns, if it can be tried with others: it is on record, and all of it is in one function's body."""
+def turned_by(edit: Edit) -> Turn | None:
+    """What the edit turns, if all of it is in one function's body."""
     texts, fault = edit.applied()
-    if not reason or fault or len(texts) != 1:
+    if fault or len(texts) != 1:
         return None
     [(file, text)] = texts.items()
     before = (TOP / "crates" / edit.crate / file).read_text()
@@ -123,9 +123,20 @@ def turn_of(edit: Edit, reason: str | None) -> Turn | None:
     places = [place for place, body in bodies(file, before) if all(body < at < place.last for at in changed)]
     if len(old) != len(new) or not changed or len(places) != 1 or "?" in places[0].owner:
         return None
-    turn = Turn(edit, places[0], changed, reason)
+    return Turn(edit, places[0], changed, "")
+
+
+def fault_of(edit: Edit) -> str | None:
+    """Why the edit can't be tried beside those of other functions, if it can't."""
+    apart = "what it turns is not in the body of one function"
+    return edit.fault() or (None if turned_by(edit) else apart)
+
+
+def turn_of(edit: Edit, reason: str | None) -> Turn | None:
+    """What the edit turns, if it can be tried with others by what is on record of it."""
+    turn = turned_by(edit)
     # One that is on record for what another function said can't be told from what others do to that function.
-    return turn if names(reason, turn.place) else None
+    return replace(turn, reason=reason) if turn and reason and names(reason, turn.place) else None
 
 
 def names(line: str, place: Place) -> bool:
@@ -188,9 +199,10 @@ def reasons(lines: list[str]) -> list[str]:
 
 
 def is_refusal(status: int, lines: list[str], changed: set[str]) -> bool:
-    """Whether the check reached the prover with all that was changed, and the crate isn't proved. It is stricter than
-    `rt must-fail`: any error in the code, in a definition or in a changed file counts as one of reading."""
-    if status != 1 or not lines or not lines[-1].startswith("logic=not-proved"):
+    """Whether the check reached the prover with all that was changed, and the crate isn't proved, or one of the
+    functions that it was asked for. It is stricter than `rt must-fail`: any error in the code, in a definition or in a
+    changed file counts as one of reading."""
+    if status != 1 or not lines or not lines[-1].startswith(("logic=not-proved", "only=")):
         return False
     placed = (PLACED.match(it) for it in reasons(lines) if ": error" in it)
     unread = any(it and (it[1] in changed or it[1].startswith(("src/", "specs/"))) for it in placed)
@@ -204,13 +216,25 @@ def reason_of(lines: list[str]) -> str | None:
     return first[:WIDTH].strip() if first else None
 
 
-def told_of(turn: Turn, lines: list[str]) -> Told:
-    """What a refusing check of several edits tells of this one."""
+def end_of(turn: Turn, lines: list[str]) -> str:
+    """What a check says in the end of the function that is turned; nothing where it says that of none, or of two."""
     ended = [found for found in map(ENDED.match, lines) if found]
     own = [it[2] for it in ended if turn.place.is_at(it[1].partition("::")[2])]
-    if len(own) != 1 or not own[0].startswith(("not proved", "no proof")):
-        return Told.UNCLEAR
-    if "it calls `" in own[0]:
-        return Told.WAITS
+    return own[0] if len(own) == 1 else ""
+
+
+def goal_of(turn: Turn, lines: list[str]) -> str:
+    """The first that a check tells of the function that is turned, as `rt must-fail` would print it, where in the end it
+    isn't proved; nothing where it tells of none of its goals."""
+    if not end_of(turn, lines).startswith(("not proved", "no proof")):
+        return ""
     told = next((it for it in reasons(lines) if names(it, turn.place) and not NAMES.match(it)), "")
-    return Told.REFUSED if told[:WIDTH].strip() == turn.reason else Told.UNCLEAR
+    return told[:WIDTH].strip()
+
+
+def told_of(turn: Turn, lines: list[str]) -> Told:
+    """What a refusing check of several edits tells of this one."""
+    end = end_of(turn, lines)
+    if end.startswith(("not proved", "no proof")) and "it calls `" in end:
+        return Told.WAITS
+    return Told.REFUSED if turn.reason and goal_of(turn, lines) == turn.reason else Told.UNCLEAR

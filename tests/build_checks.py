@@ -85,7 +85,7 @@ def result_checks(made: Checkouts, kit: Kit) -> Checks:
         wanted = {"./HANDLES", "./crates.txt"}
         for crate in crates:
             files = [it for it in (top / "crates" / crate).rglob("*") if it.is_file()]
-            wanted |= {f"./{it.relative_to(top)}" for it in files if it.parent.name != "must-fail"}
+            wanted |= {f"./{it.relative_to(top)}" for it in files}
         expect("the files that were given", sorted(given), sorted(wanted))
         lines = (top / "crates.txt").read_text().splitlines()
         lines = [it for it in lines if re.split("[ :]", it)[0] in crates]
@@ -240,14 +240,26 @@ def process_checks(made: Checkouts, kit: Kit) -> Checks:
 def lanes_checks(made: Checkouts, kit: Kit) -> Checks:
     """How many checks of ./test go side by side."""
 
-    def are(wanted: str, processors: int, each: int, **more: str) -> None:
-        """On so many processors, where so much memory is free for each, in kB."""
-        machine = f"nproc() {{ echo {processors}; }}; free_memory() {{ echo {each * processors}; }}"
-        words = ["bash", "-c", f"source tools/lanes.bash; {machine}; choose_lanes; echo ${{RT_JOBS-by rt}}"]
+    def say(wanted: str, asks: str, processors: int, free: int, **more: str) -> None:
+        """On so many processors, with so much free memory, in kB."""
+        machine = f"nproc() {{ echo {processors}; }}; free_memory() {{ echo {free}; }}"
+        words = ["bash", "-c", f"source tools/lanes.bash; {machine}; {asks}"]
         around = {name: value for name, value in os.environ.items() if name != "RT_JOBS"}
         expect_end(run_in(made.fresh(), words, env=around | more), f"{wanted}\n".encode())
+
+    def are(wanted: str, processors: int, each: int, **more: str) -> None:
+        """By rt, where so much memory is free for each processor."""
+        say(wanted, "choose_lanes; echo ${RT_JOBS-by rt}", processors, each * processors, **more)
+
+    def counts(wanted: str, processors: int, free: int, **more: str) -> None:
+        """By what comes behind it."""
+        say(wanted, "count_lanes", processors, free, **more)
 
     yield "as many checks as there are processors", lambda: are("4", 4, 5_000_000)
     yield "with less memory rt chooses how many", lambda: are("by rt", 2, 4_999_999)
     yield "with more processors rt chooses how many", lambda: are("by rt", 5, 5_000_000)
     yield "RT_JOBS says how many", lambda: are("9", 4, 5_000_000, RT_JOBS="9")
+    yield "as many tries of edits as there are processors", lambda: counts("5", 5, 90_000_000)
+    yield "with less memory fewer tries", lambda: counts("2", 4, 14_999_999)
+    yield "and one at least", lambda: counts("1", 4, 1_000)
+    yield "RT_JOBS says how many tries", lambda: counts("9", 4, 1_000, RT_JOBS="9")

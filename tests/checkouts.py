@@ -114,7 +114,7 @@ def keep_few(top: Path) -> None:
     (top / "crates.txt").write_text("".join(f"{it}\n" for it in lines))
     kept = ("wl_types", "wl_test_support", "wl_c", "weblocks")
     gone = [it for it in (top / "crates").iterdir() if it.name not in kept]
-    gone += [top / it for it in ("crates/wl_types/must-fail", "tests/edits", "tests/scripts", "bench")]
+    gone += [top / it for it in ("tests/must-fail", "tests/edits", "tests/scripts", "bench")]
     for it in gone:
         shutil.rmtree(it)
 

@@ -1,4 +1,4 @@
-"""The further edits of tests/edits: what each changes, what its crate reads, and what is on record of it."""
+"""The edits of tests/must-fail and tests/edits: what each changes, what its crate reads, and what is on record of it."""
 
 from __future__ import annotations
 
@@ -8,6 +8,8 @@ from dataclasses import dataclass
 from pathlib import Path
 
 TOP = Path(__file__).resolve().parent.parent
+# Those that the gate tries, and the further ones.
+MUST_FAIL = TOP / "tests" / "must-fail"
 EDITS = TOP / "tests" / "edits"
 RECORD = EDITS / "TRIED"
 # What a check reads of a crate.
@@ -59,14 +61,14 @@ class Edit:
         return self.applied()[1]
 
 
-def edits_of(crate: str) -> list[Edit]:
-    """The further edits of a crate, by name."""
-    return [Edit(crate, path) for path in sorted((EDITS / crate).glob("*.edit"))]
+def edits_of(crate: str, place: Path = EDITS) -> list[Edit]:
+    """The further edits of a crate, or those of another place, by name."""
+    return [Edit(crate, path) for path in sorted((place / crate).glob("*.edit"))]
 
 
-def edited_crates() -> list[str]:
-    """The crates that have further edits, by name."""
-    return sorted(folder.name for folder in EDITS.iterdir() if folder.is_dir())
+def edited_crates(place: Path = EDITS) -> list[str]:
+    """The crates that have further edits, or that have some in another place, by name."""
+    return sorted(folder.name for folder in place.glob("*") if folder.is_dir())
 
 
 def kit_logic() -> str:

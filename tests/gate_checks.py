@@ -30,7 +30,7 @@ STAYS = "#!/bin/sh\necho $$ >{file}\nexec sleep 300\n"
 # The steps of ./test that have a stand-in here, beside rt.
 STEPS = (
     *("try_edits", "read_proofs", "read_me", "using", "building"),
-    *("refuse_growths", "run_scripts", "run_daemon", "embedding", "launching", "clients"),
+    *("must_fail", "refuse_growths", "run_scripts", "run_daemon", "embedding", "launching", "clients"),
 )
 
 
@@ -118,7 +118,8 @@ def gate_checks(made: Checkouts, kit: Kit) -> Checks:
 
     yield "./test passes once its program is shipped", passes_once_shipped
     of_built = (("launching", 4), ("run_scripts", 1), ("run_daemon", 5), ("clients --allow-missing", 1))
-    stopped = [("tests/building", 3), *((f"tests/{step} {BUILT}", status) for step, status in of_built)]
+    stopped = [("tests/building", 3), ("tests/must_fail", 8)]
+    stopped += [(f"tests/{step} {BUILT}", status) for step, status in of_built]
     stopped += [(f"clients/c/build --after-gate {OUT}", 2)]
     stopped += [(f"clients/wasm/build --after-gate {OUT}/weblocks.wasm", 7)]
     stopped += [(f"tests/embedding --library {OUT}", 6)]

@@ -1,4 +1,4 @@
-# How many checks `rt ci` has go side by side. Sourced by test.
+# How many checks go side by side, by `rt ci` and by what comes behind it. Sourced by test.
 
 # The memory that is to be free for each check, in kB: the greatest was seen to take 5.8 million, most less than half of
 # it. (rt reckons with up to twice as much. Where there seems to be no room, a crate with a long chain above it waits
@@ -29,4 +29,13 @@ choose_lanes() {
     if [[ -z ${RT_JOBS-} ]] && ((processors <= 4 && $(free_memory) / check_takes >= processors)); then
         export RT_JOBS=$processors
     fi
+}
+
+# Prints how many checks go side by side where it isn't rt that chooses: as many as RT_JOBS says, or else as there are
+# processors, as far as there is the memory for it.
+count_lanes() {
+    local processors lanes
+    processors=$(nproc)
+    lanes=$(($(free_memory) / check_takes))
+    echo "${RT_JOBS:-$((lanes < 1 ? 1 : lanes < processors ? lanes : processors))}"
 }
