@@ -141,10 +141,6 @@ class Record:
     def is_due(self, edit: Edit, digest: str) -> bool:
         return self.tried.get(edit.name, ("", ""))[0] != digest
 
-    def reason(self, edit: Edit) -> str | None:
-        """Where the edit was refused at its last try, over whatever sources."""
-        return self.tried[edit.name][1] if edit.name in self.tried else None
-
     def strangers(self, edits: list[Edit]) -> list[str]:
         """The names on record that no edit has."""
         return sorted({*self.tried} - {edit.name for edit in edits})

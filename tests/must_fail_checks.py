@@ -1,89 +1,28 @@
 """tests/must_fail, by a command that stands for the prover: by which checks edits are refused, and what is told."""
 
-import os
 import signal
 import subprocess
 import time
 from collections.abc import Callable, Iterator
-from pathlib import Path
 
-from batches import Place
 from build_checks import Kit
-from checkouts import Checkouts, run_in
-from edit_checks import code, reason
-from running import Ended, Wrong, expect
+from checkouts import Checkouts
+from edited_checkouts import Edited, reason, turned
+from running import Wrong, expect
 from standins import put
 from together import without_bodies
+from turns import Place
 
 Checks = Iterator[tuple[str, Callable[[], None]]]
 
-RT = """#!/usr/bin/env bash
-[[ $1 != doc ]] || echo "${0%/*}/page"
-[[ $1 != version ]] || echo kit logic 0
-"""
 
-# It tells of the functions that it is asked for, as edit_checks' stand-in for rt does of all: a function that tells
-# another word is refused at a goal by that word, but an `equal` one is proved, a `broken` one can't be read, and one is
-# `named` by a proof file alone. Of one that leans on a function which isn't proved it tells no goal. It notes which
-# words each check met, and where no body was put aside.
-RATTLE = r"""#!/usr/bin/env python3
-import os, pathlib, re, sys, time
-words = sys.argv[1:]
-crate = words[words.index("--crate-name") + 1]
-asked = [it for before, it in zip(words, words[1:]) if before == "--only"]
-text = pathlib.Path("src/lib.rt").read_text()
-found = re.findall(r'fn (\w+)\(\) \{\n    tell\("(?:(\w+) )?(\w+)"\);(?: // leans on (\w+))?', text)
-with pathlib.Path(os.environ["RT_NOTES"], "checks").open("a") as it:
-    whole = "" if "unreachable!()" in text else ", in the whole"
-    it.write(f"{crate}: {', '.join(f'{word} {name}' for name, word, _, _ in found if word)}{whole}\n")
-if os.environ.get("RT_DOES") == "hang":
-    time.sleep(1000)
-if any(word == "broken" for _, word, _, _ in found):
-    print("src/lib.rt:2:5: error: expected the end")
-    sys.exit(1)
-open_ones = [name for name, word, _, _ in found if word not in ("", "equal")]
-for name, word, _, leans in found:
-    at = text[: text.index(f"fn {name}()")].count("\n") + 1
-    if name in asked and word == "named":
-        print(f"./proofs/{name}/Answers.antt:1:1: error: `returns`: `it` is not in scope")
-    elif name in asked and name in open_ones and leans not in open_ones:
-        print(f"note: src/lib.rt:{at}:1: it is not proved that `{word}` holds")
-    calls = f"; it calls `{crate}::{leans}`, which is not proved" if leans in open_ones else ""
-    if name in asked:
-        print(f"fn {crate}::{name}: {'not proved' if name in open_ones or calls else 'proved'}{calls}")
-print(f"only={len(asked)} proved={len([it for it in asked if it not in open_ones])}")
-sys.exit(bool(open_ones))
-"""
-
-
-class Edits:
-    """A copy of the checkout with a crate or two, and their edits."""
-
-    def __init__(self, top: Path, kit: Kit, crates: tuple[str, ...] = ("low",)) -> None:
-        self.top, self.kit = top, kit
-        (top / "crates.txt").write_text("".join(f"{it}: {' '.join(crates[:at])}\n" for at, it in enumerate(crates)))
-        for crate in crates:
-            put(top / "crates" / crate / "src/lib.rt", code())
-        (kit.notes / "checks").write_text("")
-        put(top / "kit/rt", RT)
-        put(top / "kit/bin/rattle", RATTLE)
+class Edits(Edited):
+    """A copy of the checkout whose edits the gate tries."""
 
     def has(self, *names: str, word: str = "wrong", crate: str = "low") -> None:
         """Edits of these functions, by this word."""
         for name in names:
-            texts = f'file: src/lib.rt\nold: tell("{name}")\nnew: tell("{word} {name}")\n'
-            put(self.top / "tests/must-fail" / crate / f"{word}_{name}.edit", texts)
-
-    def how(self, **more: str) -> dict:
-        return {"env": self.kit.around(PATH=f"{self.top / 'kit'}:{os.environ['PATH']}", **more)}
-
-    def run(self, *options: str) -> Ended:
-        ended = run_in(self.top, ["tests/must_fail", "--jobs", "1", *options], **self.how())
-        expect("what is left of temporary files", [*self.kit.temporary.iterdir()], [])
-        return ended
-
-    def checks(self) -> list[str]:
-        return (self.kit.notes / "checks").read_text().splitlines()
+            put(self.top / "tests/must-fail" / crate / f"{word}_{name}.edit", turned(name, word=word))
 
 
 def must_fail_checks(made: Checkouts, kit: Kit) -> Checks:
@@ -93,7 +32,7 @@ def must_fail_checks(made: Checkouts, kit: Kit) -> Checks:
         return edits
 
     def ends(edits: Edits, passed: int, failed: int, checks: list[str], *options: str, says: str = "") -> None:
-        ended = edits.run(*options)
+        ended = edits.run("tests/must_fail", *options)
         said = ended.out.decode() + ended.err.decode()
         expect("the last line", said.splitlines()[-1], f"{passed} passed, {failed} failed")
         expect("the status", ended.status, 1 if failed else 0)
@@ -108,6 +47,14 @@ def must_fail_checks(made: Checkouts, kit: Kit) -> Checks:
         told = f"low/wrong_three: refused, as it must be: {reason('three')}\n"
         ends(edits_of("one", "two", "three"), 3, 0, [f"{both}, wrong three"], says=told)
 
+    def bodies_aside() -> None:
+        """Each place stays in its line, and what others are made of as they are read keeps its body."""
+        text = "fn one() {{\n    {}\n}}\n\nfn two(\n    it: u8,\n) {{\n{}\n}}\n\n{}"
+        kept = "#[cycle(odd)]\nfn three() {\n    even()\n}\n\nconst fn four() -> u8 {\n    4\n}\n\nfn five() { 5 }\n"
+        before, after = text.format("1", "    2\n    + 2", kept), text.format("1", "unreachable!()\n", kept)
+        tried, two = Place("src/lib.rt", 1, 3, "", "one"), Place("src/lib.rt", 5, 10, "", "two")
+        expect("the text", without_bodies("src/lib.rt", before, {tried}), (after, [two]))
+
     def two_of_one() -> None:
         edits = edits_of("one", "two")
         edits.has("two", word="worse")
@@ -119,7 +66,8 @@ def must_fail_checks(made: Checkouts, kit: Kit) -> Checks:
     def not_refused(word: str, says: str) -> None:
         edits = edits_of("one", "two")
         edits.has("four", word=word)
-        ends(edits, 2, 1, [f"{both}, {word} four", f"low: {word} four, in the whole"], says=f"low/{word}_four: {says}")
+        checks = [f"{both}, {word} four", f"low: {word} four, in the whole"]
+        ends(edits, 2, 1, checks, says=f"low/{word}_four: {says}")
 
     def unread() -> None:
         edits = edits_of("one", "two")
@@ -155,7 +103,8 @@ def must_fail_checks(made: Checkouts, kit: Kit) -> Checks:
     def without_library() -> None:
         edits = Edits(made.fresh(), kit, ("low", "high"))
         edits.has("one", crate="high")
-        ends(edits, 0, 1, [], says=f"no library of low is in {edits.top}: run rt ci there")
+        says = f"high/wrong_one: not tried\nno library of low is in {edits.top}: run rt ci there\n"
+        ends(edits, 0, 1, [], says=says)
 
     def not_one_body(texts: str, says: str) -> None:
         edits = edits_of("one")
@@ -166,7 +115,7 @@ def must_fail_checks(made: Checkouts, kit: Kit) -> Checks:
         edits = edits_of("one")
         words = ["tests/must_fail", "--jobs", "1"]
         streams = {"stdout": subprocess.PIPE, "stderr": subprocess.PIPE}
-        with subprocess.Popen(words, cwd=edits.top, **streams, **edits.how(RT_DOES="hang")) as ran:
+        with subprocess.Popen(words, cwd=edits.top, env=edits.around(RT_DOES="hang"), **streams) as ran:
             until = time.monotonic() + 20
             while not edits.checks() and time.monotonic() < until:
                 time.sleep(0.05)
@@ -175,15 +124,6 @@ def must_fail_checks(made: Checkouts, kit: Kit) -> Checks:
         expect("standard error", said, b"stopped: what was refused is remembered\n")
         expect("the status", ran.returncode, 1)
         expect("what is left of temporary files", [*kit.temporary.iterdir()], [])
-
-    def bodies_aside() -> None:
-        """Each place stays in its line, and what others are made of as they are read keeps its body."""
-        text = "fn one() {{\n    {}\n}}\n\nfn two(\n    it: u8,\n) {{\n    {}\n}}\n\n{}"
-        kept = "#[cycle(odd)]\nfn three() {\n    even()\n}\n\nconst fn four() -> u8 {\n    4\n}\n\nfn five() { 5 }\n"
-        before, after = text.format("1", "2\n    + 2", kept), text.format("1", "unreachable!()\n", kept)
-        after = after.replace("    unreachable", "unreachable")
-        tried, two = Place("src/lib.rt", 1, 3, "", "one"), Place("src/lib.rt", 5, 10, "", "two")
-        expect("the text", without_bodies("src/lib.rt", before, {tried}), (after, [two]))
 
     yield "edits of the gate are tried together", together
     yield "the bodies of functions that aren't tried are put aside", bodies_aside
@@ -197,8 +137,6 @@ def must_fail_checks(made: Checkouts, kit: Kit) -> Checks:
     yield "what was not is tried again", forgets
     yield "edits of one crate", of_one_crate
     yield "edits over a library that isn't there", without_library
-    pair = 'file: src/lib.rt\nold: tell("one")\nnew: tell("odd")\nold: tell("two")\nnew: tell("odd")\n'
-    yield "an edit of two functions", lambda: not_one_body(pair, "low/odd: what it turns is not in the body of one")
-    absent = 'file: src/lib.rt\nold: tell("six")\nnew: tell("odd")\n'
-    yield "an edit of a text that isn't there", lambda: not_one_body(absent, "low/odd: not just once in lib.rt: tell(")
+    yield "an edit of two functions", lambda: not_one_body(turned("one", "two"), "low/odd: what it turns is not in the")
+    yield "an edit of a text that isn't there", lambda: not_one_body(turned("six"), "low/odd: not just once in lib.rt: ")
     yield "a run over edits of the gate is ended", ended

@@ -15,11 +15,11 @@ import tempfile
 from dataclasses import dataclass
 from pathlib import Path
 
-from batches import Place, Turn, bodies, end_of, goal_of, is_refusal, reasons, texts_of
-from edited import PARTS, TOP
+from edited import PARTS, Edit
 from prover import check_words
-from trying import Runs
-
+from runs import Runs
+from told import end_of, goal_of, is_refusal, reason_of, reasons
+from turns import Place, Turn, bodies, texts_of, turned_by
 
 # The body of a function that isn't tried.
 ASIDE = "unreachable!()"
@@ -29,15 +29,21 @@ WRITTEN = ("Answers.antt", "Invariants.antt")
 
 @dataclass(frozen=True)
 class Verdict:
-    """Whether an edit was refused at a goal of its function, and the goal, or what was said in its place."""
+    """Whether an edit was refused at a goal, and the goal, or what was said in its place."""
 
     is_refused: bool
     said: str
 
+    def __str__(self) -> str:
+        return f"refused, as it must be: {self.said}" if self.is_refused else self.said
 
-def path_of(turn: Turn) -> str:
+
+def no_verdict(lines: list[str]) -> Verdict:
+    return Verdict(False, "\n".join(["its check came to no verdict:", *lines[-6:]]))
+
+
+def path_of(place: Place) -> str:
     """The end of the name under which the checker has the function."""
-    place = turn.place
     modules = [it for it in Path(place.file).with_suffix("").parts[1:] if it not in ("lib", "main")]
     return "::".join([place.owner, place.name] if place.owner else [*modules, place.name])
 
@@ -50,7 +56,8 @@ def one_each(turns: list[Turn]) -> list[Turn]:
 def without_bodies(file: str, text: str, tried: set[Place]) -> tuple[str, list[Place]]:
     """The text, where a body is one expression that never is reached, but for those that are tried, and each function
     that was changed so. What is computed as the program is built keeps its body, and so do functions in a cycle."""
-    lines, aside = text.split("\n"), list[Place]()
+    lines = text.split("\n")
+    aside: list[Place] = []
     for place, body in bodies(file, text):
         head = "\n".join(lines[place.first - 1 : body])
         if place not in tried and body < place.last - 1 and "const fn" not in head and "#[cycle" not in head:
@@ -61,7 +68,7 @@ def without_bodies(file: str, text: str, tried: set[Place]) -> tuple[str, list[P
 
 def put_aside(folder: Path, tried: set[Place]) -> None:
     """Puts the bodies of the other functions of this copy of a crate aside, and what was written to prove them."""
-    aside = list[Place]()
+    aside: list[Place] = []
     for path in sorted((folder / "src").rglob("*.rt")):
         text, found = without_bodies(path.relative_to(folder).as_posix(), path.read_text(), tried)
         path.write_text(text)
@@ -72,45 +79,60 @@ def put_aside(folder: Path, tried: set[Place]) -> None:
             shutil.rmtree(place)
 
 
-def check(turns: list[Turn], runs: Runs, is_whole: bool = False) -> tuple[int, list[str]]:
-    """Checks the functions that these turn, with all of them in place, in a copy of their crate: with the others' bodies
-    put aside, or whole."""
-    crate = turns[0].edit.crate
-    with tempfile.TemporaryDirectory(prefix="weblocks-must-fail-") as made:
-        folder = Path(made)
-        for part in PARTS:
-            if (TOP / "crates" / crate / part).is_dir():
-                shutil.copytree(TOP / "crates" / crate / part, folder / part)
-        for file, text in texts_of(turns).items():
-            (folder / file).write_text(text)
-        if not is_whole:
-            put_aside(folder, {it.place for it in turns})
-        only = [*dict.fromkeys(path_of(it) for it in turns)]
-        return runs.run(folder, *check_words(TOP, crate, only))
+class Together:
+    """Tries edits over a folder with the crates, whose out/ has the libraries that `rt ci` left there."""
 
+    def __init__(self, top: Path, runs: Runs) -> None:
+        self.top, self.runs = top, runs
 
-def verdict_of(turn: Turn, status: int, lines: list[str]) -> Verdict:
-    """What the check of this turn alone came to."""
-    if is_refusal(status, lines, {turn.place.file}):
-        goal = goal_of(turn, lines)
-        told = reasons(lines)
-        return Verdict(bool(goal), goal or f"not refused at a goal of its function, but: {told[0] if told else lines[-1]}")
-    if end_of(turn, lines) == "proved":
-        return Verdict(False, "NOT REFUSED: its function is proved with this edit")
-    return Verdict(False, "\n".join(["its check came to no verdict:", *lines[-6:]]))
+    def check(self, crate: str, texts: dict[str, str], only: set[Place], is_whole: bool) -> tuple[int, list[str]]:
+        """Checks a copy of a crate with these texts in the place of its own: these functions alone, if any are named,
+        with the others' bodies put aside or not."""
+        with tempfile.TemporaryDirectory(prefix="weblocks-edits-") as made:
+            folder = Path(made)
+            for part in PARTS:
+                if (self.top / "crates" / crate / part).is_dir():
+                    shutil.copytree(self.top / "crates" / crate / part, folder / part)
+            for file, text in texts.items():
+                (folder / file).write_text(text)
+            if not is_whole:
+                put_aside(folder, only)
+            return self.runs.run(folder, *check_words(self.top, crate, sorted({path_of(it) for it in only})))
 
+    def alone(self, turn: Turn) -> Verdict:
+        """Tries what an edit turns by itself, over the crate as it stands."""
+        status, lines = self.check(turn.edit.crate, texts_of([turn]), {turn.place}, is_whole=True)
+        if is_refusal(status, lines, {turn.place.file}):
+            goal, told = goal_of(turn.place, lines), reasons(lines) or lines
+            return Verdict(bool(goal), goal or f"not refused at a goal of its function, but: {told[0]}")
+        if end_of(turn.place, lines) == "proved":
+            return Verdict(False, "NOT REFUSED: its function is proved with this edit")
+        return no_verdict(lines)
 
-def try_turns(turns: list[Turn], runs: Runs) -> dict[Turn, Verdict]:
-    """Tries the turns of a crate: those of different functions by one check, then what that didn't refuse."""
-    verdicts: dict[Turn, Verdict] = {}
-    left = turns
-    while left:
-        group = one_each(left)
-        left = [it for it in left if it not in group]
-        status, lines = check(group, runs)
-        if is_refusal(status, lines, {it.place.file for it in group}):
-            verdicts |= {it: Verdict(True, goal) for it in group if (goal := goal_of(it, lines))}
-        for turn in group:
-            if turn not in verdicts:
-                verdicts[turn] = verdict_of(turn, *check([turn], runs, is_whole=True))
-    return verdicts
+    def whole(self, edit: Edit) -> Verdict:
+        """Tries an edit that turns more than one function's body, over the crate as it stands."""
+        texts = edit.applied()[0]
+        status, lines = self.check(edit.crate, texts, set(), is_whole=True)
+        if is_refusal(status, lines, {*texts}):
+            reason, told = reason_of(lines), reasons(lines) or lines
+            return Verdict(bool(reason), reason or f"not refused at a goal, but: {told[0]}")
+        if status == 0:
+            return Verdict(False, "NOT REFUSED: the crate is proved with this edit")
+        return no_verdict(lines)
+
+    def group(self, turns: list[Turn]) -> dict[Edit, Verdict]:
+        """Tries turns of different functions by one check, and what that doesn't refuse by itself."""
+        status, lines = self.check(turns[0].edit.crate, texts_of(turns), {it.place for it in turns}, is_whole=False)
+        is_read = is_refusal(status, lines, {it.place.file for it in turns})
+        goals = {it: goal_of(it.place, lines) if is_read else "" for it in turns}
+        return {it.edit: Verdict(True, goals[it]) if goals[it] else self.alone(it) for it in turns}
+
+    def try_all(self, edits: list[Edit]) -> dict[Edit, Verdict]:
+        """Tries edits of one crate."""
+        turns = [turn for edit in edits if (turn := turned_by(edit))]
+        verdicts: dict[Edit, Verdict] = {}
+        while turns:
+            group = one_each(turns)
+            turns = [it for it in turns if it not in group]
+            verdicts |= self.group(group)
+        return verdicts | {edit: self.whole(edit) for edit in edits if edit not in verdicts}
