@@ -1,4 +1,4 @@
-"""The edits of tests/must-fail and tests/edits: what each changes, what its crate reads, and what is on record of it."""
+"""Edits of tests/must-fail and tests/edits: what each changes, what its crate reads, and what is on record of it."""
 
 from __future__ import annotations
 

@@ -137,6 +137,6 @@ def must_fail_checks(made: Checkouts, kit: Kit) -> Checks:
     yield "what was not is tried again", forgets
     yield "edits of one crate", of_one_crate
     yield "edits over a library that isn't there", without_library
-    yield "an edit of two functions", lambda: not_one_body(turned("one", "two"), "low/odd: what it turns is not in the")
-    yield "an edit of a text that isn't there", lambda: not_one_body(turned("six"), "low/odd: not just once in lib.rt: ")
+    yield "an edit of two functions", lambda: not_one_body(turned("one", "two"), "low/odd: what it turns is not in")
+    yield "an edit of a text that isn't there", lambda: not_one_body(turned("six"), "low/odd: not just once in lib.rt")
     yield "a run over edits of the gate is ended", ended

@@ -3,8 +3,10 @@
 from __future__ import annotations
 
 import os
+import signal
 import subprocess
 import threading
+from contextlib import suppress
 from pathlib import Path
 
 
@@ -16,7 +18,7 @@ class Runs:
     """The commands that are running."""
 
     def __init__(self) -> None:
-        self.lock, self.is_stopped = threading.Lock(), False
+        self.lock, self.is_stopped, self.thread = threading.Lock(), False, threading.local()
         self.running: set[subprocess.Popen[str]] = set()
         self.environment = {name: value for name, value in os.environ.items() if name != "CI"}
 
@@ -36,15 +38,25 @@ class Runs:
                 stderr=subprocess.STDOUT,
             )
             self.running.add(ran)
-        out, _ = ran.communicate()
+        out = ran.stdout.read() if ran.stdout else ""
+        _, status, used = os.wait4(ran.pid, 0)
+        ran.returncode = os.waitstatus_to_exitcode(status)
+        self.thread.seconds = getattr(self.thread, "seconds", 0.0) + used.ru_utime + used.ru_stime
         with self.lock:
             self.running.discard(ran)
         if ran.returncode < 0 or self.is_stopped:
             raise Broken
         return ran.returncode, out.rstrip("\n").split("\n")
 
+    def take_seconds(self) -> float:
+        """The seconds of a processor that this thread's commands took since it was asked before."""
+        seconds, self.thread.seconds = getattr(self.thread, "seconds", 0.0), 0.0
+        return seconds
+
     def stop(self) -> None:
         with self.lock:
             self.is_stopped = True
             for ran in self.running:
-                ran.terminate()
+                # (Popen's own way would take its status, for which run waits)
+                with suppress(ProcessLookupError):
+                    os.kill(ran.pid, signal.SIGTERM)

@@ -11,7 +11,8 @@ from prover import Lacking
 from runs import Broken, Runs
 from together import Together, Verdict
 
-Tell = Callable[[dict[Edit, Verdict]], None]
+# It is told the seconds of a processor too.
+Tell = Callable[[dict[Edit, Verdict], float], None]
 
 
 def size(crate: Path) -> int:
@@ -41,7 +42,7 @@ class Trying:
                 verdicts = self.together.try_all(edits)
                 with self.lock:
                     self.told |= verdicts.keys()
-                    self.tell(verdicts)
+                    self.tell(verdicts, self.runs.take_seconds())
             except Broken:
                 self.runs.stop()
             except Lacking as why:
