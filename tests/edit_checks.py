@@ -42,13 +42,7 @@ def edit_checks(made: Checkouts, kit: Kit) -> Checks:
         return edits
 
     def ends(edits: Edits, passed: int, failed: int, checks: list[str], *options: str, says: str = "", **more) -> None:
-        ended = edits.run("tests/try_edits", *options, **more)
-        said = ended.out.decode() + ended.err.decode()
-        expect("the last line", said.splitlines()[-1], f"{passed} passed, {failed} failed")
-        expect("the status", ended.status, 1 if failed else 0)
-        expect("the checks", edits.checks(), checks)
-        if says not in said:
-            raise Wrong(f"it doesn't say '{says}' but\n{said}")
+        edits.ends(["tests/try_edits", *options], passed, failed, checks, says, **more)
 
     both = {"wrong_one": reason("one"), "wrong_two": reason("two")}
     through = ["ci: low", "low: wrong one, wrong two"]

@@ -5,7 +5,7 @@ from pathlib import Path
 
 from build_checks import Kit
 from checkouts import run_in
-from running import Ended, expect
+from running import Ended, Wrong, expect
 from standins import put
 
 # Its ci leaves libraries. By the variable RT_DOES:
@@ -103,3 +103,13 @@ class Edited:
 
     def checks(self) -> list[str]:
         return (self.kit.notes / "checks").read_text().splitlines()
+
+    def ends(self, words: list[str], passed: int, failed: int, checks: list[str], says: str, **more: str) -> None:
+        """Runs it, and sees how many edits pass, by which checks, and that it says this."""
+        ended = self.run(*words, **more)
+        said = ended.out.decode() + ended.err.decode()
+        expect("the last line", said.splitlines()[-1], f"{passed} passed, {failed} failed")
+        expect("the status", ended.status, 1 if failed else 0)
+        expect("the checks", self.checks(), checks)
+        if says not in said:
+            raise Wrong(f"it doesn't say '{says}' but\n{said}")

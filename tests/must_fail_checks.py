@@ -8,7 +8,7 @@ from collections.abc import Callable, Iterator
 from build_checks import Kit
 from checkouts import Checkouts
 from edited_checkouts import Edited, reason, turned
-from running import Wrong, expect
+from running import expect
 from standins import put
 from together import without_bodies
 from turns import Place
@@ -32,13 +32,7 @@ def must_fail_checks(made: Checkouts, kit: Kit) -> Checks:
         return edits
 
     def ends(edits: Edits, passed: int, failed: int, checks: list[str], *options: str, says: str = "") -> None:
-        ended = edits.run("tests/must_fail", *options)
-        said = ended.out.decode() + ended.err.decode()
-        expect("the last line", said.splitlines()[-1], f"{passed} passed, {failed} failed")
-        expect("the status", ended.status, 1 if failed else 0)
-        expect("the checks", edits.checks(), checks)
-        if says not in said:
-            raise Wrong(f"it doesn't say '{says}' but\n{said}")
+        edits.ends(["tests/must_fail", *options], passed, failed, checks, says)
 
     both = "low: wrong one, wrong two"
 
