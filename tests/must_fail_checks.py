@@ -10,7 +10,7 @@ from checkouts import Checkouts
 from edited_checkouts import Edited, reason, turned
 from running import expect
 from standins import put
-from together import without_bodies
+from together import ASIDE, UNSOUGHT, without_bodies
 from turns import Place
 
 Checks = Iterator[tuple[str, Callable[[], None]]]
@@ -43,10 +43,14 @@ def must_fail_checks(made: Checkouts, kit: Kit) -> Checks:
 
     def bodies_aside() -> None:
         """Each place stays in its line, and what others are made of as they are read keeps its body."""
-        text = "fn one() {{\n    {}\n}}\n\nfn two(\n    it: u8,\n) {{\n{}\n}}\n\n{}"
+        text = "fn one() {{\n    {}\n}}\n\n{}fn two(\n    it: u8,\n) {{\n{}\n}}\n\n{}"
         kept = "#[cycle(odd)]\nfn three() {\n    even()\n}\n\nconst fn four() -> u8 {\n    4\n}\n\nfn five() { 5 }\n"
-        before, after = text.format("1", "    2\n    + 2", kept), text.format("1", "unreachable!()\n", kept)
         tried, two = Place("src/lib.rt", 1, 3, "", "one"), Place("src/lib.rt", 5, 10, "", "two")
+        before = text.format("1", "", "    2\n    + 2", kept)
+        after = text.format("1", f"{UNSOUGHT} ", f"{ASIDE}\n", kept)
+        expect("the text", without_bodies("src/lib.rt", before, {tried}), (after, [two]))
+        using = "#[tactic(auto, using(crate::proofs::M::lemma))]\n"
+        before, after = text.format("1", using, "    2", ""), text.format("1", f"{UNSOUGHT}\n", ASIDE, "")
         expect("the text", without_bodies("src/lib.rt", before, {tried}), (after, [two]))
 
     def two_of_one() -> None:
