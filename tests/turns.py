@@ -26,12 +26,10 @@ class Place:
 
     def is_at(self, path: str) -> bool:
         """Whether the checker's path, without the crate's name, may be this function's: its modules are those of its
-        file, or, where an impl stands below its type's module, the first of them."""
+        file, or, in an impl, those of its type, whichever these are."""
         modules = [it for it in Path(self.file).with_suffix("").parts[1:] if it not in ("lib", "main")]
         names = path.split("::")
-        own = [self.owner, self.name] if self.owner else [self.name]
-        before = names[: -len(own)]
-        return names[-len(own) :] == own and before == (modules[: len(before)] if self.owner else modules)
+        return names[-2:] == [self.owner, self.name] if self.owner else names == [*modules, self.name]
 
 
 @dataclass(frozen=True, eq=False)
