@@ -52,6 +52,10 @@ def must_fail_checks(made: Checkouts, kit: Kit) -> Checks:
         using = "#[tactic(auto, using(crate::proofs::M::lemma))]\n"
         before, after = text.format("1", using, "    2", ""), text.format("1", f"{UNSOUGHT}\n", ASIDE, "")
         expect("the text", without_bodies("src/lib.rt", before, {tried}), (after, [two]))
+        of_trait = "impl Copy for It {{\n    fn copy(&self) -> It {{\n{}\n    }}\n}}\n"
+        place = Place("src/lib.rt", 2, 4, "ItCopy", "copy", True)
+        before, after = of_trait.format("        It"), of_trait.format(ASIDE)
+        expect("the text", without_bodies("src/lib.rt", before, set()), (after, [place]))
 
     def two_of_one() -> None:
         edits = edits_of("one", "two")

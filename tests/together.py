@@ -54,7 +54,8 @@ def one_each(turns: list[Turn]) -> list[Turn]:
 
 
 def unsought(head: list[str]) -> list[str]:
-    """A function's head with what has the checker not search, in as many lines."""
+    """A function's head with what has the checker not search, in as many lines. (In an impl of a trait it would leave
+    open what the trait says of the function too, and take that for an error of the code.)"""
     own = next((at for at, line in enumerate(head) if line.lstrip().startswith("#[tactic(")), None)
     if own is not None:
         return [*head[:own], UNSOUGHT, *head[own + 1 :]]
@@ -72,7 +73,7 @@ def without_bodies(file: str, text: str, tried: set[Place]) -> tuple[str, list[P
         is_kept = any("const fn" in line or "#[cycle" in line for line in head)
         if place not in tried and body < place.last - 1 and not is_kept:
             empty = [""] * (place.last - 2 - body)
-            lines[place.first - 1 : place.last - 1] = [*unsought(head), ASIDE, *empty]
+            lines[place.first - 1 : place.last - 1] = [*(head if place.is_of_trait else unsought(head)), ASIDE, *empty]
             aside.append(place)
     return "\n".join(lines), aside
 

@@ -4,6 +4,7 @@ from __future__ import annotations
 
 import threading
 from collections.abc import Callable
+from concurrent.futures import ThreadPoolExecutor
 from pathlib import Path
 
 from edited import Edit
@@ -51,16 +52,13 @@ class Trying:
 
     def run(self, jobs: int) -> None:
         """Tries all, so many crates at a time, and tells of which nothing is known, and what was in the way."""
-        lanes = [threading.Thread(target=self.work) for _ in range(jobs)]
-        try:
-            for lane in lanes:
-                lane.start()
-            for lane in lanes:
-                lane.join()
-        finally:
-            self.runs.stop()
-            for lane in lanes:
-                lane.join()
+        # (whoever is interrupted as he joins a thread may take it for ended: so the pool joins them)
+        with ThreadPoolExecutor(jobs) as lanes:
+            try:
+                for ended in [lanes.submit(self.work) for _ in range(jobs)]:
+                    ended.result()
+            finally:
+                self.runs.stop()
         untold = [f"{edit.name}: not tried" for edit in self.edits if edit not in self.told]
         for line in (*untold, *self.faults):
             print(line)
