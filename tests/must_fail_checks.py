@@ -10,7 +10,7 @@ from checkouts import Checkouts
 from edited_checkouts import Edited, reason, turned
 from running import expect
 from standins import put
-from together import ASIDE, UNSOUGHT, without_bodies
+from together import ASIDE, without_bodies
 from turns import Place
 
 Checks = Iterator[tuple[str, Callable[[], None]]]
@@ -43,19 +43,11 @@ def must_fail_checks(made: Checkouts, kit: Kit) -> Checks:
 
     def bodies_aside() -> None:
         """Each place stays in its line, and what others are made of as they are read keeps its body."""
-        text = "fn one() {{\n    {}\n}}\n\n{}fn two(\n    it: u8,\n) {{\n{}\n}}\n\n{}"
+        text = "fn one() {{\n    1\n}}\n\nfn two(\n    it: u8,\n) {{\n{}\n}}\n\n{}"
         kept = "#[cycle(odd)]\nfn three() {\n    even()\n}\n\nconst fn four() -> u8 {\n    4\n}\n\nfn five() { 5 }\n"
         tried, two = Place("src/lib.rt", 1, 3, "", "one"), Place("src/lib.rt", 5, 10, "", "two")
-        before = text.format("1", "", "    2\n    + 2", kept)
-        after = text.format("1", f"{UNSOUGHT} ", f"{ASIDE}\n", kept)
+        before, after = text.format("    2\n    + 2", kept), text.format(f"{ASIDE}\n", kept)
         expect("the text", without_bodies("src/lib.rt", before, {tried}), (after, [two]))
-        using = "#[tactic(auto, using(crate::proofs::M::lemma))]\n"
-        before, after = text.format("1", using, "    2", ""), text.format("1", f"{UNSOUGHT}\n", ASIDE, "")
-        expect("the text", without_bodies("src/lib.rt", before, {tried}), (after, [two]))
-        of_trait = "impl Copy for It {{\n    fn copy(&self) -> It {{\n{}\n    }}\n}}\n"
-        place = Place("src/lib.rt", 2, 4, "ItCopy", "copy", True)
-        before, after = of_trait.format("        It"), of_trait.format(ASIDE)
-        expect("the text", without_bodies("src/lib.rt", before, set()), (after, [place]))
 
     def two_of_one() -> None:
         edits = edits_of("one", "two")

@@ -19,10 +19,11 @@ from edited import PARTS, Edit
 from prover import check_words
 from runs import Runs
 from told import end_of, goal_of, is_refusal, reason_of, reasons
-from turns import HEAD, Place, Turn, bodies, texts_of, turned_by
+from turns import Place, Turn, bodies, texts_of, turned_by
 
-# The body of a function that isn't tried, and what has the checker not search for its proof.
-ASIDE, UNSOUGHT = "unreachable!()", "#[tactic(none)]"
+# The body of a function that isn't tried. (With `#[tactic(none)]` before it the checker doesn't search for its proof,
+# which spares a tenth; but then no goal is told of some functions that call it.)
+ASIDE = "unreachable!()"
 # What a function's folder below proofs/ can have.
 WRITTEN = ("Answers.antt", "Invariants.antt")
 
@@ -53,16 +54,6 @@ def one_each(turns: list[Turn]) -> list[Turn]:
     return [*{turn.place: turn for turn in reversed(turns)}.values()][::-1]
 
 
-def unsought(head: list[str]) -> list[str]:
-    """A function's head with what has the checker not search, in as many lines. (In an impl of a trait it would leave
-    open what the trait says of the function too, and take that for an error of the code.)"""
-    own = next((at for at, line in enumerate(head) if line.lstrip().startswith("#[tactic(")), None)
-    if own is not None:
-        return [*head[:own], UNSOUGHT, *head[own + 1 :]]
-    at = next(at for at, line in enumerate(head) if HEAD.match(line))
-    return [*head[:at], f"{UNSOUGHT} {head[at].lstrip()}", *head[at + 1 :]]
-
-
 def without_bodies(file: str, text: str, tried: set[Place]) -> tuple[str, list[Place]]:
     """The text, where a body is one expression that never is reached, but for those that are tried, and each function
     that was changed so. What is computed as the program is built keeps its body, and so do functions in a cycle."""
@@ -72,8 +63,7 @@ def without_bodies(file: str, text: str, tried: set[Place]) -> tuple[str, list[P
         head = lines[place.first - 1 : body]
         is_kept = any("const fn" in line or "#[cycle" in line for line in head)
         if place not in tried and body < place.last - 1 and not is_kept:
-            empty = [""] * (place.last - 2 - body)
-            lines[place.first - 1 : place.last - 1] = [*(head if place.is_of_trait else unsought(head)), ASIDE, *empty]
+            lines[body : place.last - 1] = [ASIDE, *[""] * (place.last - 2 - body)]
             aside.append(place)
     return "\n".join(lines), aside
 

@@ -16,15 +16,14 @@ OWNERS_NAME = re.compile(r"(?:([\w:]+) for )?&?([\w:]+)")
 
 @dataclass(frozen=True)
 class Place:
-    """A function: its file, where it begins and ends there, the last names of its path, its owner's being those of the
-    type and of the trait in one, and whether it is a trait's that a type has."""
+    """A function: its file, where it begins and ends there, and the last names of its path: the owner's is those of the
+    type and of the trait in one."""
 
     file: str
     first: int
     last: int
     owner: str
     name: str
-    is_of_trait: bool = False
 
     def is_at(self, path: str) -> bool:
         """Whether the checker's path, without the crate's name, may be this function's: its modules are those of its
@@ -43,9 +42,9 @@ class Turn:
     lines: dict[int, str]
 
 
-def owner_of(lines: list[str], at: int, indent: int) -> tuple[str, str]:
-    """The names of the type and of the trait of the impl, or of the trait alone, in which a function stands. A type's
-    parameters can be in the checker's name too, which isn't followed here: such a function is never found."""
+def owner_of(lines: list[str], at: int, indent: int) -> str:
+    """The name under which the checker has what stands in an impl or a trait: of the type, and the trait's behind it.
+    A type's parameters can be in that name too, which isn't followed here: such a function is never found."""
     for line in reversed(lines[:at]):
         found = OWNER.match(line)
         if found and len(found[1]) < indent:
@@ -53,9 +52,8 @@ def owner_of(lines: list[str], at: int, indent: int) -> tuple[str, str]:
             while re.search(r"<[^<>]*>", rest):
                 rest = re.sub(r"<[^<>]*>", "", rest)
             named = OWNERS_NAME.match(rest.strip())
-            of_type, of_trait = (named[2], named[1] or "") if named else ("?", "")
-            return of_type.rpartition("::")[2], of_trait.rpartition("::")[2]
-    return "?" if indent else "", ""
+            return "".join(it.rpartition("::")[2] for it in (named[2], named[1] or "")) if named else "?"
+    return "?" if indent else ""
 
 
 def bodies(file: str, text: str) -> list[tuple[Place, int]]:
@@ -75,8 +73,8 @@ def bodies(file: str, text: str) -> list[tuple[Place, int]]:
             # The checker has a function begin at its attributes.
             while first and lines[first - 1].startswith(f"{indent}#["):
                 first -= 1
-            of_type, of_trait = owner_of(lines, at, len(indent))
-            found.append((Place(file, first + 1, last + 1, of_type + of_trait, head[2], bool(of_trait)), body + 1))
+            owner = owner_of(lines, at, len(indent))
+            found.append((Place(file, first + 1, last + 1, owner, head[2]), body + 1))
             at = last
         at += 1
     return found
