@@ -112,4 +112,4 @@ def takes_no_longer(words):
 
 def many_names_checks(program):
     yield "names in use, by the model", is_due_by_the_model
-    yield "a line takes no longer among 60,000 names", lambda: takes_no_longer([program, "run"])
+    yield "a line takes no three times as long among 60,000 names", lambda: takes_no_longer([program, "run"])
