@@ -90,6 +90,7 @@ export class LockRequest {
       this.isCancelled = true;
       this.#onSent(this);
       this.#onOver(this);
+      this.#outbox.flush();
     } else if (!this.#isWaiting) {
       this.release();
     } else if (this.#loan !== null && !this.#loan.isAborted) {

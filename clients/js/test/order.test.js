@@ -128,6 +128,15 @@ test("an abort passes it too", async (t) => {
   await assertFree(other);
 });
 
+test("where it is aborted itself, what waited behind it is sent", async (t) => {
+  const { locks, controllers, waiting } = await startStuck(t);
+  const behind = watch(locks.request("free", () => "granted"));
+  controllers.at(-1).abort("mine");
+  assert.equal((await waiting.at(-1).settled).reason, "mine");
+  await until(() => behind.state !== "pending");
+  assert.equal(behind.value, "granted");
+});
+
 test("before the last signal is gone the client goes on with a second connection, in order too", async (t) => {
   const server = await startRelayed(t);
   const [a, b] = [await connectTo(t, server), await connectTo(t, server)];
