@@ -1,6 +1,10 @@
 /** Locks with the behaviour of the Web Locks API, shared by all who connect to one weblocks server. */
 
-/** Connects as an agent to a server, or to a worker of the page's origin, and gives its LockManager. */
+/**
+ * Connects as an agent to a server, or to a worker of the page's origin, and gives its LockManager. Rejects with
+ * TypeError where an option is wrong, NetworkError where no server answers, QuotaExceededError where it has no room, or
+ * SecurityError where it doesn't let this page in, or hasn't this origin.
+ */
 export function connect(options: ConnectOptions | PortOptions): Promise<LockManager>;
 
 /** How to connect to a server. */
@@ -14,7 +18,10 @@ export interface ConnectOptions {
   origin?: string | undefined;
   /** A window may be made inactive, a worker is always active. In a page it is what the page is; else a window. */
   kind?: "window" | "worker" | undefined;
-  /** The storage bucket of the origin: 1 to 64 of `a` to `z`, `0` to `9`, `-` and `_`. `"default"` unless given. */
+  /**
+   * The storage bucket of the origin: 1 to 64 of `a` to `z`, `0` to `9`, `-` and `_`, the first a letter or a digit.
+   * `"default"` unless given.
+   */
   bucket?: string | undefined;
   /** What the server knows its clients by, where it wants that. */
   token?: string | undefined;
@@ -95,7 +102,14 @@ export interface LockManagerEventMap {
 }
 
 export interface LockManager extends EventTarget {
-  /** Calls the callback while the lock is held; settles as what that returned, once the lock was released. */
+  /**
+   * Calls the callback while the lock is held; settles as what that returned, once the lock was released.
+   *
+   * Rejects with TypeError for wrong arguments, NotSupportedError for a reserved name or options that exclude each
+   * other, the signal's reason, QuotaExceededError at a limit, InvalidStateError where it is inactive or closed,
+   * SecurityError at an opaque origin or where the server doesn't let it in any more, AbortError where the lock is
+   * stolen or the manager closed, and NetworkError where the connection is lost, unless it is asked again.
+   */
   request<T>(name: string, callback: (lock: Lock) => T): Promise<Awaited<T>>;
   request<T>(
     name: string,
@@ -104,7 +118,10 @@ export interface LockManager extends EventTarget {
   ): Promise<Awaited<T>>;
   request<T>(name: string, options: LockOptions, callback: (lock: Lock | null) => T): Promise<Awaited<T>>;
 
-  /** What is held and pending, of all clients of the origin's bucket. */
+  /**
+   * What is held and pending, of all clients of the origin's bucket. Rejects with InvalidStateError, SecurityError,
+   * AbortError or NetworkError, as `request` does.
+   */
   query(): Promise<LockManagerSnapshot>;
 
   /** Gives up all: promises that are pending reject with AbortError. Settles as `closed`. */
@@ -113,10 +130,17 @@ export interface LockManager extends EventTarget {
   /** Settles with why the LockManager can't be used any more. It is never rejected. */
   readonly closed: Promise<Error>;
 
-  /** Makes a window inactive, so that its requests are refused with InvalidStateError, or active again. */
+  /**
+   * Makes a window inactive, so that its requests are refused with InvalidStateError, or active again. Rejects with
+   * InvalidStateError for a worker and after `close`, and with AbortError or NetworkError where the manager is closed,
+   * or the connection lost, before the server has answered.
+   */
   setActive(active: boolean): Promise<void>;
 
-  /** A signal that is aborted when the lock is stolen or lost while its callback runs. */
+  /**
+   * A signal that is aborted when the lock is stolen or lost while its callback runs. Throws TypeError for what isn't a
+   * lock.
+   */
   lostSignal(lock: Lock): AbortSignal;
 
   addEventListener<K extends keyof LockManagerEventMap>(

@@ -31,7 +31,7 @@ export class Agent {
    * Connects and opens an agent, which has a signal to spare.
    *
    * @param {object} settings as `readSettings` gives them
-   * @param {(fault: Error, agent: Agent) => void} onLost called when the connection is lost later
+   * @param {(fault: Error) => void} onLost called when the connection is lost later
    * @param {AbortSignal} signal gives up
    * @returns {Promise<Agent>} rejected where there is no connection, or the service refuses the agent
    */
@@ -68,7 +68,7 @@ export class Agent {
   }
 
   #lose(fault) {
-    this.#onLost(fault, this);
+    this.#onLost(fault);
   }
 
   /** Sends a message; `answered` is called with its reply. */

@@ -57,9 +57,14 @@ export class Agents {
     if (this.#current.signals.left <= SIGNALS_IN_RESERVE) this.#openNext();
   }
 
-  /** Has the successor serve, if the present agent has no signals left and there is one. Whether that is so. */
+  /** Whether the present agent has no signals left: a request with one waits for a successor, or another's signal. */
+  get isUsedUp() {
+    return this.#current.signals.left === 0;
+  }
+
+  /** Has the successor serve, if the present agent is used up and there is one. Whether that is so. */
   moveOn() {
-    if (this.#current.signals.left > 0 || this.#next === null) return false;
+    if (!this.isUsedUp || this.#next === null) return false;
     const before = this.#current;
     this.#serve(this.#next);
     this.#next = null;

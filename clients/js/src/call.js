@@ -27,8 +27,8 @@ export class Call {
 
   /**
    * @param {object} asked what `readArguments` read
-   * @param {{onAbort: (call: Call) => void, onReturn: (call: Call) => void, onEnd: (call: Call) => void}} listeners
-   *   `onAbort` where the signal ended the call, `onReturn` where the lock is to be released, `onEnd` once it has ended
+   * @param {{onAbort: () => void, onReturn: () => void, onEnd: () => void}} listeners `onAbort` where the signal ended
+   *   the call, `onReturn` where the lock is to be released, `onEnd` once it has ended
    */
   constructor(asked, { onAbort, onReturn, onEnd }) {
     this.#asked = asked;
@@ -148,11 +148,11 @@ export class Call {
     if (this.#state !== HELD) return;
     this.#state = RELEASING;
     this.#settle = settle;
-    this.#onReturn(this);
+    this.#onReturn();
   }
 
   #abort() {
-    this.#onAbort(this);
+    this.#onAbort();
     this.#close();
     this.#reject(abortReason(this.#asked.signal));
   }
@@ -160,7 +160,7 @@ export class Call {
   #close() {
     this.#state = ENDED;
     this.#ignoreSignal();
-    this.#onEnd(this);
+    this.#onEnd();
   }
 
   #ignoreSignal() {

@@ -64,8 +64,9 @@ export class Connection {
     if (this.#stop()) this.#socket.close(1000);
   }
 
-  /** Ends the connection at once. */
+  /** Ends the connection at once. A loss that was noticed, and is about to be told, isn't told any more. */
   cut() {
+    this.#onLost = () => {};
     if (this.#stop()) cutSocket(this.#socket);
   }
 

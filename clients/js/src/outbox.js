@@ -4,20 +4,31 @@
  * A sending has `agent` (or null: whichever serves new requests), `isCancelled`, `compose(agent)`, its message or null
  * where it must wait, and `answered(reply)`. A message to another agent than the one before goes out once all before
  * it are answered: else the service could take it first.
+ *
+ * What must wait holds up all behind it. But where nobody knows for how long, what has an agent passes it, a release or
+ * an abort, which has its message always: the request that waits may be waiting for what that very release gives back.
  */
 
 import { Queue } from "./queue.js";
 
 export class Outbox {
-  #sendings = new Queue();
+  /** What has an agent, and what hasn't, each with its place in the order of both. */
+  #bound = new Queue();
+  #unbound = new Queue();
+  #places = 0;
   #current = null;
   #last = null;
   #unanswered = 0;
   #unstick;
+  #isStuck;
 
-  /** @param {() => boolean} unstick called where a sending must wait; whether it is to be tried again at once */
-  constructor(unstick) {
+  /**
+   * @param {() => boolean} unstick called where a sending must wait; whether it is to be tried again at once
+   * @param {() => boolean} isStuck called where it isn't; whether nobody knows when it will be
+   */
+  constructor(unstick, isStuck) {
     this.#unstick = unstick;
+    this.#isStuck = isStuck;
   }
 
   /** The agent that serves new requests, or null while there is none. */
@@ -27,25 +38,39 @@ export class Outbox {
 
   /** Adds a sending, and sends what can be. */
   push(sending) {
-    this.#sendings.push(sending);
+    const queue = sending.agent === null ? this.#unbound : this.#bound;
+    queue.push({ sending, place: this.#places });
+    this.#places += 1;
     this.flush();
   }
 
   /** Sends what can be. */
   flush() {
-    while (this.#sendFirst());
+    while (this.#sendFirst(this.#nextQueue()));
   }
 
-  /** Whether the first sending is dealt with, so that the next may follow. */
-  #sendFirst() {
-    const sending = this.#sendings.peek();
+  /** The queue whose first sending was asked for before the other's. */
+  #nextQueue() {
+    const bound = this.#bound.peek();
+    const unbound = this.#unbound.peek();
+    return bound === undefined || unbound?.place < bound.place ? this.#unbound : this.#bound;
+  }
+
+  /** Whether a queue's first sending is dealt with, or one that passes it, so that the next may follow. */
+  #sendFirst(queue) {
+    const sending = queue.peek()?.sending;
     if (sending === undefined) return false;
-    if (sending.isCancelled) return this.#sendings.shift() !== undefined;
+    if (sending.isCancelled) return queue.shift() !== undefined;
     const agent = sending.agent ?? this.#current;
     if (agent === null || (agent !== this.#last && this.#unanswered > 0)) return false;
     const message = sending.compose(agent);
-    if (message === null) return this.#unstick();
-    this.#sendings.shift();
+    if (message === null) return this.#unstick() || (this.#isStuck() && this.#sendFirst(this.#bound));
+    queue.shift();
+    this.#send(message, agent, sending);
+    return true;
+  }
+
+  #send(message, agent, sending) {
     this.#last = agent;
     this.#unanswered += 1;
     agent.ask(message, (reply) => {
@@ -53,12 +78,12 @@ export class Outbox {
       sending.answered(reply);
       this.flush();
     });
-    return true;
   }
 
   /** Forgets all that wasn't answered. */
   reset() {
-    this.#sendings = new Queue();
+    this.#bound = new Queue();
+    this.#unbound = new Queue();
     this.#current = null;
     this.#last = null;
     this.#unanswered = 0;

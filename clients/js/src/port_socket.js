@@ -22,14 +22,15 @@ export class PortSocket {
 
   /** @param {MessagePort | (() => MessagePort)} door a port of the worker, or what gives one */
   constructor(door) {
+    // What may throw comes before anything listens: what listens would stay, and keep Node from its end.
+    const port = typeof door === "function" ? door() : door;
     const { port1, port2 } = new MessageChannel();
+    port.postMessage({ type: "connect" }, [port2]);
     this.#port = port1;
     port1.onmessage = ({ data }) => this.#read(data);
     // (where the platform tells of a port's end)
     port1.addEventListener("close", () => this.#end(NOTHING_SAID, ""));
     globalThis.addEventListener?.("pagehide", this.#leave);
-    const port = typeof door === "function" ? door() : door;
-    port.postMessage({ type: "connect" }, [port2]);
   }
 
   /** Sends a text. */

@@ -20,19 +20,14 @@ export class LockRequest {
   /**
    * @param {import("./call.js").Call} call
    * @param {import("./outbox.js").Outbox} outbox
-   * @param {{onSent: (request: LockRequest) => void, onOver: (request: LockRequest) => void}} listeners `onSent` where
-   *   it was sent or won't be, `onOver` where the service has no more to tell of it
+   * @param {{onSent: () => void, onOver: () => void}} listeners `onSent` where it was sent or won't be, `onOver` where
+   *   the service has no more to tell of it
    */
   constructor(call, outbox, { onSent, onOver }) {
     this.#call = call;
     this.#outbox = outbox;
     this.#onSent = onSent;
     this.#onOver = onOver;
-  }
-
-  /** The call that it was sent for. */
-  get call() {
-    return this.#call;
   }
 
   /** Its message, or null where its signal needs one of the agent's, and none is ready. */
@@ -45,7 +40,7 @@ export class LockRequest {
     this.agent = agent;
     this.#isWaiting = true;
     agent.beginWaiting();
-    this.#onSent(this);
+    this.#onSent();
     return { op: "request", name: wireName, options: this.#options() };
   }
 
@@ -65,7 +60,7 @@ export class LockRequest {
     if (error !== undefined) {
       this.#endWaiting();
       this.#call.end(faultOfRefusal(error));
-      this.#onOver(this);
+      this.#onOver();
       return;
     }
     this.#number = ok.request;
@@ -88,8 +83,9 @@ export class LockRequest {
   giveUp() {
     if (this.agent === null) {
       this.isCancelled = true;
-      this.#onSent(this);
-      this.#onOver(this);
+      this.#onSent();
+      this.#onOver();
+      this.#outbox.flush();
     } else if (!this.#isWaiting) {
       this.release();
     } else if (this.#loan !== null && !this.#loan.isAborted) {
@@ -123,7 +119,7 @@ export class LockRequest {
 
   #leave() {
     this.agent.remove(this.#number);
-    this.#onOver(this);
+    this.#onOver();
   }
 }
 

@@ -21,7 +21,7 @@ export class Session {
   #isActive = true;
   #isOpaque;
   #agents;
-  #outbox = new Outbox(() => this.#goOn());
+  #outbox = new Outbox(() => this.#goOn(), () => this.#agents.isUsedUp);
 
   /** The calls that haven't ended, in their order, each with its request; null while the connection is lost. */
   #calls = new Map();

@@ -20,8 +20,8 @@ const STATUS = / response: (\d{3})$/;
 /** The status of a handshake that isn't taken as it is, as of an origin that isn't the server's. */
 const REFUSED = "400";
 
-/** The status of a server that has no place for a further connection. */
-const FULL = "503";
+/** How the status of a server begins that can't serve now, as 503, or of a proxy that finds none, as 502. */
+const UNABLE = "5";
 
 /** What a server means by its status. */
 const MEANINGS = {
@@ -32,7 +32,7 @@ const MEANINGS = {
 /** What is said where the class of sockets says nothing, as a browser's. */
 const NOTHING_SAID = "its handshake failed (a page isn't told why: nobody may listen there, or it wants another token)";
 
-/** A handshake that fails whatever it offers: nobody answers, or the server has no place. */
+/** A handshake that fails whatever it offers: nobody answers, or the server can't serve now. */
 class Unserved extends DOMException {
   constructor(message) {
     super(message, "NetworkError");
@@ -154,16 +154,19 @@ function shakeHands(create, patience, signal) {
       finish();
       resolve(socket);
     };
-    socket.onerror = ({ message }) => fail(faultOfHandshake(message || NOTHING_SAID, socket.url));
+    socket.onerror = (event) => fail(faultOfHandshake(event, socket.url));
     socket.onclose = ({ code, reason }) => fail(faultOfEnd(code, reason));
   });
 }
 
-function faultOfHandshake(text, url) {
+/** An error with such a code is the system's, or of TLS: nobody answered. (That of several addresses says no more.) */
+function faultOfHandshake({ message: said, error }, url) {
+  if (typeof error?.code === "string") return new Unserved(`No connection to the server: ${said || error.code}`);
+  const text = said || NOTHING_SAID;
   const status = STATUS.exec(text)?.[1];
   if (status === REFUSED) return securityError(`The server refused the handshake for ${url}: ${text}`);
   const message = `No connection to the server: ${MEANINGS[status] ?? text}`;
-  return status === FULL ? new Unserved(message) : networkError(message);
+  return status?.startsWith(UNABLE) ? new Unserved(message) : networkError(message);
 }
 
 function faultOfEnd(code, reason) {

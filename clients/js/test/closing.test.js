@@ -18,6 +18,7 @@ testWithEach("pending and held promises reject with AbortError", async (agent) =
     b.request("other", { ifAvailable: true }, never),
     b.request("other", { steal: true }, never),
     b.query(),
+    b.setActive(true),
     holding.promise,
   ].map(watch);
   const closed = b.close();

@@ -5,6 +5,7 @@ import { execFile } from "node:child_process";
 import { test } from "node:test";
 import { promisify } from "node:util";
 import { connect } from "../weblocks.js";
+import { Fences } from "./support/fences.js";
 import { assertRejects, hold, until, watch } from "./support/holding.js";
 import { Proxy } from "./support/proxy.js";
 import { connectTo, startPolled, startPushing, startRelayed } from "./support/servers.js";
@@ -66,6 +67,39 @@ test("each reconnection tries pushes anew", async (t) => {
   proxy.cut();
   await restored;
   assert.deepEqual(made.map(([, offered]) => offered), [["weblocks.push"], undefined, ["weblocks.push"], undefined]);
+});
+
+test("a server that isn't there for a moment isn't taken for one that is polled", async (t) => {
+  const [server, gone] = [await startPushing(t), await startPushing(t)];
+  await gone.stop();
+  const made = [];
+  /** The first handshake comes to where nobody listens, as before a server has started again. */
+  class Early extends WebSocket {
+    constructor(url, ...offered) {
+      super(made.length === 0 ? gone.url : url, ...offered);
+      made.push(offered);
+    }
+  }
+  const fault = await assertRejects(connectTo(t, server, { WebSocket: Early }), "NetworkError");
+  assert.match(fault.message, /ECONNREFUSED/);
+  assert.deepEqual(made, [[["weblocks.push"]]]);
+});
+
+test("a proxy that finds no server isn't taken for one that is polled: the next try has tokens again", async (t) => {
+  const server = await startRelayed(t, { fences: new Fences(1) });
+  const locks = await connectTo(t, server, { fences: true });
+  for (const status of [500, 502, 503, 504]) {
+    server.statuses = [status];
+    const restored = new Promise((resolve) => locks.addEventListener("restored", resolve, { once: true }));
+    server.closeAll(1001, "going away");
+    await restored;
+    assert.notEqual(await locks.request("db", (lock) => lock.fence), null, `after ${status}`);
+  }
+  assert.equal(server.offers.length, 9);
+  assert.ok(server.offers.every(({ protocols }) => protocols.length === 2));
+  server.statuses = [502];
+  const fault = await assertRejects(connectTo(t, server), "NetworkError");
+  assert.match(fault.message, /502$/);
 });
 
 test("nothing is polled where pushes are spoken, but for the heartbeat", async (t) => {
@@ -138,6 +172,24 @@ test("where sockets don't say why a handshake failed, as a browser's, connect sa
     connect({ url: "ws://127.0.0.1:9", origin: "https://a.test", WebSocket: Silent }), "NetworkError",
   );
   assert.match(fault.message, /a page isn't told why/);
+});
+
+test("where the system has but a code, as for several addresses of a name, connect says that", async () => {
+  let made = 0;
+  class Refused {
+    constructor() {
+      made += 1;
+      const error = Object.assign(new AggregateError([]), { code: "ECONNREFUSED" });
+      setTimeout(() => this.onerror({ message: error.message, error }));
+    }
+
+    close() {}
+  }
+  const fault = await assertRejects(
+    connect({ url: "ws://localhost:9", origin: "https://a.test", WebSocket: Refused }), "NetworkError",
+  );
+  assert.match(fault.message, /: ECONNREFUSED$/);
+  assert.equal(made, 1);
 });
 
 test("a server may close a connection for its origin (1008) or for want of room (1013)", async (t) => {

@@ -2,11 +2,18 @@
 
 import assert from "node:assert/strict";
 import { test } from "node:test";
-import { assertRejects, hold, sleep, until, watch } from "./support/holding.js";
+import { SIGNALS_OF_AGENT } from "../src/signals.js";
+import { assertRejects, hold, sleep, until, untilPending, watch } from "./support/holding.js";
 import { Proxy } from "./support/proxy.js";
 import { EACH, connectTo, startPolled, startPushing, startRelayed } from "./support/servers.js";
 
 const HEARTBEAT = 500;
+
+/** Holds the event loop up, so that all timers of these milliseconds are due in its next turn. */
+function holdUp(time) {
+  const end = Date.now() + time;
+  while (Date.now() < end);
+}
 
 test("each heartbeat one timer of a connection sends a poll", async (t) => {
   const server = await startRelayed(t);
@@ -77,11 +84,41 @@ test("a client whose own event loop was held up reads first what has come", asyn
   const holding = await hold(locks, "db");
   for (let round = 0; round < 3; round += 1) {
     await sleep(1.1 * HEARTBEAT);
-    const end = Date.now() + 1.5 * HEARTBEAT;
-    while (Date.now() < end);
+    holdUp(1.5 * HEARTBEAT);
   }
   holding.release("kept");
   assert.equal(await holding.promise, "kept");
+});
+
+test("two connections of a client that are lost in one turn are one loss, and what waits is asked again", async (t) => {
+  const server = await startPushing(t);
+  const [a, b] = [await connectTo(t, server), await connectTo(t, server, { heartbeat: HEARTBEAT })];
+  const holding = await hold(a, "db");
+  const count = SIGNALS_OF_AGENT + 50;
+  const order = [];
+  const waiting = Array.from({ length: count }, (_, number) => {
+    return watch(b.request("db", { signal: new AbortController().signal }, () => { order.push(number); }));
+  });
+  await untilPending(a, count);
+  assert.equal(new Set((await a.query()).pending.map(({ clientId }) => clientId)).size, 2);
+  const [lost, restored] = ["lost", "restored"].map((type) => new Promise((resolve) => {
+    b.addEventListener(type, () => resolve(type), { once: true });
+  }));
+  process.kill(server.pid, "SIGSTOP");
+  try {
+    // In one turn both connections ask for a sign of life, and in another both miss it.
+    for (let turn = 0; turn < 2; turn += 1) {
+      holdUp(1.2 * HEARTBEAT);
+      await sleep(1);
+    }
+    await lost;
+  } finally {
+    process.kill(server.pid, "SIGCONT");
+  }
+  assert.equal(await Promise.race([restored, b.closed]), "restored");
+  holding.release();
+  await Promise.all(waiting.map(({ settled }) => settled));
+  assert.deepEqual(order, Array.from({ length: count }, (_, number) => number));
 });
 
 test("a handshake that isn't answered is given up", async (t) => {

@@ -73,6 +73,70 @@ test("a release that was called for before a request reaches the service before 
   assert.equal(await locks.request("db", { ifAvailable: true }, (lock) => lock !== null), true);
 });
 
+test("a release waits for the requests before it, though they need signals that must be asked for", async (t) => {
+  const server = await startRelayed(t);
+  const locks = await connectTo(t, server);
+  const holding = await hold(locks, "db");
+  server.delay = 50;
+  const before = server.received.length;
+  const promises = ["one", "two", "three"].map((name) => {
+    return locks.request(name, { signal: new AbortController().signal }, () => {});
+  });
+  holding.release();
+  await Promise.all([holding.promise, ...promises]);
+  const ops = server.ops.slice(before).filter((op) => op === "request" || op === "release");
+  assert.deepEqual(ops.slice(0, 4), ["request", "request", "request", "release"]);
+});
+
+/** An agent that has used up its signals, at a server that has no place for its successor: its last request waits. */
+async function startStuck(t) {
+  const server = await startPushing(t, { words: ["--connections", "2"] });
+  const [locks, other] = [await connectTo(t, server), await connectTo(t, server)];
+  const holding = await hold(locks, "db");
+  const order = [];
+  const controllers = Array.from({ length: SIGNALS_OF_AGENT + 1 }, () => new AbortController());
+  const waiting = controllers.map(({ signal }, number) => {
+    return watch(locks.request("db", { signal }, () => { order.push(number); }));
+  });
+  await untilPending(other, SIGNALS_OF_AGENT);
+  return { locks, other, holding, order, controllers, waiting };
+}
+
+test("a release passes a request that waits for a connection that can't be had: it may wait for that very lock",
+  async (t) => {
+    const { locks, other, holding, order, waiting } = await startStuck(t);
+    const query = watch(locks.query());
+    const released = watch(holding.promise);
+    holding.release("kept");
+    await until(() => released.state !== "pending");
+    assert.equal(released.value, "kept");
+    await Promise.all(waiting.map(({ settled }) => settled));
+    assert.deepEqual(order, Array.from({ length: SIGNALS_OF_AGENT + 1 }, (_, number) => number));
+    await query.settled;
+    assert.equal(query.state, "fulfilled");
+    await assertFree(other);
+  });
+
+test("an abort passes it too", async (t) => {
+  const { other, holding, order, controllers, waiting } = await startStuck(t);
+  controllers[0].abort("mine");
+  assert.equal((await waiting[0].settled).reason, "mine");
+  await untilPending(other, SIGNALS_OF_AGENT - 1);
+  holding.release();
+  await Promise.all(waiting.map(({ settled }) => settled));
+  assert.deepEqual(order, Array.from({ length: SIGNALS_OF_AGENT }, (_, number) => number + 1));
+  await assertFree(other);
+});
+
+test("where it is aborted itself, what waited behind it is sent", async (t) => {
+  const { locks, controllers, waiting } = await startStuck(t);
+  const behind = watch(locks.request("free", () => "granted"));
+  controllers.at(-1).abort("mine");
+  assert.equal((await waiting.at(-1).settled).reason, "mine");
+  await until(() => behind.state !== "pending");
+  assert.equal(behind.value, "granted");
+});
+
 test("before the last signal is gone the client goes on with a second connection, in order too", async (t) => {
   const server = await startRelayed(t);
   const [a, b] = [await connectTo(t, server), await connectTo(t, server)];

@@ -6,6 +6,8 @@ import { Outbox } from "../src/outbox.js";
 import { Queue } from "../src/queue.js";
 import { SIGNALS_OF_AGENT, SignalSupply } from "../src/signals.js";
 
+const no = () => false;
+
 /** An agent that answers when it is told to. */
 class FakeAgent {
   #unanswered = [];
@@ -32,7 +34,7 @@ function sending(message, agent = null) {
 
 test("messages of one agent go out without waiting for replies", () => {
   const sent = [];
-  const outbox = new Outbox(() => false);
+  const outbox = new Outbox(no, no);
   outbox.push(sending("early"));
   assert.deepEqual(sent, [], "there is no agent yet");
   outbox.current = new FakeAgent("a", sent);
@@ -43,7 +45,7 @@ test("messages of one agent go out without waiting for replies", () => {
 
 test("a message to another agent waits until all before it are answered, and those behind it wait too", () => {
   const sent = [];
-  const outbox = new Outbox(() => false);
+  const outbox = new Outbox(no, no);
   const [a, b] = [new FakeAgent("a", sent), new FakeAgent("b", sent)];
   outbox.current = a;
   outbox.push(sending("one"));
@@ -65,7 +67,7 @@ test("a message to another agent waits until all before it are answered, and tho
 
 test("what must wait holds up what is behind it, and what is cancelled doesn't", () => {
   const sent = [];
-  const outbox = new Outbox(() => false);
+  const outbox = new Outbox(no, no);
   outbox.current = new FakeAgent("a", sent);
   let message = null;
   const waiting = { ...sending(""), compose: () => message };
@@ -79,9 +81,50 @@ test("what must wait holds up what is behind it, and what is cancelled doesn't",
   assert.deepEqual(sent, ["a: waited", "a: behind"]);
 });
 
+test("what has an agent passes what must wait for nobody knows how long, and else nothing", () => {
+  const sent = [];
+  let isStuck = false;
+  const outbox = new Outbox(no, () => isStuck);
+  const agent = new FakeAgent("a", sent);
+  outbox.current = agent;
+  let message = null;
+  outbox.push({ ...sending(""), compose: () => message });
+  outbox.push(sending("first", agent));
+  outbox.push(sending("question"));
+  outbox.push(sending("second", agent));
+  assert.deepEqual(sent, [], "a reply is on its way by which it can be sent");
+  isStuck = true;
+  outbox.push(sending("third", agent));
+  assert.deepEqual(sent, ["a: first", "a: second", "a: third"]);
+  isStuck = false;
+  outbox.push(sending("fourth", agent));
+  message = "waited";
+  outbox.flush();
+  assert.deepEqual(sent.slice(3), ["a: waited", "a: question", "a: fourth"]);
+});
+
+test("what passes to another agent goes out once all before it are answered, and so does what it passed", () => {
+  const sent = [];
+  const outbox = new Outbox(no, () => true);
+  const [a, b] = [new FakeAgent("a", sent), new FakeAgent("b", sent)];
+  outbox.current = b;
+  outbox.push(sending("one"));
+  let message = null;
+  outbox.push({ ...sending(""), compose: () => message });
+  outbox.push(sending("release", a));
+  assert.deepEqual(sent, ["b: one"]);
+  b.answer();
+  assert.deepEqual(sent.slice(1), ["a: release"]);
+  message = "waited";
+  outbox.flush();
+  assert.deepEqual(sent.slice(1), ["a: release"]);
+  a.answer();
+  assert.deepEqual(sent.slice(2), ["b: waited"]);
+});
+
 test("what was forgotten is neither sent nor waited for", () => {
   const sent = [];
-  const outbox = new Outbox(() => false);
+  const outbox = new Outbox(no, no);
   const [a, b] = [new FakeAgent("a", sent), new FakeAgent("b", sent)];
   outbox.current = a;
   outbox.push(sending("one"));

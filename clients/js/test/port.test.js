@@ -1,10 +1,15 @@
 /** A connection over the port of a worker: what is handed over, and what is said of the connection itself. */
 
 import assert from "node:assert/strict";
+import { execFile } from "node:child_process";
 import { test } from "node:test";
+import { promisify } from "node:util";
 import { PortSocket } from "../src/port_socket.js";
 import { connect } from "../weblocks.js";
 import { assertRejects, until } from "./support/holding.js";
+
+const run = promisify(execFile);
+const PACKAGE = new URL("../weblocks.js", import.meta.url).href;
 
 /** A worker's side of a door: the ends of the channels that were handed over, and what came by each. */
 function listen(t) {
@@ -111,4 +116,21 @@ test("a worker that doesn't serve the port is a NetworkError", async (t) => {
   await until(() => ends.length === 1);
   ends[0].port.postMessage({ type: "close", code: 1011, reason: "the module can't be had" });
   await assertRejects(refused, "NetworkError");
+});
+
+test("a function that gives no port leaves nothing behind: connect rejects, and the program ends", async () => {
+  const program = `
+    import { connect } from ${JSON.stringify(PACKAGE)};
+    let listeners = 0;
+    globalThis.addEventListener = () => { listeners += 1; };
+    globalThis.removeEventListener = () => { listeners -= 1; };
+    const doors = [() => { throw new Error("no worker"); }, () => undefined];
+    for (const port of doors) {
+      await connect({ port, origin: "https://a.test" }).catch(({ name }) => console.log(name));
+    }
+    console.log(listeners);
+  `;
+  // (one that hasn't ended by then is killed, and the test fails)
+  const { stdout } = await run(process.execPath, ["--input-type=module", "-e", program], { timeout: 10_000 });
+  assert.equal(stdout, "Error\nTypeError\n0\n");
 });

@@ -46,6 +46,9 @@ export class Relay {
   /** The only target that is taken, where it is set. */
   target = null;
 
+  /** The statuses that the next handshakes are refused with, one each. */
+  statuses = [];
+
   /** What adds fencing tokens for the clients that ask for them, where it is set. */
   fences = null;
 
@@ -120,7 +123,8 @@ export class Relay {
     const { authorization } = request.headers;
     this.offers.push({ protocols: offered.filter(Boolean), authorization, target: request.url });
     const isKnown = offered.includes(BEARER + this.#token) || authorization === `Bearer ${this.#token}`;
-    if (this.target !== null && request.url !== this.target) answer(false, 400);
+    if (this.statuses.length > 0) answer(false, this.statuses.shift());
+    else if (this.target !== null && request.url !== this.target) answer(false, 400);
     else answer(this.#token === undefined || isKnown, 401);
   }
 
