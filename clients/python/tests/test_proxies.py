@@ -1,4 +1,4 @@
-"""What clients make of a proxy that doesn't reach the daemon for a while: of its statuses and its cuts."""
+"""What clients make of a proxy that doesn't reach the daemon for a while: of its statuses, its pages and its cuts."""
 
 import asyncio
 import socket
@@ -14,6 +14,8 @@ from fencing import FENCES, PUSHES
 from support import SECONDS, Daemon, ServedCase, hand_on_to, serve_own
 from weblocks import transport
 
+PAGE = "https://a.test/maintenance"
+TO_PAGE = (HTTPStatus.FOUND, [("Location", PAGE)], b"")
 RESETS = struct.pack("ii", 1, 0)
 """For SO_LINGER: a socket that is closed resets its connection."""
 
@@ -93,6 +95,20 @@ class Fronts(ServedCase):
                         pass
                 self.assertEqual(1, len(asked))
 
+    async def test_a_redirection_to_a_page_raises_Disconnected_which_names_it(self):
+        self.front.answers = [TO_PAGE]
+        with self.assertRaisesRegex(weblocks.Disconnected, f"redirects to '{PAGE}', which is no URL of a WebSocket"):
+            async with self.connect(url=self.front.url):
+                pass
+
+    async def test_after_redirections_to_a_page_a_connection_is_made_again_and_requests_that_waited_are_granted(self):
+        async with self.connect(url=self.front.url) as locks:
+            self.front.answers = [TO_PAGE] * 3
+            cut(locks)
+            async with locks.request("db", timeout=SECONDS) as lock:
+                lock.check()
+        self.assertEqual([True] * 5, self.front.offers)
+
 
 class Library:
     """A stand-in for the library's module: it raises its errors, and connects where none is left."""
@@ -113,6 +129,17 @@ class ErrorsOfTheLibrary(ServedCase):
         super().setUp()
         self.library = Library()
         self.enterContext(unittest.mock.patch.object(transport, "_library", self.library))
+
+    async def test_after_unforeseen_ones_a_connection_is_made_again_and_the_log_tells_them(self):
+        async with self.connect() as locks:
+            self.library.errors = [RuntimeError("unforeseen"), ValueError("of no URL"), EOFError("cut off")]
+            with self.assertLogs("weblocks") as logged:
+                cut(locks)
+                async with locks.request("db", timeout=SECONDS) as lock:
+                    lock.check()
+        said = [record.getMessage() for record in logged.records]
+        told = ["no connection: RuntimeError('unforeseen')", "no connection: ValueError('of no URL')"]
+        self.assertEqual(told, said[1:-1])
 
     async def test_an_EOFError_raises_Disconnected(self):
         self.library.errors = [EOFError("connection closed while reading HTTP status line")]

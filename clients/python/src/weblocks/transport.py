@@ -181,6 +181,8 @@ def _explain(options: Options, error: Exception) -> Exception:
     """What to raise for an error of the library or the system."""
     server = f"the server at {options.url}"
     if isinstance(error, InvalidURI):
+        if error.uri != _url(options):
+            return Disconnected(f"{server} redirects to {error.uri!r}, which is no URL of a WebSocket server")
         return ValueError(f"{options.url!r} is no URL of a WebSocket server, such as ws://127.0.0.1:8080")
     status = _status(error)
     if status in (401, 403):
