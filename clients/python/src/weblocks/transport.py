@@ -108,6 +108,14 @@ async def open_socket(options: Options) -> Socket:
         raise _explain(options, error) from error
 
 
+def sends_in_tasks(socket: Socket) -> bool:
+    """Whether it is to send in tasks alone, as a connection of the library's newer interface.
+
+    While that closes, its `send` sets a timeout, by which the task that called it is cancelled.
+    """
+    return type(socket).__module__.startswith("websockets.asyncio.")
+
+
 def _find_library() -> tuple[Any, str]:
     """The library's module that connects, and what it calls the headers that it adds."""
     try:
