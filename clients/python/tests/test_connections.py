@@ -299,6 +299,16 @@ class CuttingOff:
             await asyncio.sleep(2)
             lock.check()
 
+    async def test_a_heartbeat_that_cannot_be_sent_for_an_unforeseen_reason_loses_the_lock_too(self):
+        async def fail(_text):
+            raise RuntimeError("unforeseen")
+
+        async with self.connect(heartbeat=0.3) as locks:
+            with self.assertRaisesRegex(weblocks.LockLost, "did not answer for 0.3 seconds"):
+                async with locks.request("db"):
+                    locks._dispatcher._agent._connection._socket.send = fail
+                    await asyncio.sleep(SECONDS)
+
     async def test_pushes_alone_are_no_sign_of_life(self):
         async def handle(client, _path=""):
             for _ in range(2):

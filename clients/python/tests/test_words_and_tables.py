@@ -91,7 +91,8 @@ class Words(CommandLineCase):
         status, out, _err = self.run_whole("with", "--help")
         self.assertEqual(0, status)
         for word in (
-            "--shared", "--wait", "--steal", "--fence", "--url", "--origin", "--bucket", "--token-file", "75", "127"
+            "--shared", "--wait", "--steal", "--fence", "--url", "--origin", "--bucket", "--token-file", "75", "127",
+            "141",
         ):  # fmt: skip
             self.assertIn(word, out)
 
@@ -121,12 +122,12 @@ class Tables(CommandLineCase):
         names = [line.split("  ")[0] for line in out.splitlines()[1:4]]
         self.assertEqual(['""', r"a\n\x1b[31m\ud800é", "n" * 59 + "…"], names)
 
-    def test_query_ends_quietly_where_nobody_reads_on(self):
+    def test_query_ends_quietly_where_nobody_reads_on_and_by_the_status_of_a_broken_pipe(self):
         process = self.start("query", stdout=subprocess.PIPE)
         process.stdout.close()
         self.assertEqual("", process.stderr.read())
         process.stderr.close()
-        process.wait(SECONDS)
+        self.assertEqual(128 + signal.SIGPIPE, process.wait(SECONDS))
         process.stdout = process.stderr = None
 
     def test_watch_prints_the_table_each_time_that_it_changes(self):

@@ -7,6 +7,7 @@ import asyncio
 import contextlib
 import logging
 import os
+import signal
 import sys
 import time
 from collections.abc import Callable
@@ -33,6 +34,7 @@ exit status: that of the command (128 and the signal's number, where one ended i
   77   the server refused the token, the target, the origin or the request, or gives no fencing tokens
   126  the command can't be run
   127  there is no such command
+  141  whoever read the output has gone
 """
 
 
@@ -50,7 +52,7 @@ def main(words: list[str] | None = None) -> int:
     except BrokenPipeError:
         # Whoever read the output has gone; the interpreter's own last flush would complain.
         os.dup2(os.open(os.devnull, os.O_WRONLY), sys.stdout.fileno())
-        return NO_SERVER
+        return BY_SIGNAL + signal.SIGPIPE
 
 
 def split_command(words: list[str]) -> tuple[list[str], list[str] | None]:

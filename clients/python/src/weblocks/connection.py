@@ -11,7 +11,7 @@ from websockets.exceptions import ConnectionClosed
 from .eager import start
 from .errors import Disconnected, Forbidden
 from .messages import POLL, BadReply, Message, Reply, read_reply, write_message
-from .transport import CLOSE_SECONDS, FENCES, PUSHES, Options, Socket, open_socket
+from .transport import CLOSE_SECONDS, FENCES, PUSHES, Options, Socket, open_socket, sends_in_tasks
 
 Answer = Callable[[Reply], None]
 Failure = Callable[[Disconnected], None]
@@ -42,6 +42,7 @@ class Connection:
         self._next_id = 1
         self._outbox: deque[str] = deque()
         self._writing: asyncio.Task[None] | None = None
+        self._writes_in_task = sends_in_tasks(socket)
         self._asked: deque[tuple[int, Answer, Failure | None]] = deque()
         self._polls_wanted = False
         self._poll_timer: asyncio.TimerHandle | None = None
@@ -71,7 +72,7 @@ class Connection:
         self._asked.append((id, answer, failure))
         self._outbox.append(write_message(id, message))
         if self._writing is None or self._writing.done():
-            self._writing = start(self._write())
+            self._writing = start(self._write(), self._writes_in_task)
 
     async def call(self, message: Message) -> Reply:
         """Sends a message and waits for its reply; raises Disconnected where the connection is lost first."""
@@ -127,7 +128,7 @@ class Connection:
             self.lose(Disconnected(f"the server sent what is no reply: {error}"))
 
     async def _write(self) -> None:
-        """Sends what is to be sent. It begins at once, so the order of messages is that of the calls of `ask`."""
+        """Sends what is to be sent. One at a time does so, so the order of messages is that of the calls of `ask`."""
         try:
             while self._outbox:
                 await self._socket.send(self._outbox.popleft())
@@ -158,9 +159,10 @@ class Connection:
         self.want_polls(self._polls_wanted)
 
     def _begin_beat(self) -> None:
+        """Asks for a sign of life, and looks for it later, even where the asking fails."""
         self._replied = False
-        self.ask(POLL, lambda _reply: None)
         self._beat = self._loop.call_later(self._options.heartbeat, self._look_for_life)
+        self.ask(POLL, lambda _reply: None)
 
     def _look_for_life(self) -> None:
         """A reply that came while other work kept the event loop busy is given the time to be read first."""

@@ -196,9 +196,12 @@ class Dispatcher:
     async def _try_open(self) -> Agent | None:
         try:
             agent = await Agent.open(self._options, self)
-        except (Disconnected, Refused) as error:
+        except Exception as error:
+            # Whatever a library raises, the next try may succeed.
             if isinstance(error, Forbidden) and self._agent is None:
                 self._end(error)
+            elif not isinstance(error, (Disconnected, Refused)):
+                logger.warning("no connection: %r", error)
             return None
         return agent if agent.lost is None else None
 

@@ -3,21 +3,34 @@
 from __future__ import annotations
 
 import asyncio
+import sys
 from collections.abc import Callable, Coroutine, Generator
 from typing import Any
 
 
-def start(work: Coroutine[Any, Any, None]) -> asyncio.Task[None] | None:
+def start(work: Coroutine[Any, Any, None], in_task: bool = False) -> asyncio.Task[None] | None:
     """Runs the coroutine's first step now, and the rest as a task; None where it has come to its end.
 
-    A task begins only when the event loop comes to it, which costs a turn of the loop. (From Python 3.12 on, a task
-    with `eager_start` does the same.)
+    A task begins only when the event loop comes to it, which costs a turn of the loop. So that step runs in the task of
+    whoever calls, or in none where a timer does. What looks for its task, as `asyncio.timeout` does to cancel it, is to
+    run `in_task`: in one of its own from its first step on. Such a task begins at once too from Python 3.12 on, and
+    before that in the loop's next turn.
     """
+    if in_task:
+        return _start_task(work)
     try:
         awaited = work.send(None)
     except StopIteration:
         return None
     return asyncio.get_running_loop().create_task(_finish(_Rest(work, awaited)))
+
+
+def _start_task(work: Coroutine[Any, Any, None]) -> asyncio.Task[None] | None:
+    loop = asyncio.get_running_loop()
+    if sys.version_info >= (3, 12):
+        task = asyncio.Task(work, loop=loop, eager_start=True)
+        return None if task.done() else task
+    return loop.create_task(work)
 
 
 async def _finish(rest: _Rest) -> None:

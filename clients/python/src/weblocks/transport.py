@@ -89,22 +89,31 @@ class Options:
 async def open_socket(options: Options) -> Socket:
     """Connects, and offers pushes, with fencing tokens if they are wanted; the chosen subprotocol says what there is.
 
-    A server that refuses a handshake with subprotocols is tried without. Raises ValueError for a bad URL, Forbidden
-    where the token or the target is refused, and Disconnected where no server answers.
+    A server that refuses a handshake with subprotocols, and may do so because of them, is tried without. Raises
+    ValueError for a bad URL, Forbidden where the token or the target is refused, and Disconnected where no server
+    answers.
     """
     if options.opener is not None:
         return await options.opener(options)
     try:
         return await _connect(options, [FENCES, PUSHES] if options.fences else [PUSHES])
     except InvalidHandshake as error:
-        if _status(error) in (401, 403, 503):
+        if _has_other_reason(error):
             raise _explain(options, error) from error
-    except (InvalidURI, OSError, asyncio.TimeoutError) as error:
+    except (InvalidURI, EOFError, OSError, asyncio.TimeoutError) as error:
         raise _explain(options, error) from error
     try:
         return await _connect(options, None)
-    except (InvalidHandshake, InvalidURI, OSError, asyncio.TimeoutError) as error:
+    except (InvalidHandshake, InvalidURI, EOFError, OSError, asyncio.TimeoutError) as error:
         raise _explain(options, error) from error
+
+
+def sends_in_tasks(socket: Socket) -> bool:
+    """Whether it is to send in tasks alone, as a connection of the library's newer interface.
+
+    While that closes, its `send` sets a timeout, by which the task that called it is cancelled.
+    """
+    return type(socket).__module__.startswith("websockets.asyncio.")
 
 
 def _find_library() -> tuple[Any, str]:
@@ -157,23 +166,46 @@ def _status(error: BaseException) -> int | None:
     return status if isinstance(status, int) else None
 
 
+def _is_cut(error: BaseException) -> bool:
+    """Whether the connection ended before its handshake was answered, as either interface of the library has it."""
+    if isinstance(error, InvalidHandshake):
+        return isinstance(error.__cause__, (EOFError, OSError))
+    return isinstance(error, EOFError)
+
+
+def _has_other_reason(error: InvalidHandshake) -> bool:
+    """Whether a handshake failed for another reason than its subprotocols, as that a proxy reaches no daemon.
+
+    Such a reason may be gone a moment later. A handshake without subprotocols would succeed then, and its connection be
+    polled and have no fencing tokens, for as long as it lasts.
+    """
+    status = _status(error)
+    if status is None:
+        return _is_cut(error)
+    return status in (401, 403) or status >= 500
+
+
 def _explain(options: Options, error: Exception) -> Exception:
     """What to raise for an error of the library or the system."""
-    if isinstance(error, InvalidURI):
-        return ValueError(f"{options.url!r} is no URL of a WebSocket server, such as ws://127.0.0.1:8080")
     server = f"the server at {options.url}"
+    if isinstance(error, InvalidURI):
+        if error.uri != _url(options):
+            return Disconnected(f"{server} redirects to {error.uri!r}, which is no URL of a WebSocket server")
+        return ValueError(f"{options.url!r} is no URL of a WebSocket server, such as ws://127.0.0.1:8080")
     status = _status(error)
     if status in (401, 403):
         fault = "wants a token" if options.token is None else "refused the token"
         return Forbidden(f"{server} {fault} (HTTP status {status})")
     if status == 400:
         return Forbidden(f"{server} refused the handshake for {_url(options)} (HTTP status 400)")
-    if status == 503:
-        return Disconnected(f"{server} has no room for a further client, or reaches no daemon (HTTP status 503)")
+    if status is not None and status >= 500:
+        return Disconnected(f"{server} has no room for a further client, or reaches no daemon (HTTP status {status})")
     if status is not None:
         return Disconnected(f"{server} does not speak WebSocket here (HTTP status {status})")
     if isinstance(error, asyncio.TimeoutError):
         return Disconnected(f"{server} did not answer in {options.open_timeout:g} seconds")
+    if _is_cut(error):
+        return Disconnected(f"{server} ended the connection before it answered")
     if isinstance(error, InvalidHandshake):
         return Disconnected(f"{server} does not speak WebSocket: {error}")
     # Errors of TLS have numbers of their own, which aren't the system's.
