@@ -12,11 +12,11 @@ from tempfile import TemporaryDirectory
 
 from checkouts import TOP
 from daemon_server import handshake
-from operate_lead import MORE, TTL, Candidate, Etcd
-from operate_needs import PYTHON, Checks, Needs, environment, ran, text_of
+from operate_candidates import MORE, TTL, Candidate, Client, Etcd
+from operate_needs import Checks, Needs, environment, ran, text_of
 from operate_package import Built
-from operate_proxies import ASKS_AGAIN, free_port, replaced, served
-from running import SECONDS, Wrong, expect, read_line
+from operate_proxies import free_port, replaced, served
+from running import SECONDS, Wrong
 
 # The most that HAProxy takes to see that a server is there, and that one isn't: two checks, a second apart, of three
 # seconds each.
@@ -81,28 +81,6 @@ class Pair:
         self.etcd.end()
 
 
-class Client:
-    """A client of clients/python, which asks for a lock, and once more when it is told to."""
-
-    def __init__(self, port: int) -> None:
-        words = [PYTHON, "-c", ASKS_AGAIN, f"ws://127.0.0.1:{port}/"]
-        there = {**environment(), "PYTHONPATH": str(TOP / "clients/python/src")}
-        pipes = {"stdin": subprocess.PIPE, "stdout": subprocess.PIPE, "stderr": subprocess.DEVNULL}
-        self.child = subprocess.Popen(words, env=there, **pipes)
-        self.hear("held", 3 * SECONDS)
-
-    def hear(self, words: str, seconds: float) -> None:
-        assert self.child.stdout
-        line = read_line(self.child.stdout.fileno(), time.monotonic() + seconds).decode().strip()
-        expect("what the client says", line, words)
-
-    def ask(self, seconds: float) -> None:
-        assert self.child.stdin
-        self.child.stdin.write(b"\n")
-        self.child.stdin.flush()
-        self.hear("held again", seconds)
-
-
 @contextmanager
 def pair_of(built: Built) -> Iterator[tuple[Pair, Candidate, Candidate]]:
     """The pair, who leads and who doesn't, and HAProxy in front."""
@@ -140,10 +118,9 @@ def changes_over(built: Built, number: signal.Signals) -> None:
             leader.kill_all(number)
             other.lead(TTL + MORE)
             until_answered(pair.port, 101, SEEN + MISSED)
-            client.ask(3 * SECONDS)
+            client.ask()
         finally:
-            client.child.kill()
-            client.child.communicate()
+            client.end()
 
 
 def both_are_down(built: Built) -> None:

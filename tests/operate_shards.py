@@ -14,7 +14,7 @@ from urllib.parse import quote
 
 from checkouts import TOP
 from daemon_server import Closed
-from operate_lead import MORE, TTL, Candidate, Etcd, until
+from operate_candidates import MORE, TTL, Candidate, Etcd, until
 from operate_needs import PYTHON, Checks, Needs, environment
 from operate_package import Built
 from operate_pair import HOST, MISSED, SEEN, haproxy_of, words_of
