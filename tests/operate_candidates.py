@@ -8,6 +8,7 @@ import subprocess
 import threading
 import time
 from collections.abc import Callable, Sequence
+from contextlib import ExitStack
 from pathlib import Path
 
 from checkouts import TOP
@@ -52,7 +53,10 @@ class Etcd:
         words += ["--initial-advertise-peer-urls", peers, "--initial-cluster", f"default={peers}"]
         quiet = {"stdin": subprocess.DEVNULL, "stdout": subprocess.DEVNULL, "stderr": subprocess.DEVNULL}
         self.child = subprocess.Popen(words, env=environment(), **quiet)
-        until(lambda: is_reached(self.port), 3 * SECONDS, "etcd never answered")
+        with ExitStack() as begun:
+            begun.callback(self.end)
+            until(lambda: is_reached(self.port), 3 * SECONDS, "etcd never answered")
+            begun.pop_all()
 
     def end(self) -> None:
         self.child.kill()
@@ -72,10 +76,11 @@ class Relay:
         while True:
             try:
                 near, _ = self.listener.accept()
+            except OSError:
+                return
+            try:
                 far = socket.create_connection(("127.0.0.1", self.target or 1), SECONDS)
             except OSError:
-                if self.listener.fileno() < 0:
-                    return
                 near.close()
                 continue
             far.settimeout(None)
@@ -197,7 +202,10 @@ class Client:
         there = {**environment(), "PYTHONPATH": str(TOP / "clients/python/src")}
         pipes = {"stdin": subprocess.PIPE, "stdout": subprocess.PIPE, "stderr": subprocess.DEVNULL}
         self.child = subprocess.Popen(words, env=there, **pipes)
-        self.hear("held")
+        with ExitStack() as begun:
+            begun.callback(self.end)
+            self.hear("held")
+            begun.pop_all()
 
     def hear(self, words: str) -> None:
         assert self.child.stdout

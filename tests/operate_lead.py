@@ -5,11 +5,12 @@ import signal
 import subprocess
 import time
 from collections.abc import Iterator
-from contextlib import contextmanager
+from contextlib import ExitStack, contextmanager
 from functools import partial
 from pathlib import Path
 from shutil import which
 from tempfile import TemporaryDirectory
+from typing import Any
 
 from checkouts import TOP
 from daemon_server import Closed
@@ -29,12 +30,21 @@ class Pair:
     """Two candidates, of which the first leads, and a client that reaches whoever serves."""
 
     def __init__(self, built: Built, room: Path, ttl: int) -> None:
-        self.etcd = Etcd(room)
-        self.way = Relay(self.etcd.port)
-        self.first = Candidate(built.program, self.way.port, ttl).lead(3 * SECONDS)
-        self.second = Candidate(built.program, self.etcd.port, ttl)
-        self.front = Relay(self.first.port)
-        self.client = Client(self.front.port)
+        with ExitStack() as begun:
+            self.etcd = Etcd(room)
+            begun.callback(self.etcd.end)
+            self.way = Relay(self.etcd.port)
+            begun.callback(self.way.cut)
+            self.first = Candidate(built.program, self.way.port, ttl)
+            begun.callback(self.first.end)
+            self.first.lead(3 * SECONDS)
+            self.second = Candidate(built.program, self.etcd.port, ttl)
+            begun.callback(self.second.end)
+            self.front = Relay(self.first.port)
+            begun.callback(self.front.cut)
+            self.client = Client(self.front.port)
+            begun.callback(self.client.end)
+            self.end = begun.pop_all().close
 
     def hand_over(self, seconds: float, before: str) -> None:
         """The second one serves within so many seconds, with a greater token, and the client asks it again."""
@@ -43,14 +53,6 @@ class Pair:
         self.front.target = self.second.port
         self.front.drop()
         self.client.ask()
-
-    def end(self) -> None:
-        for it in (self.first, self.second):
-            it.end()
-        self.client.end()
-        self.front.cut()
-        self.way.cut()
-        self.etcd.end()
 
 
 @contextmanager
@@ -61,6 +63,17 @@ def pair_of(built: Built, ttl: int = TTL) -> Iterator[Pair]:
             yield pair
         finally:
             pair.end()
+
+
+@contextmanager
+def leader_of(built: Built, room: Path, *options: str, **how: Any) -> Iterator[Candidate]:
+    """One candidate with an etcd of its own, once it leads."""
+    with ExitStack() as begun:
+        etcd = Etcd(room)
+        begun.callback(etcd.end)
+        leader = Candidate(built.program, etcd.port, TTL, *options, **how)
+        begun.callback(leader.end)
+        yield leader.lead(3 * SECONDS)
 
 
 def daemon_is_killed(built: Built) -> None:
@@ -131,18 +144,12 @@ def status_wants_a_token(built: Built) -> None:
         for file, token in ((tokens, "old"), (fresh, "new")):
             file.touch(0o600)
             file.write_text(f"narrow https://b.test\n{token}\n")
-        etcd, options = Etcd(room), ("--token-file", str(tokens))
-        leader = Candidate(built.program, etcd.port, TTL, *options, shown_at="0.0.0.0")
-        try:
-            leader.lead(3 * SECONDS)
+        with leader_of(built, room, "--token-file", str(tokens), shown_at="0.0.0.0") as leader:
             time.sleep(REFUSED)
             expect("how the leader ended", leader.child.poll(), None)
             fresh.replace(tokens)
             time.sleep(READ_AGAIN + REFUSED)
             expect("how it ended with other tokens", leader.child.poll(), None)
-        finally:
-            leader.end()
-            etcd.end()
 
 
 def leads_under_the_filter(built: Built) -> None:
@@ -151,15 +158,10 @@ def leads_under_the_filter(built: Built) -> None:
         room = Path(name)
         calls = room / "calls"
         calls.write_text("\n".join(sorted(calls_left(built, LEAD))))
-        etcd = Etcd(room)
-        leader = Candidate(built.program, etcd.port, TTL, before=[PYTHON, FILTER, calls])
-        try:
-            leader.lead(3 * SECONDS).token()
+        with leader_of(built, room, before=[PYTHON, FILTER, calls]) as leader:
+            leader.token()
             time.sleep(REFUSED)
             expect("how the leader ended", leader.child.poll(), None)
-        finally:
-            leader.end()
-            etcd.end()
 
 
 def wrong_words() -> None:

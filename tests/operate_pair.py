@@ -5,7 +5,7 @@ import socket
 import subprocess
 import time
 from collections.abc import Iterator, Sequence
-from contextlib import contextmanager
+from contextlib import ExitStack, contextmanager
 from functools import partial
 from pathlib import Path
 from tempfile import TemporaryDirectory
@@ -65,20 +65,23 @@ class Pair:
     """Two candidates, of which the first leads, and a client that reaches them by HAProxy."""
 
     def __init__(self, built: Built, room: Path) -> None:
-        self.etcd = Etcd(room)
-        first = Candidate(built.program, self.etcd.port, TTL, "--status-host", HOST).lead(3 * SECONDS)
-        self.candidates = (first, Candidate(built.program, self.etcd.port, TTL, "--status-host", HOST))
         self.port = free_port()
+        with ExitStack() as begun:
+            etcd = Etcd(room)
+            begun.callback(etcd.end)
+            words = (built.program, etcd.port, TTL, "--status-host", HOST)
+            first = Candidate(*words)
+            begun.callback(first.end)
+            first.lead(3 * SECONDS)
+            second = Candidate(*words)
+            begun.callback(second.end)
+            self.candidates = (first, second)
+            self.end = begun.pop_all().close
 
     def words(self, room: Path) -> list[str]:
         """How HAProxy is started with the repository's file."""
         text = FRONT.format(port=self.port) + (TOP / "deploy/haproxy-pair.cfg").read_text()
         return words_of(room, text, self.candidates, ("maxconn 10000", "maxconn 1000"))
-
-    def end(self) -> None:
-        for it in self.candidates:
-            it.end()
-        self.etcd.end()
 
 
 @contextmanager
