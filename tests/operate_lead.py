@@ -17,6 +17,7 @@ from daemon_server import Closed
 from operate_candidates import MORE, TTL, Candidate, Client, Etcd, Relay, token_in
 from operate_needs import PYTHON, Checks, Needs
 from operate_package import Built
+from operate_proxies import free_port
 from operate_service import FILTER, LEAD, calls_left
 from running import SECONDS, expect
 
@@ -152,6 +153,16 @@ def status_wants_a_token(built: Built) -> None:
             expect("how it ended with other tokens", leader.child.poll(), None)
 
 
+def proxy_is_passed_by(built: Built) -> None:
+    """The environment names a proxy, which isn't there: the daemon's health is asked of the daemon itself."""
+    proxy = f"http://127.0.0.1:{free_port()}"
+    named = [f"{it}={proxy}" for it in ("http_proxy", "https_proxy", "all_proxy")]
+    before = ["env", "--unset=no_proxy", "--unset=NO_PROXY", *named]
+    with TemporaryDirectory() as room, leader_of(built, Path(room), before=before) as leader:
+        time.sleep(REFUSED)
+        expect("how the leader ended", leader.child.poll(), None)
+
+
 def leads_under_the_filter(built: Built) -> None:
     """Under the unit's filter, with lead.conf beside it, there is a leader, and the daemon's health is asked for."""
     with TemporaryDirectory() as name:
@@ -198,6 +209,7 @@ def lead_checks(built: Built, needs: Needs) -> Checks:
         yield "a leader that loses etcd", partial(etcd_is_lost, built)
         yield "an etcd that is away for a moment", partial(etcd_is_away_for_a_moment, built)
         yield "a leader whose status wants a token", partial(status_wants_a_token, built)
+        yield "a leader whose environment names a proxy", partial(proxy_is_passed_by, built)
 
     yield "lead's words", wrong_words
     yield "what lead calls is missing", missing_commands
