@@ -13,8 +13,9 @@ from pathlib import Path
 
 from checkouts import TOP
 from daemon_server import Peer
+from network import free_port
 from operate_needs import PYTHON, environment
-from operate_proxies import ASKS_AGAIN, free_port
+from operate_proxies import ASKS_AGAIN
 from running import SECONDS, Wrong, expect, read_line
 
 # After how many seconds etcd gives the lead to another one, and what may be added to it until that one serves.

@@ -14,10 +14,10 @@ from typing import Any
 
 from checkouts import TOP
 from daemon_server import Closed
+from network import free_port
 from operate_candidates import MORE, TTL, Candidate, Client, Etcd, Relay, token_in
 from operate_needs import PYTHON, Checks, Needs
 from operate_package import Built
-from operate_proxies import free_port
 from operate_service import FILTER, LEAD, calls_left
 from running import SECONDS, expect
 

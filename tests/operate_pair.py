@@ -12,10 +12,11 @@ from tempfile import TemporaryDirectory
 
 from checkouts import TOP
 from daemon_server import handshake
+from network import free_port
 from operate_candidates import MORE, TTL, Candidate, Client, Etcd
 from operate_needs import Checks, Needs, environment, ran, text_of
 from operate_package import Built
-from operate_proxies import free_port, replaced, served
+from operate_proxies import replaced, served
 from running import SECONDS, Wrong
 
 # The most that HAProxy takes to see that a server is there, and that one isn't: two checks, a second apart, of three

@@ -14,11 +14,12 @@ from urllib.parse import quote
 
 from checkouts import TOP
 from daemon_server import Closed
+from network import free_port
 from operate_candidates import MORE, TTL, Candidate, Etcd, until
 from operate_needs import PYTHON, Checks, Needs, environment
 from operate_package import Built
 from operate_pair import HOST, MISSED, SEEN, haproxy_of, words_of
-from operate_proxies import Certificate, Haproxy, TlsPeer, free_port, without_ipv6
+from operate_proxies import Certificate, Haproxy, TlsPeer, without_ipv6
 from running import SECONDS, Wrong, expect
 
 # What has a daemon take the targets of its own origins alone.
