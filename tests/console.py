@@ -95,6 +95,11 @@ def refuse_gate(command: Command) -> None:
         raise Wrong(f"line {command.line}: {found[1]} can't be run here, {why}")
 
 
+def raise_it(why: Wrong) -> None:
+    """Fails the check that stands in the place of a document's blocks."""
+    raise why
+
+
 # It takes the names of files with commands, runs each in turn, and tells the status of each.
 SHELL = """
 while IFS= read -r -u "$1" file; do

@@ -22,10 +22,10 @@ BY_CONNECTIONS = [
 ]
 
 
-def free_port():
+def free_port() -> int:
     with socket.socket() as it:
         it.bind(("127.0.0.1", 0))
-        return it.getsockname()[1]
+        return int(it.getsockname()[1])
 
 
 class Serving:

@@ -1,223 +1,51 @@
 """deploy/lead: of two candidates and one etcd one serves, and where it ends, hangs or is cut off the other one does."""
 
-import json
 import os
 import signal
-import socket
 import subprocess
-import threading
 import time
-from collections.abc import Callable, Iterator, Sequence
-from contextlib import contextmanager
+from collections.abc import Iterator
+from contextlib import ExitStack, contextmanager
 from functools import partial
 from pathlib import Path
 from shutil import which
 from tempfile import TemporaryDirectory
+from typing import Any
 
 from checkouts import TOP
-from daemon_server import Closed, Peer
-from operate_needs import PYTHON, Checks, Needs, environment
+from daemon_server import Closed
+from network import free_port
+from operate_candidates import MORE, TTL, Candidate, Client, Etcd, Relay, token_in
+from operate_needs import PYTHON, Checks, Needs
 from operate_package import Built
-from operate_proxies import ASKS_AGAIN, free_port
 from operate_service import FILTER, LEAD, calls_left
-from running import SECONDS, Wrong, expect, read_line
+from running import SECONDS, expect
 
-# After how many seconds etcd gives the lead to another one, and what may be added to it until that one serves.
-TTL, MORE = 4, 2
 # The most that three health checks take, with the pauses between them, and where each is answered at once.
 HEALTH, REFUSED = 3 * (3 + 1), 3 * 1 + 2
 # After how many seconds at most the daemon has read its file of tokens again.
 READ_AGAIN = 5
-FENCES = "Sec-WebSocket-Protocol: weblocks.fence"
-URL = "https://a.test/"
-
-
-class Etcd:
-    """One etcd on free ports. Its data outlives an end."""
-
-    def __init__(self, room: Path) -> None:
-        self.room, self.port, self.other = room, free_port(), free_port()
-        self.start()
-
-    def start(self) -> None:
-        clients, peers = f"http://127.0.0.1:{self.port}", f"http://127.0.0.1:{self.other}"
-        words = ["etcd", "--data-dir", f"{self.room}/etcd", "--listen-client-urls", clients]
-        words += ["--advertise-client-urls", clients, "--listen-peer-urls", peers]
-        words += ["--initial-advertise-peer-urls", peers, "--initial-cluster", f"default={peers}"]
-        quiet = {"stdin": subprocess.DEVNULL, "stdout": subprocess.DEVNULL, "stderr": subprocess.DEVNULL}
-        self.child = subprocess.Popen(words, env=environment(), **quiet)
-        until(lambda: is_reached(self.port), 3 * SECONDS, "etcd never answered")
-
-    def end(self) -> None:
-        self.child.kill()
-        self.child.wait()
-
-
-class Relay:
-    """Hands connections on to a port, which may change, until it is cut off."""
-
-    def __init__(self, target: int | None) -> None:
-        self.target, self.pairs = target, list[socket.socket]()
-        self.listener = socket.create_server(("127.0.0.1", 0))
-        self.port = int(self.listener.getsockname()[1])
-        threading.Thread(target=self.accept, daemon=True).start()
-
-    def accept(self) -> None:
-        while True:
-            try:
-                near, _ = self.listener.accept()
-                far = socket.create_connection(("127.0.0.1", self.target or 1), SECONDS)
-            except OSError:
-                if self.listener.fileno() < 0:
-                    return
-                near.close()
-                continue
-            far.settimeout(None)
-            self.pairs += [near, far]
-            for source, sink in ((near, far), (far, near)):
-                threading.Thread(target=copy, args=(source, sink), daemon=True).start()
-
-    def drop(self) -> None:
-        """Ends all connections that there are."""
-        for it in self.pairs:
-            end(it)
-        self.pairs = []
-
-    def cut(self) -> None:
-        """Takes no further ones either, which whoever waits for one has to be told."""
-        if self.listener.fileno() >= 0:
-            self.listener.shutdown(socket.SHUT_RDWR)
-            self.listener.close()
-        self.drop()
-
-
-def copy(source: socket.socket, sink: socket.socket) -> None:
-    """Where one side ends or is reset the other one is told."""
-    try:
-        while data := source.recv(65536):
-            sink.sendall(data)
-    except OSError:
-        pass
-    finally:
-        end(sink)
-
-
-def end(it: socket.socket) -> None:
-    try:
-        it.shutdown(socket.SHUT_RDWR)
-    except OSError:
-        pass
-
-
-def is_reached(port: int) -> bool:
-    try:
-        socket.create_connection(("127.0.0.1", port), 1).close()
-    except OSError:
-        return False
-    return True
-
-
-def until(holds: Callable[[], bool], seconds: float, otherwise: str) -> None:
-    end = time.monotonic() + seconds
-    while not holds():
-        if time.monotonic() > end:
-            raise Wrong(otherwise)
-        time.sleep(0.05)
-
-
-class Candidate:
-    """deploy/lead with a daemon of its own, in a group of processes of its own."""
-
-    def __init__(
-        self,
-        program: Path,
-        etcd: int,
-        ttl: int,
-        *options: str,
-        name: str = "locks",
-        shown_at: str = "127.0.0.1",
-        before: Sequence[str | Path] = (),
-    ) -> None:
-        self.listen, self.status = free_port(), free_port()
-        words = [*before, TOP / "deploy/lead", "--ttl", str(ttl), name, "--", program, "daemon", *options]
-        words += ["--listen", f"127.0.0.1:{self.listen}", "--status", f"{shown_at}:{self.status}"]
-        there = {**environment(), "ETCDCTL_ENDPOINTS": f"http://127.0.0.1:{etcd}"}
-        pipes = {"stdin": subprocess.DEVNULL, "stdout": subprocess.PIPE, "stderr": subprocess.PIPE}
-        self.child = subprocess.Popen(words, env=there, start_new_session=True, **pipes)
-        self.port = 0
-
-    def lead(self, seconds: float) -> "Candidate":
-        """Waits until its daemon serves."""
-        assert self.child.stdout
-        line = read_line(self.child.stdout.fileno(), time.monotonic() + seconds).decode()
-        if not line.startswith("listening "):
-            raise Wrong(f"after {seconds} seconds it wrote {line!r}")
-        self.port = int(line.rpartition(":")[2])
-        return self
-
-    def daemon(self) -> int:
-        """The daemon's number."""
-        words = ["pgrep", "--parent", str(self.child.pid), "--full", " daemon "]
-        found = subprocess.run(words, capture_output=True).stdout.split()
-        if len(found) != 1:
-            raise Wrong(f"it has {len(found)} daemons")
-        return int(found[0])
-
-    def kill_all(self, number: signal.Signals) -> None:
-        try:
-            os.killpg(self.child.pid, number)
-        except ProcessLookupError:
-            pass
-
-    def end(self) -> None:
-        self.kill_all(signal.SIGCONT)
-        self.kill_all(signal.SIGKILL)
-        self.child.communicate()
-
-    def ends_within(self, seconds: float) -> None:
-        try:
-            self.child.wait(seconds)
-        except subprocess.TimeoutExpired:
-            raise Wrong(f"it went on for {seconds} seconds") from None
-
-    def peer(self) -> Peer:
-        peer = Peer(self.port, FENCES)
-        peer.ask('{"id":0,"op":"open","url":"%s"}' % URL)
-        return peer
-
-    def token(self) -> str:
-        """That of a lock, once it is granted: it may still be held by a peer that was just dropped."""
-        peer = self.peer()
-        text = peer.ask('{"id":1,"op":"request","name":"db"}')
-        while "fences" not in json.loads(text):
-            text = peer.get()
-        peer.drop()
-        return token_in(text)
-
-
-def token_in(text: str) -> str:
-    return str(json.loads(text)["fences"][0]["fence"])
 
 
 class Pair:
     """Two candidates, of which the first leads, and a client that reaches whoever serves."""
 
     def __init__(self, built: Built, room: Path, ttl: int) -> None:
-        self.etcd = Etcd(room)
-        self.way = Relay(self.etcd.port)
-        self.first = Candidate(built.program, self.way.port, ttl).lead(3 * SECONDS)
-        self.second = Candidate(built.program, self.etcd.port, ttl)
-        self.front = Relay(self.first.port)
-        words = [PYTHON, "-c", ASKS_AGAIN, f"ws://127.0.0.1:{self.front.port}/"]
-        there = {**environment(), "PYTHONPATH": str(TOP / "clients/python/src")}
-        pipes = {"stdin": subprocess.PIPE, "stdout": subprocess.PIPE, "stderr": subprocess.DEVNULL}
-        self.client = subprocess.Popen(words, env=there, **pipes)
-        self.hear("held")
-
-    def hear(self, words: str) -> None:
-        assert self.client.stdout
-        line = read_line(self.client.stdout.fileno(), time.monotonic() + 3 * SECONDS).decode().strip()
-        expect("what the client says", line, words)
+        with ExitStack() as begun:
+            self.etcd = Etcd(room)
+            begun.callback(self.etcd.end)
+            self.way = Relay(self.etcd.port)
+            begun.callback(self.way.cut)
+            self.first = Candidate(built.program, self.way.port, ttl)
+            begun.callback(self.first.end)
+            self.first.lead(3 * SECONDS)
+            self.second = Candidate(built.program, self.etcd.port, ttl)
+            begun.callback(self.second.end)
+            self.front = Relay(self.first.port)
+            begun.callback(self.front.cut)
+            self.client = Client(self.front.port)
+            begun.callback(self.client.end)
+            self.end = begun.pop_all().close
 
     def hand_over(self, seconds: float, before: str) -> None:
         """The second one serves within so many seconds, with a greater token, and the client asks it again."""
@@ -225,19 +53,7 @@ class Pair:
         expect("whether the new token is greater", self.second.token() > before, True)
         self.front.target = self.second.port
         self.front.drop()
-        assert self.client.stdin
-        self.client.stdin.write(b"\n")
-        self.client.stdin.flush()
-        self.hear("held again")
-
-    def end(self) -> None:
-        for it in (self.first, self.second):
-            it.end()
-        self.client.kill()
-        self.client.communicate()
-        self.front.cut()
-        self.way.cut()
-        self.etcd.end()
+        self.client.ask()
 
 
 @contextmanager
@@ -248,6 +64,17 @@ def pair_of(built: Built, ttl: int = TTL) -> Iterator[Pair]:
             yield pair
         finally:
             pair.end()
+
+
+@contextmanager
+def leader_of(built: Built, room: Path, *options: str, **how: Any) -> Iterator[Candidate]:
+    """One candidate with an etcd of its own, once it leads."""
+    with ExitStack() as begun:
+        etcd = Etcd(room)
+        begun.callback(etcd.end)
+        leader = Candidate(built.program, etcd.port, TTL, *options, **how)
+        begun.callback(leader.end)
+        yield leader.lead(3 * SECONDS)
 
 
 def daemon_is_killed(built: Built) -> None:
@@ -318,18 +145,22 @@ def status_wants_a_token(built: Built) -> None:
         for file, token in ((tokens, "old"), (fresh, "new")):
             file.touch(0o600)
             file.write_text(f"narrow https://b.test\n{token}\n")
-        etcd, options = Etcd(room), ("--token-file", str(tokens))
-        leader = Candidate(built.program, etcd.port, TTL, *options, shown_at="0.0.0.0")
-        try:
-            leader.lead(3 * SECONDS)
+        with leader_of(built, room, "--token-file", str(tokens), shown_at="0.0.0.0") as leader:
             time.sleep(REFUSED)
             expect("how the leader ended", leader.child.poll(), None)
             fresh.replace(tokens)
             time.sleep(READ_AGAIN + REFUSED)
             expect("how it ended with other tokens", leader.child.poll(), None)
-        finally:
-            leader.end()
-            etcd.end()
+
+
+def proxy_is_passed_by(built: Built) -> None:
+    """The environment names a proxy, which isn't there: the daemon's health is asked of the daemon itself."""
+    proxy = f"http://127.0.0.1:{free_port()}"
+    named = [f"{it}={proxy}" for it in ("http_proxy", "https_proxy", "all_proxy")]
+    before = ["env", "--unset=no_proxy", "--unset=NO_PROXY", *named]
+    with TemporaryDirectory() as room, leader_of(built, Path(room), before=before) as leader:
+        time.sleep(REFUSED)
+        expect("how the leader ended", leader.child.poll(), None)
 
 
 def leads_under_the_filter(built: Built) -> None:
@@ -338,15 +169,10 @@ def leads_under_the_filter(built: Built) -> None:
         room = Path(name)
         calls = room / "calls"
         calls.write_text("\n".join(sorted(calls_left(built, LEAD))))
-        etcd = Etcd(room)
-        leader = Candidate(built.program, etcd.port, TTL, before=[PYTHON, FILTER, calls])
-        try:
-            leader.lead(3 * SECONDS).token()
+        with leader_of(built, room, before=[PYTHON, FILTER, calls]) as leader:
+            leader.token()
             time.sleep(REFUSED)
             expect("how the leader ended", leader.child.poll(), None)
-        finally:
-            leader.end()
-            etcd.end()
 
 
 def wrong_words() -> None:
@@ -383,6 +209,7 @@ def lead_checks(built: Built, needs: Needs) -> Checks:
         yield "a leader that loses etcd", partial(etcd_is_lost, built)
         yield "an etcd that is away for a moment", partial(etcd_is_away_for_a_moment, built)
         yield "a leader whose status wants a token", partial(status_wants_a_token, built)
+        yield "a leader whose environment names a proxy", partial(proxy_is_passed_by, built)
 
     yield "lead's words", wrong_words
     yield "what lead calls is missing", missing_commands

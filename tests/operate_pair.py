@@ -5,18 +5,19 @@ import socket
 import subprocess
 import time
 from collections.abc import Iterator, Sequence
-from contextlib import contextmanager
+from contextlib import ExitStack, contextmanager
 from functools import partial
 from pathlib import Path
 from tempfile import TemporaryDirectory
 
 from checkouts import TOP
 from daemon_server import handshake
-from operate_lead import MORE, TTL, Candidate, Etcd
-from operate_needs import PYTHON, Checks, Needs, environment, ran, text_of
+from network import free_port
+from operate_candidates import MORE, TTL, Candidate, Client, Etcd
+from operate_needs import Checks, Needs, environment, ran, text_of
 from operate_package import Built
-from operate_proxies import ASKS_AGAIN, free_port, replaced, served
-from running import SECONDS, Wrong, expect, read_line
+from operate_proxies import replaced, served
+from running import SECONDS, Wrong
 
 # The most that HAProxy takes to see that a server is there, and that one isn't: two checks, a second apart, of three
 # seconds each.
@@ -65,42 +66,23 @@ class Pair:
     """Two candidates, of which the first leads, and a client that reaches them by HAProxy."""
 
     def __init__(self, built: Built, room: Path) -> None:
-        self.etcd = Etcd(room)
-        first = Candidate(built.program, self.etcd.port, TTL, "--status-host", HOST).lead(3 * SECONDS)
-        self.candidates = (first, Candidate(built.program, self.etcd.port, TTL, "--status-host", HOST))
         self.port = free_port()
+        with ExitStack() as begun:
+            etcd = Etcd(room)
+            begun.callback(etcd.end)
+            words = (built.program, etcd.port, TTL, "--status-host", HOST)
+            first = Candidate(*words)
+            begun.callback(first.end)
+            first.lead(3 * SECONDS)
+            second = Candidate(*words)
+            begun.callback(second.end)
+            self.candidates = (first, second)
+            self.end = begun.pop_all().close
 
     def words(self, room: Path) -> list[str]:
         """How HAProxy is started with the repository's file."""
         text = FRONT.format(port=self.port) + (TOP / "deploy/haproxy-pair.cfg").read_text()
         return words_of(room, text, self.candidates, ("maxconn 10000", "maxconn 1000"))
-
-    def end(self) -> None:
-        for it in self.candidates:
-            it.end()
-        self.etcd.end()
-
-
-class Client:
-    """A client of clients/python, which asks for a lock, and once more when it is told to."""
-
-    def __init__(self, port: int) -> None:
-        words = [PYTHON, "-c", ASKS_AGAIN, f"ws://127.0.0.1:{port}/"]
-        there = {**environment(), "PYTHONPATH": str(TOP / "clients/python/src")}
-        pipes = {"stdin": subprocess.PIPE, "stdout": subprocess.PIPE, "stderr": subprocess.DEVNULL}
-        self.child = subprocess.Popen(words, env=there, **pipes)
-        self.hear("held", 3 * SECONDS)
-
-    def hear(self, words: str, seconds: float) -> None:
-        assert self.child.stdout
-        line = read_line(self.child.stdout.fileno(), time.monotonic() + seconds).decode().strip()
-        expect("what the client says", line, words)
-
-    def ask(self, seconds: float) -> None:
-        assert self.child.stdin
-        self.child.stdin.write(b"\n")
-        self.child.stdin.flush()
-        self.hear("held again", seconds)
 
 
 @contextmanager
@@ -140,10 +122,9 @@ def changes_over(built: Built, number: signal.Signals) -> None:
             leader.kill_all(number)
             other.lead(TTL + MORE)
             until_answered(pair.port, 101, SEEN + MISSED)
-            client.ask(3 * SECONDS)
+            client.ask()
         finally:
-            client.child.kill()
-            client.child.communicate()
+            client.end()
 
 
 def both_are_down(built: Built) -> None:

@@ -14,6 +14,7 @@ from pathlib import Path
 
 from daemon_admission import bearer, may, origin, protocols
 from daemon_server import PING, PONG, Daemon, Peer, handshake, until_true
+from network import free_port
 from operate_needs import PYTHON, Checks, Needs, environment, ran, text_of
 from operate_package import Built
 from operate_service import hand_over
@@ -53,12 +54,6 @@ http {{
     include {room}/weblocks.conf;
 }}
 """
-
-
-def free_port() -> int:
-    with socket.socket() as it:
-        it.bind(("127.0.0.1", 0))
-        return int(it.getsockname()[1])
 
 
 class Certificate:

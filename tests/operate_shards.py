@@ -6,7 +6,7 @@ import subprocess
 import threading
 import urllib.request
 from collections.abc import Iterator
-from contextlib import contextmanager
+from contextlib import ExitStack, contextmanager
 from functools import partial
 from pathlib import Path
 from tempfile import TemporaryDirectory
@@ -14,11 +14,12 @@ from urllib.parse import quote
 
 from checkouts import TOP
 from daemon_server import Closed
-from operate_lead import MORE, TTL, Candidate, Etcd, until
+from network import free_port
+from operate_candidates import MORE, TTL, Candidate, Etcd, until
 from operate_needs import PYTHON, Checks, Needs, environment
 from operate_package import Built
 from operate_pair import HOST, MISSED, SEEN, haproxy_of, words_of
-from operate_proxies import Certificate, Haproxy, TlsPeer, free_port, without_ipv6
+from operate_proxies import Certificate, Haproxy, TlsPeer, without_ipv6
 from running import SECONDS, Wrong, expect
 
 # What has a daemon take the targets of its own origins alone.
@@ -62,8 +63,13 @@ class Shard:
 
     def __init__(self, built: Built, etcd: int, number: int) -> None:
         words = (built.program, etcd, TTL, "--status-host", HOST, *SHARDED)
-        self.leader = Candidate(*words, name=f"shard-{number}").lead(3 * SECONDS)
-        self.other = Candidate(*words, name=f"shard-{number}")
+        with ExitStack() as begun:
+            self.leader = Candidate(*words, name=f"shard-{number}")
+            begun.callback(self.leader.end)
+            self.leader.lead(3 * SECONDS)
+            self.other = Candidate(*words, name=f"shard-{number}")
+            begun.callback(self.other.end)
+            self.end = begun.pop_all().close
 
     def take_over(self) -> None:
         """The leader is killed, and the other one leads."""
@@ -86,9 +92,13 @@ class Clients:
         pipes = {"stdin": subprocess.DEVNULL, "stdout": subprocess.PIPE, "stderr": subprocess.DEVNULL}
         self.child = subprocess.Popen([PYTHON, "-c", CLIENTS, url, str(ORIGINS)], env=there, text=True, **pipes)
         self.held, self.lost = set[str](), set[str]()
-        self.hearing = threading.Thread(target=self.hear)
+        # (for a thread of another kind Python waits before it ends)
+        self.hearing = threading.Thread(target=self.hear, daemon=True)
         self.hearing.start()
-        self.until_held(ORIGINS, 6 * SECONDS)
+        with ExitStack() as begun:
+            begun.callback(self.end)
+            self.until_held(ORIGINS, 6 * SECONDS)
+            begun.pop_all()
 
     def hear(self) -> None:
         assert self.child.stdout
@@ -113,10 +123,14 @@ class Shards:
     """Three shards, whose candidates are started one after the other."""
 
     def __init__(self, built: Built, room: Path) -> None:
-        self.certificate, self.port = Certificate(room), free_port()
-        self.etcd, self.all = Etcd(room), list[Shard]()
-        for number in range(SHARDS):
-            self.all.append(Shard(built, self.etcd.port, number))
+        self.certificate, self.port, self.all = Certificate(room), free_port(), list[Shard]()
+        with ExitStack() as begun:
+            etcd = Etcd(room)
+            begun.callback(etcd.end)
+            for number in range(SHARDS):
+                self.all.append(Shard(built, etcd.port, number))
+                begun.callback(self.all[-1].end)
+            self.end = begun.pop_all().close
 
     def words(self, room: Path) -> list[str]:
         """How HAProxy is started with the repository's two files."""
@@ -140,12 +154,6 @@ class Shards:
         expect("how many origins all have", sum(map(len, found)), ORIGINS)
         expect("how many there are", len(set[str]().union(*found)), ORIGINS)
         return found
-
-    def end(self) -> None:
-        for shard in self.all:
-            shard.leader.end()
-            shard.other.end()
-        self.etcd.end()
 
 
 @contextmanager

@@ -1,13 +1,13 @@
 """What the daemon counts, before Debian's Prometheus: its tool accepts the text, and the server takes it in."""
 
 import json
-import socket
 import time
 import urllib.request
 from pathlib import Path
 from subprocess import DEVNULL, Popen
 from tempfile import TemporaryDirectory
 
+from network import free_port
 from operate_needs import Checks, Needs, environment, ran, text_of
 from operate_package import Built
 from running import SECONDS, Wrong, expect
@@ -29,12 +29,6 @@ def promtool_accepts(built: Built) -> None:
         ended = ran(["promtool", "check", "metrics"], input=daemon.get("/metrics").body)
         expect("promtool's status", (ended.returncode, text_of(ended)), (0, ""))
         peer.leave()
-
-
-def free_port() -> int:
-    with socket.socket() as it:
-        it.bind(("127.0.0.1", 0))
-        return int(it.getsockname()[1])
 
 
 def value_in(port: int, name: str) -> str | None:

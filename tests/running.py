@@ -126,6 +126,14 @@ def run_in_pieces(words, script, size):
         return running.end()
 
 
+def answers_as_the_model(words, script, wanted):
+    """Where a line of the output is wrong, that line alone is told."""
+    ended = run_whole(words, script)
+    for number, (found, due) in enumerate(zip(ended.out.splitlines(), wanted.splitlines()), 1):
+        expect(f"line {number} of the output", found, due)
+    expect_end(ended, wanted)
+
+
 def read_line(source, until):
     """A line from a pipe, or what came of it until then."""
     line = b""
