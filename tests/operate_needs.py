@@ -44,6 +44,13 @@ def environment() -> dict[str, str]:
     return {**os.environ, "NODE_PATH": "/usr/share/nodejs", "PATH": f"{os.environ['PATH']}:/usr/sbin:/sbin"}
 
 
+def ask_directly() -> None:
+    """From here on nothing asks a server of this machine through a proxy, which the environment may name."""
+    named = os.environ.get("no_proxy") or os.environ.get("NO_PROXY")
+    for name in ("no_proxy", "NO_PROXY"):
+        os.environ[name] = ",".join(filter(None, [named, "localhost", "127.0.0.1"]))
+
+
 def as_root() -> list[str]:
     """The words before a command that only root may call."""
     return [] if os.geteuid() == 0 else ["sudo", "-n"]
