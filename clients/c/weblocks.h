@@ -60,8 +60,9 @@ int weblocks_new(const uint8_t seed[16], int keep_books, weblocks **out);
 int weblocks_answer(weblocks *world, const uint8_t *line, size_t length, const uint8_t **reply, size_t *reply_length);
 
 /* Audits the lines that were answered: for each bucket of an origin whose journal has an entry a line with its LF, byte
-   for byte what `weblocks audit` writes for a file of these lines. It takes the time of answering them anew. The bytes
-   come as with weblocks_answer, and the world stays as it is. */
+   for byte what `weblocks audit` writes for a file of these lines. It answers them anew, and then replays what that
+   recorded on a plain core, which takes seconds where some thousand locks are held at once (docs/PERFORMANCE.md). The
+   bytes come as with weblocks_answer, and the world stays as it is. */
 int weblocks_audit(weblocks *world, const uint8_t **reply, size_t *reply_length);
 
 /* Ends a world, and frees all that it has. Null is none. */

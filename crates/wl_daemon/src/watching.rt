@@ -79,7 +79,7 @@ impl WatchedTokens<'_> {
 }
 
 /// Reads the tokens again when their file has changed, until the server has ended. Where the file is wrong the old ones
-/// stay. One that can't be read is tried again at each look, and what hinders that is told once.
+/// stay.
 pub fn watch<R, L, H>(
     rt: &R,
     log: &L,
@@ -91,26 +91,14 @@ where
     R: Wait + Clock + Files + AllocGlobal,
     L: Log,
 {
-    let mut hindrance: Option<FileFault> = None;
     for _ in rt.forever() {
         if over.wait(rt, Duration::from_secs(PERIOD)) {
             return;
         }
         match tokens.renew(rt, shared) {
             Ok(false) => {}
-            Ok(true) => {
-                hindrance = None;
-                info!(log; "token file: read again");
-            }
-            Err(fault) => {
-                if hindrance != Some(fault) {
-                    warn!(log; "token file: {fault}, so the old tokens stay");
-                }
-                hindrance = fault.may_pass().then_some(fault);
-                if hindrance.is_some() {
-                    tokens.file.forget();
-                }
-            }
+            Ok(true) => info!(log; "token file: read again"),
+            Err(fault) => warn!(log; "token file: {fault}, so the old tokens stay"),
         }
     }
 }

@@ -1,5 +1,6 @@
 //! How far a connection is, by lists of calls: `open`, `hear` and `close` at a time, `ping`, `drop` of so many bytes,
-//! and `due` at a time, with 30 seconds to a ping.
+//! and
+//! `due` at a time, with 30 seconds to a ping.
 
 use crate::lists::{Scene, assert_lists, word};
 use std::alloc::Global;
