@@ -137,8 +137,8 @@ def work_of_loops(daemon):
 
 def thieves(program, grants):
     """In the order of the grants the tokens grow, across loops, all of which are at it."""
-    with Daemon(program, "--epoch", str(EPOCH), "--loops", str(LOOPS)) as daemon:
-        # (its agent keeps the bucket, and so the numbers of its requests)
+    with Daemon(program, "--epoch", str(EPOCH), "--loops", str(LOOPS), "--idle", "600") as daemon:
+        # (its agent keeps the bucket, and so the numbers of its requests; it is silent for as long as the thieves take)
         watcher = daemon.opened(URL)
         found = [Thief(daemon, grants // PEERS) for _ in range(PEERS)]
         run_at_once(found)
