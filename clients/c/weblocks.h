@@ -61,8 +61,7 @@ int weblocks_answer(weblocks *world, const uint8_t *line, size_t length, const u
 
 /* Audits the lines that were answered: for each bucket of an origin whose journal has an entry a line with its LF, byte
    for byte what `weblocks audit` writes for a file of these lines. It answers them anew, and then replays what that
-   recorded on a plain core, which takes seconds where some thousand locks are held at once (docs/PERFORMANCE.md). The
-   bytes come as with weblocks_answer, and the world stays as it is. */
+   recorded. The bytes come as with weblocks_answer, and the world stays as it is. */
 int weblocks_audit(weblocks *world, const uint8_t **reply, size_t *reply_length);
 
 /* Ends a world, and frees all that it has. Null is none. */

@@ -49,8 +49,8 @@ pub fn apply<C: LockCore>(core: &mut C, command: &Command) -> Reply
     }
 }
 
-/// Whether the reply says that memory was refused.
-fn lacks_memory(reply: &Reply) -> bool
+/// Whether the reply says that memory was refused, which the machine never replies.
+pub fn lacks_memory(reply: &Reply) -> bool
     ensures { result ≡ is_memory reply.now }
 {
     matches!(reply, Reply::Refused(Refusal::Memory))

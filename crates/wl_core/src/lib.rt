@@ -17,7 +17,7 @@ mod realms;
 mod room;
 mod snapshots;
 
-pub use commands::{apply, run_commands};
+pub use commands::{apply, lacks_memory, run_commands};
 pub use lock_core::LockCore;
 pub use plain::{PlainCore, PlainDraft};
 pub use realms::{KeyedRealm, Realm};

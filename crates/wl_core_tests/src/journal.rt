@@ -4,9 +4,11 @@ mod growth;
 
 use crate::cores::{LISTS, run_list};
 use std::alloc::Global;
+use std::hash::RandomState;
 use std::test::Fail;
 use wl_core::{LockCore, PlainCore, ReleaseAnswer, Reply};
-use wl_journal::{AuditFault, Book, Entry, audit};
+use wl_index::{IndexCore, random_seed};
+use wl_journal::{AuditFault, Book, Entry, audit, replay};
 use wl_test_support::{do_list, opening, show};
 use wl_types::Memory;
 
@@ -171,14 +173,23 @@ fn spoil(entries: &mut [Entry], places: &[usize]) {
     }
 }
 
-fn audit_spoilt(alloc: Global, places: &[usize]) -> Result<Result<(), AuditFault>, Memory> {
+type Found = Result<(), AuditFault>;
+
+/// What an audit finds where the replies at these places are wrong, and what a replay on another core does.
+fn judge_spoilt(
+    alloc: Global,
+    seed: RandomState,
+    places: &[usize],
+) -> Result<(Found, Found), Memory> {
     let mut entries = cut_one_lock::<PlainCore>(alloc, &mut opening(alloc, ()))?;
     spoil(&mut entries, places);
-    Ok(audit(&opening::<PlainCore>(alloc, ()), &entries))
+    let audited = audit(&opening::<PlainCore>(alloc, ()), &entries);
+    let replayed = replay(opening::<IndexCore>(alloc, seed), &entries);
+    Ok((audited, replayed))
 }
 
-/// Places of entries whose replies are wrong, and what an audit says: it tells the first.
-const AUDITS: &[(&[usize], Result<(), AuditFault>)] = &[
+/// Places of entries whose replies are wrong, and what an audit and a replay say: they tell the first.
+const AUDITS: &[(&[usize], Found)] = &[
     (&[], Ok(())),
     (&[3], Err(AuditFault::Illegal(3))),
     (&[3, 0], Err(AuditFault::Illegal(0))),
@@ -186,8 +197,11 @@ const AUDITS: &[(&[usize], Result<(), AuditFault>)] = &[
 
 #[test]
 fn a_wrong_reply_is_found_in_its_place(rt: HostRuntime) -> Result<(), Fail> {
+    let seed = random_seed(&rt)?;
     for (places, wanted) in AUDITS {
-        assert!(rt; audit_spoilt(rt.alloc(), places)? == *wanted);
+        let (audited, replayed) = judge_spoilt(rt.alloc(), seed, places)?;
+        assert!(rt; audited == *wanted);
+        assert!(rt; replayed == *wanted);
     }
     Ok(())
 }

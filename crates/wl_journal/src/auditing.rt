@@ -1,15 +1,13 @@
 //! Whether entries are a legal history.
 
 ghost use Rattle.std.specs.Prelude.{◌≡◌, ℕ, ◌⊎◌, IfErr, OnOk, Err};
-ghost use Rattle.wl_core.specs.Answers.{is_memory};
 ghost use Rattle.wl_journal.specs.History.{IsLegal, IsFirstIllegal, Explains};
 
 use crate::comparing::same_reply;
 use crate::entry::Entry;
 use std::error::Error;
 use std::fmt;
-use wl_core::{LockCore, PlainCore, Reply, apply};
-use wl_types::Refusal;
+use wl_core::{LockCore, PlainCore, apply, lacks_memory};
 
 /// Why an audit found no legal history.
 #[derive(Clone, Copy, Debug, PartialEq, Eq, Drop)]
@@ -31,26 +29,16 @@ impl fmt::Display for AuditFault {
 
 impl Error for AuditFault {}
 
-/// Whether the reply says that memory was refused, which the machine never replies.
-fn lacks_memory(reply: &Reply) -> bool
-    ensures { result ≡ is_memory reply.now }
-{
-    matches!(reply, Reply::Refused(Refusal::Memory))
-}
-
-/// Whether the entries are legal: replays their commands on a copy of the base, which keeps its allocator, and
-/// compares each reply with the entry's. The base may be a book's own or that of an earlier cut.
-pub fn audit(base: &PlainCore, entries: &[Entry]) -> Result<(), AuditFault>
-    ensures legal { OnOk result (IsLegal base.now.state entries.now) }
-    ensures illegal { IfErr result (λ fault. Explains base.now.state entries.now fault) }
-    ensures where_legal { IsLegal base.now.state entries.now → IfErr result (λ fault. fault ≡ AuditFault.Memory) }
-    ensures where_illegal { (place : ℕ) → IsFirstIllegal base.now.state entries.now place
+/// Whether the entries are legal: does their commands on a core of the state before them, and compares each reply with
+/// the entry's. It takes as long as the core's calls do.
+pub fn replay<C: LockCore>(from: C, entries: &[Entry]) -> Result<(), AuditFault>
+    ensures legal { OnOk result (IsLegal (C.state from) entries.now) }
+    ensures illegal { IfErr result (λ fault. Explains (C.state from) entries.now fault) }
+    ensures where_legal { IsLegal (C.state from) entries.now → IfErr result (λ fault. fault ≡ AuditFault.Memory) }
+    ensures where_illegal { (place : ℕ) → IsFirstIllegal (C.state from) entries.now place
         → (result ≡ Err (AuditFault.Illegal place)) ⊎ (result ≡ Err AuditFault.Memory) }
 {
-    let mut core = match base.copy_plain() {
-        Ok(core) => core,
-        Err(_) => return Err(AuditFault::Memory),
-    };
+    let mut core = from;
     let mut place: u64 = 0;
     for entry in entries {
         let reply = apply(&mut core, &entry.command);
@@ -63,4 +51,19 @@ pub fn audit(base: &PlainCore, entries: &[Entry]) -> Result<(), AuditFault>
         place += 1;
     }
     Ok(())
+}
+
+/// Whether the entries are legal: replays them on a copy of the base, which keeps its allocator, and whose calls go over
+/// all its locks and requests. The base may be a book's own or that of an earlier cut.
+pub fn audit(base: &PlainCore, entries: &[Entry]) -> Result<(), AuditFault>
+    ensures legal { OnOk result (IsLegal base.now.state entries.now) }
+    ensures illegal { IfErr result (λ fault. Explains base.now.state entries.now fault) }
+    ensures where_legal { IsLegal base.now.state entries.now → IfErr result (λ fault. fault ≡ AuditFault.Memory) }
+    ensures where_illegal { (place : ℕ) → IsFirstIllegal base.now.state entries.now place
+        → (result ≡ Err (AuditFault.Illegal place)) ⊎ (result ≡ Err AuditFault.Memory) }
+{
+    match base.copy_plain() {
+        Ok(core) => replay(core, entries),
+        Err(_) => Err(AuditFault::Memory),
+    }
 }

@@ -9,6 +9,6 @@ mod entry;
 pub mod laws;
 mod room;
 
-pub use auditing::{AuditFault, audit};
+pub use auditing::{AuditFault, audit, replay};
 pub use book::{Book, Sight, copy_ask};
 pub use entry::Entry;

@@ -1,6 +1,6 @@
 //! Audits a script: runs it over books, and says for each manager whether its journal is legal.
 
-ghost use Rattle.std.specs.Prelude.{◌≡◌, ◌+◌, ◌<◌, ◌≤◌, ◌^◌, true, None, All, codes, length, IfOk, IfErr, IfSome};
+ghost use Rattle.std.specs.Prelude.{◌≡◌, ◌+◌, ◌<◌, ◌≤◌, ◌^◌, true, All, codes, length, IfOk, IfErr, IfSome};
 ghost use Rattle.std.specs.Prelude.{string_bytes};
 ghost use Rattle.serde_json.specs.Data.{member, object, string};
 ghost use Rattle.serde_json.specs.View.{view};
@@ -15,32 +15,20 @@ ghost use Rattle.wl_script.specs.Streams.{Counts, GrewBy, GrewAtMostBy};
 
 use crate::replying::write_all;
 use crate::running::{LIMITS, run_lines};
-use crate::{Failed, Input, Output, ScriptFault};
+use crate::{Discard, Failed, Input, Output, ScriptFault};
 use serde_json::{Value, json};
 use std::alloc::Global;
+use std::hash::RandomState;
 use std::random::RandomSource;
+use wl_core::LockCore;
 use wl_index::{IndexCore, random_seed};
-use wl_journal::{AuditFault, Book};
+use wl_journal::{AuditFault, Book, replay};
 use wl_origin::ManagerKey;
-use wl_types::Memory;
+use wl_types::{Memory, Numbers};
 use wl_world::Engine;
 
-/// Takes the replies of a script, and keeps none.
-#[derive(Drop)]
-struct Sink;
-
-impl Output for Sink {
-    ghost held = { λ s. None };
-
-    ghost failures = { λ s. 0 };
-
-    fn write(&mut self, piece: &[u8]) -> Result<usize, Failed> {
-        Ok(piece.len())
-    }
-}
-
-/// Whether the book's entries are legal. They always are: the book's type says so.
-fn is_legal(book: &Book<IndexCore>) -> Result<bool, Memory>
+/// Whether the book's entries are legal, by a replay from its base.
+fn is_legal_from_base(book: &Book<IndexCore>) -> Result<bool, Memory>
     ensures { IfOk result (λ legal. legal ≡ true) }
 {
     match wl_journal::audit(book.base(), book.entries()) {
@@ -48,6 +36,27 @@ fn is_legal(book: &Book<IndexCore>) -> Result<bool, Memory>
         Err(AuditFault::Illegal(_)) => Ok(false),
         Err(AuditFault::Memory) => Err(Memory),
     }
+}
+
+/// Whether the book's entries are legal. They always are: the book's type says so. Those of a book that was never cut,
+/// as a script's, are replayed on a core of the book's own kind, since a plain one goes over all that is live. Where
+/// that finds a wrong reply the base decides, since the book may have begun with other numbers.
+fn is_legal(alloc: Global, seed: RandomState, book: &Book<IndexCore>) -> Result<bool, Memory>
+    ensures { IfOk result (λ legal. legal ≡ true) }
+{
+    let next = Numbers {
+        agent: 1,
+        request: 1,
+        signal: 1,
+    };
+    if book.total() == book.len() as u64 {
+        match replay(IndexCore::make(alloc, seed, next), book.entries()) {
+            Ok(()) => return Ok(true),
+            Err(AuditFault::Illegal(_)) => {}
+            Err(AuditFault::Memory) => return Err(Memory),
+        }
+    }
+    is_legal_from_base(book)
 }
 
 /// The JSON value of the line of an origin's default bucket.
@@ -91,10 +100,15 @@ fn value_of(alloc: Global, key: &ManagerKey, entries: u64, legal: bool) -> Resul
 }
 
 /// A manager's line.
-fn line_of(alloc: Global, key: &ManagerKey, book: &Book<IndexCore>) -> Result<String, Memory>
+fn line_of(
+    alloc: Global,
+    seed: RandomState,
+    key: &ManagerKey,
+    book: &Book<IndexCore>,
+) -> Result<String, Memory>
     ensures { IfOk result (λ line. string_bytes line ≡ audit_line key.now book.now.total) }
 {
-    let legal = is_legal(book)?;
+    let legal = is_legal(alloc, seed, book)?;
     let value = value_of(alloc, key, book.total(), legal)?;
     let mut line = value.to_string(alloc)?;
     line.push_str("\n")?;
@@ -105,6 +119,7 @@ fn line_of(alloc: Global, key: &ManagerKey, book: &Book<IndexCore>) -> Result<St
 /// `written` other managers; says how many were written then.
 fn write_origin<W: Output>(
     alloc: Global,
+    seed: RandomState,
     writer: &mut W,
     key: &ManagerKey,
     book: &Book<IndexCore>,
@@ -121,7 +136,7 @@ fn write_origin<W: Output>(
     if book.total() == 0 {
         return Ok(written);
     }
-    let Ok(line) = line_of(alloc, key, book) else {
+    let Ok(line) = line_of(alloc, seed, key, book) else {
         return Err(ScriptFault::Memory(lines));
     };
     match write_all(writer, line.as_bytes()) {
@@ -133,6 +148,7 @@ fn write_origin<W: Output>(
 /// Writes the lines of all managers where something was recorded, and says how many.
 fn write_origins<W: Output>(
     alloc: Global,
+    seed: RandomState,
     writer: &mut W,
     books: &[(ManagerKey, Book<IndexCore>)],
     lines: u64,
@@ -144,7 +160,7 @@ fn write_origins<W: Output>(
 {
     let mut written = 0;
     for (key, book) in books {
-        written = write_origin(alloc, writer, key, book, lines, written)?;
+        written = write_origin(alloc, seed, writer, key, book, lines, written)?;
     }
     Ok(written)
 }
@@ -178,9 +194,9 @@ pub fn audit<S: RandomSource + AllocGlobal, R: Input, W: Output>(
     };
     let alloc = rt.alloc();
     let mut engine = Engine::<Book<IndexCore>>::new(alloc, seed);
-    let lines = run_lines(alloc, &mut engine, reader, &mut Sink, LIMITS)?;
+    let lines = run_lines(alloc, &mut engine, reader, &mut Discard, LIMITS)?;
     let Ok(books) = engine.into_cores() else {
         return Err(ScriptFault::Memory(lines));
     };
-    write_origins(alloc, writer, &books, lines)
+    write_origins(alloc, seed, writer, &books, lines)
 }

@@ -6,6 +6,7 @@
 
 mod answerer;
 mod auditing;
+mod discard;
 mod fault;
 mod feeding;
 pub mod laws;
@@ -17,8 +18,10 @@ mod streams;
 
 pub use answerer::Answerer;
 pub use auditing::audit;
+pub use discard::Discard;
 pub use fault::ScriptFault;
 pub use limits::Limits;
-pub use running::{run, run_lines, run_with};
+pub use replying::write_all;
+pub use running::{LIMITS, run, run_lines, run_with};
 pub use standard::{Reader, Writer};
 pub use streams::{Failed, Input, Output};

@@ -12,9 +12,9 @@ pub use calls::{do_list, do_list_often};
 pub use no_random::NoRandom;
 use std::alloc::Global;
 use std::test::Fail;
-use wl_core::{Command, LockCore, Reply};
+use wl_core::{Command, LockCore};
 use wl_origin::{ManagerKey, OriginKey, Standing, key_of, manager_of};
-use wl_types::{Ask, Kind, Memory, Mode, Numbers, Refusal, Text};
+use wl_types::{Ask, Kind, Memory, Mode, Numbers, Text};
 
 /// A core, of whatever kind, whose next numbers are all 1.
 pub fn opening<C: LockCore>(alloc: Global, seed: C::Seed) -> C {
@@ -101,8 +101,4 @@ pub fn fail_refused(is_as_before: bool) -> Result<(), Fail> {
     } else {
         Err(Fail::new("refused, and something changed"))
     }
-}
-
-pub fn lacks_memory(reply: &Reply) -> bool {
-    matches!(reply, Reply::Refused(Refusal::Memory))
 }

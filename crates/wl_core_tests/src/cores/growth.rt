@@ -3,9 +3,9 @@
 use std::alloc::Global;
 use std::hash::RandomState;
 use std::test::Fail;
-use wl_core::{Command, LockCore, PlainCore, apply, run_commands};
+use wl_core::{Command, LockCore, PlainCore, apply, lacks_memory, run_commands};
 use wl_index::{IndexCore, random_seed};
-use wl_test_support::{ask_with_signal, fail_refused, lacks_memory, opening, reader_behind_writer};
+use wl_test_support::{ask_with_signal, fail_refused, opening, reader_behind_writer};
 use wl_types::{Kind, Memory, Refusal};
 
 /// A command that is refused memory leaves the core as it was, and is done when it is asked again.

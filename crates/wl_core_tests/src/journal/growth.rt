@@ -1,10 +1,12 @@
 //! Each growth refused in turn.
 
 use std::alloc::Global;
+use std::hash::RandomState;
 use std::test::Fail;
-use wl_core::{Command, LockCore, PlainCore, apply};
-use wl_journal::{AuditFault, Book, audit};
-use wl_test_support::{ask, fail_refused, lacks_memory, opening};
+use wl_core::{Command, LockCore, PlainCore, apply, lacks_memory};
+use wl_index::{IndexCore, random_seed};
+use wl_journal::{AuditFault, Book, audit, replay};
+use wl_test_support::{ask, fail_refused, opening};
 use wl_types::{Kind, Memory, Mode, Refusal};
 
 /// A command that is refused memory leaves the book as it was, and is done and recorded when it is asked again.
@@ -74,6 +76,14 @@ fn try_sights<C: LockCore>(book: &Book<C>) -> Result<(), Fail> {
     }
 }
 
+/// A replay that is refused memory says so, and comes to its end when it is asked for again.
+fn try_replay<C: LockCore>(alloc: Global, seed: RandomState, book: &Book<C>) -> Result<(), Fail> {
+    if replay(opening::<IndexCore>(alloc, seed), book.entries()).is_ok() {
+        return Ok(());
+    }
+    fail_refused(replay(opening::<IndexCore>(alloc, seed), book.entries()).is_ok())
+}
+
 fn try_commands<C: LockCore>(alloc: Global, book: &mut Book<C>) -> Result<(), Fail> {
     for place in 0..4 {
         try_command(book, &command(alloc, place)?)?;
@@ -81,15 +91,21 @@ fn try_commands<C: LockCore>(alloc: Global, book: &mut Book<C>) -> Result<(), Fa
     Ok(())
 }
 
-fn try_calls<C: LockCore>(alloc: Global, book: &mut Book<C>) -> Result<(), Fail> {
+fn try_calls<C: LockCore>(
+    alloc: Global,
+    seed: RandomState,
+    book: &mut Book<C>,
+) -> Result<(), Fail> {
     try_commands(alloc, book)?;
     try_sights(book)?;
+    try_replay(alloc, seed, book)?;
     try_cut(book)
 }
 
 #[test]
 fn a_refused_growth_is_not_recorded(rt: HostRuntime) -> Result<(), Fail> {
-    try_calls::<PlainCore>(rt.alloc(), &mut opening(rt.alloc(), ()))
+    let seed = random_seed(&rt)?;
+    try_calls::<PlainCore>(rt.alloc(), seed, &mut opening(rt.alloc(), ()))
 }
 
 /// Behind these commands.
