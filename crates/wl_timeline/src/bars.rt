@@ -4,8 +4,8 @@ use crate::escaping::{escape, escape_front};
 use crate::history::History;
 use crate::layout::{Bar, MOST_CHARACTERS, Scale, end_word};
 use crate::manager::{Request, Step};
+use crate::naming::manager_text;
 use crate::style::end_shape;
-use crate::svg::manager_text;
 use std::alloc::Global;
 use std::fmt::Write;
 use wl_types::{Memory, Phase};
@@ -66,11 +66,17 @@ fn put_request(
         let (word, line) = (step_word(step), step.line);
         write!(out, "; {word} at line {line}")?;
     }
-    for report in &request.reports {
+    put_reports(out, &request.reports)?;
+    out.push_str("</title>")?;
+    Ok(())
+}
+
+/// What its agent was told, in words.
+fn put_reports(out: &mut String, reports: &[Step]) -> Result<(), Memory> {
+    for report in reports {
         let (word, line) = (report_word(report), report.line);
         write!(out, "; told {word} at line {line}")?;
     }
-    out.push_str("</title>")?;
     Ok(())
 }
 

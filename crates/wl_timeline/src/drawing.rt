@@ -1,6 +1,6 @@
 //! Draws a script: runs it, follows its requests, and writes the picture.
 
-ghost use Rattle.std.specs.Prelude.{◌≡◌, ◌≤◌, ◌-◌, All, length, IfOk, IfErr, IfSome, is_err};
+ghost use Rattle.std.specs.Prelude.{◌≡◌, ◌≤◌, ◌-◌, All, length, IfOk, IfErr, IfSome};
 ghost use Rattle.wl_script.specs.Audits.{CountsDone};
 ghost use Rattle.wl_script.specs.Faults.{is_read, is_write, IsTooManyTurns};
 ghost use Rattle.wl_script.specs.Leaves.{GaveBytes};
@@ -9,33 +9,13 @@ ghost use Rattle.wl_script.specs.Streams.{Counts, GrewBy, GrewAtMostBy};
 ghost use Rattle.wl_timeline.specs.Timelines.{LeavesTimeline};
 ghost use Rattle.wl_timeline.specs.inner.Timelines.{IsUnwritten};
 
-use crate::following::{Follower, Unwritten};
+use crate::following::Follower;
 use crate::history::History;
 use crate::svg::draw;
 use std::alloc::Global;
 use std::random::RandomSource;
 use wl_index::random_seed;
-use wl_script::{Failed, Input, Limits, Output, ScriptFault, run_lines};
-
-/// The limits of `wl_script::run`.
-const LIMITS: Limits = Limits {
-    line: 65_536,
-    turns: 4_294_967_296,
-};
-
-/// Writes all of the bytes.
-fn write_all<W: Output>(writer: &mut W, bytes: &[u8]) -> Result<(), Failed>
-    ensures { Counts (W.failures writer.old) (W.failures writer.new) (is_err result) }
-{
-    let mut at = 0;
-    while at < bytes.len() {
-        match writer.write(&bytes[at..]) {
-            Ok(0) | Err(_) => return Err(Failed),
-            Ok(n) => at += n,
-        }
-    }
-    Ok(())
-}
+use wl_script::{Discard, Failed, Input, LIMITS, Output, ScriptFault, run_lines, write_all};
 
 /// Draws the history of so many lines, and writes the picture. Answers the number of lines.
 fn write_picture<W: Output>(
@@ -84,6 +64,6 @@ pub fn timeline<S: RandomSource + AllocGlobal, R: Input, W: Output>(
     };
     let alloc = rt.alloc();
     let mut follower = Follower::new(alloc, seed);
-    let lines = run_lines(alloc, &mut follower, reader, &mut Unwritten, LIMITS)?;
+    let lines = run_lines(alloc, &mut follower, reader, &mut Discard, LIMITS)?;
     write_picture(alloc, writer, &follower.into_history(), lines)
 }

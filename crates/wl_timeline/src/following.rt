@@ -7,7 +7,7 @@ use crate::history::History;
 use std::alloc::Global;
 use std::hash::RandomState;
 use wl_index::IndexCore;
-use wl_script::{Answerer, Failed, Output};
+use wl_script::Answerer;
 use wl_types::Memory;
 use wl_world::Engine;
 
@@ -40,19 +40,5 @@ impl Answerer for Follower {
         let reply = self.engine.answer(line)?;
         self.history.follow(line, reply.as_str())?;
         Ok(reply)
-    }
-}
-
-/// Takes the replies, which the picture has in another form.
-#[derive(Drop)]
-pub(crate) struct Unwritten;
-
-impl Output for Unwritten {
-    ghost held = { λ s. None };
-
-    ghost failures = { λ s. 0 };
-
-    fn write(&mut self, piece: &[u8]) -> Result<usize, Failed> {
-        Ok(piece.len())
     }
 }

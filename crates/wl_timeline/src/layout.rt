@@ -180,12 +180,18 @@ pub(crate) fn rows_of(
     history: &History,
     scale: &Scale,
 ) -> Result<Vec<Rows>, Memory> {
-    let mut lanes = Vec::new(alloc);
-    for _ in 0..history.lanes.len().min(MOST_LANES) {
-        lanes.push(Rows::new(alloc))?;
-    }
+    let mut lanes = empty_lanes(alloc, history.lanes.len().min(MOST_LANES))?;
     for (place, manager) in history.managers.iter().enumerate() {
         place_all(&mut lanes, scale, place, &manager.requests)?;
+    }
+    Ok(lanes)
+}
+
+/// So many lanes without requests.
+fn empty_lanes(alloc: Global, count: usize) -> Result<Vec<Rows>, Memory> {
+    let mut lanes = Vec::new(alloc);
+    for _ in 0..count {
+        lanes.push(Rows::new(alloc))?;
     }
     Ok(lanes)
 }

@@ -12,6 +12,7 @@ mod following;
 mod history;
 mod layout;
 mod manager;
+mod naming;
 mod sayings;
 mod style;
 mod svg;

@@ -7,6 +7,7 @@ use crate::layout::{
     FOOT, LANE_HEAD, LEFT, MOST_CHARACTERS, MOST_LANES, ROW, Rows, Scale, TOP, rows_of,
 };
 use crate::manager::Manager;
+use crate::naming::{manager_name, manager_text};
 use crate::sayings::Fault;
 use crate::style::{LEGEND, STYLE};
 use std::alloc::Global;
@@ -24,19 +25,23 @@ const APART: u64 = 40;
 pub(crate) fn draw(alloc: Global, history: &History) -> Result<String, Memory> {
     let scale = Scale::of(history.lines);
     let lanes = rows_of(alloc, history, &scale)?;
-    let mut bottom = TOP;
-    for rows in &lanes {
-        bottom = bottom.saturating_add(rows.height());
-    }
+    let bottom = bottom_of(&lanes);
     let mut out = String::new(alloc);
     draw_head(&mut out, history, &scale, bottom)?;
     draw_axis(&mut out, &scale, bottom)?;
-    for fault in &history.unread {
-        draw_fault(alloc, &mut out, &scale, fault, TOP - 10)?;
-    }
+    draw_faults(alloc, &mut out, &scale, &history.unread, TOP - 10)?;
     draw_lanes(alloc, &mut out, history, &scale, &lanes)?;
     draw_foot(&mut out, history, bottom)?;
     Ok(out)
+}
+
+/// The lower edge of the last lane.
+fn bottom_of(lanes: &[Rows]) -> u64 {
+    let mut bottom = TOP;
+    for rows in lanes {
+        bottom = bottom.saturating_add(rows.height());
+    }
+    bottom
 }
 
 /// The beginning of the document, with its title and its background.
@@ -132,12 +137,8 @@ fn draw_lane(
         draw_origin(alloc, out, history, stay, top.saturating_add(31))?;
     }
     let middle = top.saturating_add(10);
-    for stay in &lane.stays {
-        draw_stay(alloc, out, history, scale, stay, middle)?;
-    }
-    for fault in &lane.faults {
-        draw_fault(alloc, out, scale, fault, middle)?;
-    }
+    draw_stays(alloc, out, history, scale, &lane.stays, middle)?;
+    draw_faults(alloc, out, scale, &lane.faults, middle)?;
     for bar in &rows.bars {
         let row = (bar.row as u64).saturating_mul(ROW);
         let y = top.saturating_add(LANE_HEAD).saturating_add(row);
@@ -150,6 +151,33 @@ fn draw_lane(
             out,
             "<text class=\"quiet\" x=\"{LEFT}\" y=\"{y}\">{more} more requests are not drawn</text>\n"
         )?;
+    }
+    Ok(())
+}
+
+fn draw_stays(
+    alloc: Global,
+    out: &mut String,
+    history: &History,
+    scale: &Scale,
+    stays: &[Stay],
+    y: u64,
+) -> Result<(), Memory> {
+    for stay in stays {
+        draw_stay(alloc, out, history, scale, stay, y)?;
+    }
+    Ok(())
+}
+
+fn draw_faults(
+    alloc: Global,
+    out: &mut String,
+    scale: &Scale,
+    faults: &[Fault],
+    y: u64,
+) -> Result<(), Memory> {
+    for fault in faults {
+        draw_fault(alloc, out, scale, fault, y)?;
     }
     Ok(())
 }
@@ -239,22 +267,6 @@ fn put_client(
         write!(out, " as client-{number} of {origin}")?;
     }
     Ok(())
-}
-
-/// The origin of a manager, and its bucket where that is not the default one.
-fn manager_name(alloc: Global, manager: &Manager) -> Result<String, Memory> {
-    let mut name = manager.key.origin.text(alloc)?;
-    if !manager.key.bucket.is_default() {
-        name.push_str(" ")?;
-        name.push_str(manager.key.bucket.as_str())?;
-    }
-    Ok(name)
-}
-
-/// The same, escaped.
-pub(crate) fn manager_text(alloc: Global, manager: &Manager) -> Result<String, Memory> {
-    let name = manager_name(alloc, manager)?;
-    escape(alloc, name.as_str())
 }
 
 /// A line that was answered by an error.
