@@ -1,5 +1,5 @@
 -- What the exports' walks need of pointers.
-use Rattle.std.proofs.Common.{ℕ, List, [], ◌∷◌, refl}
+use Rattle.std.proofs.Common.{ℕ, ℤ, List, [], ◌∷◌, ◌⊎◌, inl, inr, ◌<◌, refl, arith}
 use Rattle.std.specs.Ptr.{if_non_null}
 use seplogic.Ra.Ura.{Ura}
 use base.Logic.{ent, id⊢}
@@ -10,6 +10,15 @@ use types.Logic.{Logic, sem}
 use types.Kit.{‵, ◌$◌, ◌∵◌, !, qed, done, move, fjoin, fpack, feq_i}
 use denote.Memory.{part_at, cell_at, part_of}
 use denote.RawPtr.{Ptr, RawPtr, block_ptr, null_ptr, ptr_val, InBlock}
+use Rattle.wl_c.specs.Handles.{HasNull, IsBarred}
+use Rattle.wl_c.specs.inner.Handles.{IsLineFault}
+
+-- what was found of a call's pointers and line, and the code by the line's length, say together why it isn't made
+pub barred : (pointers : List Ptr) (n : ℕ) (code : ℤ) → HasNull pointers ⊎ (65536 < n) → IsLineFault n code →
+    IsBarred pointers n code
+barred pointers n code found (inl too_long) = inl too_long
+barred pointers n code (inl null) (inr short) = inr (short.0, null)
+barred pointers n code (inr long) (inr short) = absurd (let at_most = short.1 in omega arith)
 
 module _ {M : Type 1} {𝓤 : Ura M} (𝓛 : Logic 𝓤) where
   -- at a pointer that isn't null, what lies there

@@ -1,4 +1,4 @@
--- The numbers by which C knows what became of a call.
+-- The numbers by which C knows what became of a call (own).
 use Rattle.std.specs.Prelude.{ℤ, Result, Ok, Err, pos}
 use Rattle.wl_c.specs.declared.fault.Fault.{Fault}
 use Rattle.wl_c.specs.declared.fault.Fault.TheVariants.{Memory, Spent, NoBooks, Null, TooLong, LineFeed}

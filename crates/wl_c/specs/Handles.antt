@@ -1,6 +1,6 @@
--- The memory behind the pointers of a call: what C hands over with it, and has back.
-use Rattle.std.specs.Prelude.{ℕ, ℤ, List, ◌≡◌, ◌<◌, ◌⊎◌, length, Bool, true, false, not, Option, Some, None, Result}
-use Rattle.std.specs.Prelude.{is_ok, pos}
+-- The memory behind the pointers of a call: what C hands over with it, and has back (own).
+use Rattle.std.specs.Prelude.{ℕ, ℤ, List, [], ◌∷◌, ◌≡◌, ◌<◌, ◌⊎◌, length, Bool, true, false, not, Option, Some, None}
+use Rattle.std.specs.Prelude.{Result, is_ok, pos}
 use Rattle.std.specs.Ordering.{int_eq}
 use Rattle.std.specs.Ptr.{if_non_null}
 use Rattle.std.specs.Vec.{vec_ptr}
@@ -11,7 +11,7 @@ use base.Fml.{Share, Fml, ftrue, fsep, fex}
 use base.Fraction.{full_share}
 use denote.Array.{Array}
 use denote.Builtin.{u8, usize}
-use denote.RawPtr.{Ptr, RawPtr, lies_at, room_at}
+use denote.RawPtr.{Ptr, RawPtr, null_ptr, lies_at, room_at}
 use Rattle.wl_c.specs.declared.fault.Fault.{Fault}
 use Rattle.wl_c.specs.declared.fault.Fault.TheVariants.{Memory, Null, TooLong}
 use Rattle.wl_c.specs.declared.reply.Reply.{Reply}
@@ -88,18 +88,20 @@ was_answered world line n reply reply_length g code =
     fsep (handle g.alloc world now) (fsep (lies_at (Array u8 n) g.share line g.line)
     (told outcome reply reply_length now)))))
 
--- why a call isn't made: one of its pointers is null, or its line is too long
-pub record IsBarred (n : ℕ) (code : ℤ) : Type 0 where
-  pub fault : Fault
-  pub code_is : code ≡ fault_code fault
-  pub too_long : fault ≡ TooLong → 65536 < n
-  pub otherwise : (fault ≡ TooLong → ⊥) → fault ≡ Null
+-- one of these pointers is null
+abbrev pub HasNull : List Ptr → Type 0
+HasNull [] = ⊥
+HasNull (pointer ∷ pointers) = (pointer ≡ null_ptr) ⊎ HasNull pointers
+
+-- why a call isn't made: its line is too long, or one of its pointers is null
+abbrev pub IsBarred : List Ptr → ℕ → ℤ → Type 0
+IsBarred pointers n code = ((code ≡ fault_code TooLong) × (65536 < n)) ⊎ ((code ≡ fault_code Null) × HasNull pointers)
 
 -- a call that isn't made leaves all as it was
 abbrev pub had_answer : Bool → Ptr → Ptr → ℕ → Ptr → Ptr → Asking → ℤ → Fml
 had_answer true world line n reply reply_length g code = was_answered world line n reply reply_length g code
-had_answer false world line n reply reply_length g code = fex (IsBarred n code)
-    (λ _. may_ask world line n reply reply_length g)
+had_answer false world line n reply reply_length g code =
+    fex (IsBarred (world ∷ line ∷ reply ∷ reply_length ∷ []) n code) (λ _. may_ask world line n reply reply_length g)
 
 abbrev pub after_answer : Ptr → Ptr → ℕ → Ptr → Ptr → Asking → ℤ → Fml
 after_answer world line n reply reply_length g code = fex Bool
@@ -129,7 +131,8 @@ was_audited world reply reply_length g code =
 
 abbrev pub had_audit : Bool → Ptr → Ptr → Ptr → Auditing → ℤ → Fml
 had_audit true world reply reply_length g code = was_audited world reply reply_length g code
-had_audit false world reply reply_length g code = fex (code ≡ fault_code Null)
+had_audit false world reply reply_length g code =
+    fex ((code ≡ fault_code Null) × HasNull (world ∷ reply ∷ reply_length ∷ []))
     (λ _. may_audit world reply reply_length g)
 
 abbrev pub after_audit : Ptr → Ptr → Ptr → Auditing → ℤ → Fml

@@ -1,5 +1,5 @@
--- What the calls of a world do. A world is live until a growth is refused.
-use Rattle.std.specs.Prelude.{ℕ, List, [], ◌∷◌, ◌++◌, ◌≡◌, ◌<◌, length, Bool, if◌then◌else◌, Option, Some, None}
+-- What the calls of a world do (own). A world is live until a growth is refused.
+use Rattle.std.specs.Prelude.{ℕ, List, [], ◌∷◌, ◌++◌, ◌≡◌, ◌≤◌, ◌<◌, length, Bool, if◌then◌else◌, Option, Some, None}
 use Rattle.std.specs.Prelude.{option_map, Result, Ok, Err}
 use Rattle.wl_world.specs.World.{World, next, reply, opening}
 use Rattle.wl_world.specs.Worlds.{world_of}
@@ -27,16 +27,20 @@ IsOpening keeps_books None = ⊥
 IsOpening keeps_books (Some live) = (world_of_live live ≡ opening)
     × (script_of live ≡ (if keeps_books then Some [] else None))
 
+-- these bytes are one line, without its LF, and not over the limit
+abbrev pub IsLine : List ℕ → Type 0
+IsLine line = (length line ≤ 65536) × HasNoLf line
+
 -- the line was answered: so is its reply, and such is the world after it
 abbrev pub Steps : Live → List ℕ → Option Live → List ℕ → Type 0
 Steps before line None said = ⊥
-Steps before line (Some now) said = (world_of_live now ≡ next (world_of_live before) line)
+Steps before line (Some now) said = IsLine line × (world_of_live now ≡ next (world_of_live before) line)
     × (said ≡ reply (world_of_live before) line)
     × (script_of now ≡ longer line (script_of before))
 
 -- why the line wasn't answered, and what is left
 abbrev pub Refuses : Live → List ℕ → Fault → Option Live → Type 0
-Refuses before line Memory now = now ≡ None
+Refuses before line Memory now = (now ≡ None) × IsLine line
 Refuses before line TooLong now = (now ≡ Some before) × (65536 < length line)
 Refuses before line LineFeed now = (now ≡ Some before) × (HasNoLf line → ⊥)
 Refuses before line Spent now = ⊥

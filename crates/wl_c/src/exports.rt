@@ -1,6 +1,6 @@
 //! What C calls.
 
-ghost use Rattle.std.specs.Prelude.{◌≡◌, ◌≤◌, IfOk};
+ghost use Rattle.std.specs.Prelude.{◌≤◌, IfOk};
 ghost use Rattle.std.specs.Ptr.{if_non_null};
 ghost use denote.RawPtr.{Testable};
 ghost use types.Logic.{sem};

@@ -1,10 +1,11 @@
 //! What a call finds of its pointers before it follows them.
 
-ghost use Rattle.std.specs.Prelude.{◌≡◌, ◌≤◌, ◌<◌, true, pos};
-ghost use denote.RawPtr.{InBlock, Testable};
+ghost use Rattle.std.specs.Prelude.{◌≡◌, ◌≤◌, ◌<◌, ◌⊎◌, ◌∷◌, [], true, false};
+ghost use denote.RawPtr.{InBlock, Testable, null_ptr};
 ghost use Rattle.wl_c.specs.Codes.{fault_code};
-ghost use Rattle.wl_c.specs.Handles.{IsBarred};
+ghost use Rattle.wl_c.specs.Handles.{HasNull};
 ghost use Rattle.wl_c.specs.declared.fault.Fault.TheVariants.{Null};
+ghost use Rattle.wl_c.specs.inner.Handles.{IsLineFault};
 
 use crate::fault::{Fault, code_of};
 use std::ptr::NonNull;
@@ -13,7 +14,8 @@ use wl_codec::LONGEST_LINE;
 /// Whether a pointer leads anywhere.
 fn leads<T>(pointer: *mut T) -> bool
     requires { Testable pointer }
-    ensures { result ≡ true → InBlock pointer }
+    ensures in_block { result ≡ true → InBlock pointer }
+    ensures null { result ≡ false → pointer ≡ null_ptr }
 {
     NonNull::new(pointer).is_some()
 }
@@ -35,7 +37,8 @@ pub fn can_answer(
     reply_length: *mut usize,
 ) -> bool
     requires { Testable world × Testable line × Testable reply × Testable reply_length }
-    ensures { result ≡ true → InBlock world × InBlock line × InBlock reply × InBlock reply_length × (length ≤ 65536) }
+    ensures { (result ≡ true → InBlock world × InBlock line × InBlock reply × InBlock reply_length × (length ≤ 65536))
+        × (result ≡ false → HasNull (world ∷ line ∷ reply ∷ reply_length ∷ []) ⊎ (65536 < length)) }
 {
     leads(world)
         && leads(line.cast_mut())
@@ -46,7 +49,7 @@ pub fn can_answer(
 
 /// Why a call with a line can't be made.
 pub fn code_of_line(length: usize) -> i32
-    ensures { IsBarred length result }
+    ensures { IsLineFault length result }
 {
     if length > LONGEST_LINE {
         return code_of(Err(Fault::TooLong));
@@ -57,7 +60,8 @@ pub fn code_of_line(length: usize) -> i32
 /// Whether a call for an audit can be made.
 pub fn can_audit(world: *mut u8, reply: *mut *const u8, reply_length: *mut usize) -> bool
     requires { Testable world × Testable reply × Testable reply_length }
-    ensures { result ≡ true → InBlock world × InBlock reply × InBlock reply_length }
+    ensures { (result ≡ true → InBlock world × InBlock reply × InBlock reply_length)
+        × (result ≡ false → HasNull (world ∷ reply ∷ reply_length ∷ [])) }
 {
     leads(world) && leads(reply) && leads(reply_length)
 }

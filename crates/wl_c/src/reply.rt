@@ -1,6 +1,5 @@
 //! What a call answers, as C has it.
 
-ghost use Rattle.std.specs.Prelude.{◌≡◌};
 ghost use Rattle.wl_c.specs.Handles.{IsReply, Says, SaysAudit};
 
 use crate::fault::{Fault, code_of};

@@ -1,6 +1,6 @@
 //! One world: all its origins and agents, and what it said last.
 
-ghost use Rattle.std.specs.Prelude.{◌≡◌, option_map, Err, IfOk, OnOk, Some, None, if◌then◌else◌, []};
+ghost use Rattle.std.specs.Prelude.{◌≡◌, option_map, Err, IfOk, OnErr, OnOk, Some, None, if◌then◌else◌, []};
 ghost use Rattle.wl_world.specs.World.{next, reply};
 ghost use Rattle.wl_c.specs.declared.fault.Fault.TheVariants.{Memory as FaultMemory};
 ghost use Rattle.wl_c.specs.Worlds.{Answers, Audits, IsAudit, IsOpening, longer, script_of, world_of_live};
@@ -102,6 +102,7 @@ impl World {
     /// Drops what the world has, since a growth was refused.
     fn spend(&mut self) -> Result<(), Fault>
         ensures spent { self.new.live ≡ None }
+        ensures kept { self.new.reply ≡ self.old.reply }
         ensures fault { result ≡ Err FaultMemory }
     {
         self.live = None;
@@ -110,7 +111,8 @@ impl World {
 
     /// Answers a line, which is given without its LF.
     pub fn answer(&mut self, line: &[u8]) -> Result<(), Fault>
-        ensures { Answers self.old.live line.now result self.new.live self.new.reply.items }
+        ensures answered { Answers self.old.live line.now result self.new.live self.new.reply.items }
+        ensures kept { OnErr result (self.new.reply ≡ self.old.reply) }
     {
         let Some(live) = &mut self.live else {
             return Err(Fault::Spent);
@@ -127,7 +129,8 @@ impl World {
 
     /// Says for each manager whether its journal is legal, as the audit of a script of the lines so far does.
     pub fn audit(&mut self) -> Result<(), Fault>
-        ensures { Audits self.old.live result self.new.live self.new.reply.items }
+        ensures audited { Audits self.old.live result self.new.live self.new.reply.items }
+        ensures kept { OnErr result (self.new.reply ≡ self.old.reply) }
     {
         let Some(live) = &self.live else {
             return Err(Fault::Spent);

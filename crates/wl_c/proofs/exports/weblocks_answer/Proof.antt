@@ -1,10 +1,10 @@
 -- `weblocks_answer` meets its contract: a walk of its MIR, by hand.
-use Rattle.std.proofs.Common.{◌≡◌, ◌≤◌, [], ◌∷◌, refl, ap, w32, w64}
+use Rattle.std.proofs.Common.{◌≡◌, ◌≤◌, ◌<◌, ◌⊎◌, [], ◌∷◌, refl, ap, w32, w64}
 use Rattle.std.proofs.raw_atomic.Walks.{proved}
 use Rattle.std.specs.Prelude.{Bool, true, false, ℤ}
 use base.Logic.{emp, id⊢}
 use base.Fml.{ftrue}
-use lib.Ieee.Bits.{is_true}
+use lib.Ieee.Bits.{is_true, is_false}
 use mir.Val.{Val}
 use contract.Monad.{fact, fact_i}
 use contract.Running.{tables}
@@ -28,8 +28,9 @@ use denote.Triple.Entry.{on_entry}
 use denote.Triple.Spec.{triple_of}
 use denote.Triple.Table.{framed}
 use denote.Triple.Walked.{Stays, walk_of, stay_dropped, Goes-dropped, ends_at}
-use Rattle.wl_c.specs.Handles.{may_ask, was_answered, had_answer, after_answer, handle, IsBarred}
-use Rattle.wl_c.proofs.PointerSteps.{opens_non_null}
+use Rattle.wl_c.specs.Handles.{may_ask, was_answered, had_answer, after_answer, handle, HasNull, IsBarred}
+use Rattle.wl_c.specs.inner.Handles.{IsLineFault}
+use Rattle.wl_c.proofs.PointerSteps.{barred, opens_non_null}
 use Rattle.wl_c.specs.contracts.exports.weblocks_answer as f
 use Rattle.wl_c.proofs.exports.weblocks_answer.Statement.{statement}
 use Rattle.wl_c.proofs.exports.weblocks_answer.Code as code
@@ -99,8 +100,8 @@ weblocks_answer_spec 𝓤 𝓛 𝓜 𝓡 wired =
     (and_then ! (get ! refl) (and_then ! (get ! refl) (no_more !)))))) (λ v.
     use1 𝓛 (later (some (λ (b : Bool). (‵ ftrue ⊛ ‵ (bool.own_val b (v ∷ []))) ⊛
     some (λ (ws : (Unit {0} × (Unit {0} × (Unit {0} × (Unit {0} × (Unit {0} × Unit {0})))))). ‵
-    (lasts may.ended κs a ws) ⊛ raw (fact 𝓤 (b ≡ true → InBlock w' × InBlock l' × InBlock r' × InBlock m'
-    × (n ≤ 65536))))))) (id⊢ 𝓤 _) $
+    (lasts may.ended κs a ws) ⊛ raw (fact 𝓤 ((b ≡ true → InBlock w' × InBlock l' × InBlock r' × InBlock m'
+    × (n ≤ 65536)) × (b ≡ false → HasNull (w' ∷ l' ∷ r' ∷ m' ∷ []) ⊎ (65536 < n)))))))) (id⊢ 𝓤 _) $
     await ! tt $ pick ! (λ b. split ! $ split ! $ drop ! $ feq_l !
     (λ e. pick ! (λ ws. split ! $ drop ! $ heard ! _ (λ ok.
     lands_as ! (ap only e) refl (tt, tt) $
@@ -110,7 +111,7 @@ weblocks_answer_spec 𝓤 𝓛 𝓜 𝓡 wired =
     nothing ! $ nothing ! $ join ! $ nothing ! $ join ! $ nothing ! $ join ! $ nothing ! $ join ! $ nothing ! $ join ! $
     nothing ! $ group ! 3 $ done ! in
     first ! $ branches ! (get ! refl)
-    (λ t. let inside = ok (is_true b t) in
+    (λ t. let inside = ok.0 (is_true b t) in
     fsplit ! $ use1 𝓛 (‵ (handle x.alloc w' x.world)) (opens_non_null 𝓛 w' _ inside.0) $
     move ! (1 ∷ []) $ fsplit ! $ use1 𝓛 (‵ (lies_at (Array u8 n) x.share l' x.line)) (opens_non_null 𝓛 l' _ inside.1) $
     move ! (1 ∷ []) $ fsplit ! $ use1 𝓛 (‵ (room_at RawPtr r')) (opens_non_null 𝓛 r' _ inside.2) $
@@ -140,10 +141,12 @@ weblocks_answer_spec 𝓤 𝓛 𝓜 𝓡 wired =
     calls_at ! calls G3 (why_met 𝓤 𝓛 𝓜 𝓡 (code.calls-wl_c::pointers::code_of_line 𝓡.env wired)) z3
     (and_then ! (get ! refl) (no_more !)) (λ v.
     use1 𝓛 (later (some (λ (n' : ℤ). (‵ ftrue ⊛ ‵ (i32.own_val n' (v ∷ []))) ⊛
-    some (λ (ws : Unit {0} × Unit {0}). ‵ (lasts why.ended κs (n, tt) ws) ⊛ raw (fact 𝓤 (IsBarred n n')))))) (id⊢ 𝓤 _) $
+    some (λ (ws : Unit {0} × Unit {0}). ‵ (lasts why.ended κs (n, tt) ws) ⊛ raw (fact 𝓤 (IsLineFault n n'))))))
+    (id⊢ 𝓤 _) $
     await ! tt $ pick ! (λ n'. split ! $ split ! $ drop ! $ peeks ! i32 (Is i32) (shows 𝓛 i32) n' (v ∷ [])
     (λ is. move ! (1 ∷ []) $ pick ! (λ ws. split ! $ drop ! $ heard ! _ (λ no.
     lands_as ! refl refl ((sint_Lawful 𝓛 w32).typed n' _ is).0 $
     returns ! (look_at ! 0 refl) $ free_all ! refl $ move ! (1 ∷ []) $
-    fpack ! (IsBarred n n') (λ _. may_ask w' l' n r' m' x) no $ fpack ! Bool
-    (λ asked. had_answer asked w' l' n r' m' x n') false $ move ! (1 ∷ 0 ∷ []) $ out v n'))))))))))))))
+    fpack ! (IsBarred (w' ∷ l' ∷ r' ∷ m' ∷ []) n n') (λ _. may_ask w' l' n r' m' x)
+    (barred (w' ∷ l' ∷ r' ∷ m' ∷ []) n n' (ok.1 (is_false b t)) no) $
+    fpack ! Bool (λ asked. had_answer asked w' l' n r' m' x n') false $ move ! (1 ∷ 0 ∷ []) $ out v n'))))))))))))))

@@ -4,7 +4,7 @@ use Rattle.std.proofs.raw_atomic.Walks.{proved}
 use Rattle.std.specs.Prelude.{Bool, true, false, ℤ}
 use base.Logic.{emp, id⊢}
 use base.Fml.{ftrue}
-use lib.Ieee.Bits.{is_true}
+use lib.Ieee.Bits.{is_true, is_false}
 use mir.Val.{Val}
 use contract.Monad.{fact, fact_i}
 use contract.Running.{tables}
@@ -25,7 +25,7 @@ use denote.Triple.Entry.{on_entry}
 use denote.Triple.Spec.{triple_of}
 use denote.Triple.Table.{framed}
 use denote.Triple.Walked.{Stays, walk_of, stay_dropped, Goes-dropped, ends_at}
-use Rattle.wl_c.specs.Handles.{may_audit, was_audited, had_audit, after_audit, handle}
+use Rattle.wl_c.specs.Handles.{may_audit, was_audited, had_audit, after_audit, handle, HasNull}
 use Rattle.wl_c.specs.Codes.{fault_code}
 use Rattle.wl_c.specs.declared.fault.Fault.TheVariants.{Null}
 use Rattle.wl_c.proofs.PointerSteps.{opens_non_null}
@@ -68,7 +68,8 @@ weblocks_audit_spec 𝓤 𝓛 𝓜 𝓡 wired =
     (and_then ! (get ! refl) (and_then ! (get ! refl) (and_then ! (get ! refl) (no_more !)))) (λ v.
     use1 𝓛 (later (some (λ (b : Bool). (‵ ftrue ⊛ ‵ (bool.own_val b (v ∷ []))) ⊛
     some (λ (ws : (Unit {0} × (Unit {0} × (Unit {0} × Unit {0})))). ‵ (lasts may.ended κs a ws) ⊛ raw
-    (fact 𝓤 (b ≡ true → InBlock w' × InBlock r' × InBlock m')))))) (id⊢ 𝓤 _) $
+    (fact 𝓤 ((b ≡ true → InBlock w' × InBlock r' × InBlock m') × (b ≡ false → HasNull (w' ∷ r' ∷ m' ∷ []))))))))
+    (id⊢ 𝓤 _) $
     await ! tt $ pick ! (λ b. split ! $ split ! $ drop ! $ feq_l !
     (λ e. pick ! (λ ws. split ! $ drop ! $ heard ! _ (λ ok.
     lands_as ! (ap only e) refl (tt, tt) $
@@ -77,7 +78,7 @@ weblocks_audit_spec 𝓤 𝓛 𝓜 𝓡 wired =
     suffices ! _ (ends_at 𝓛 f.ended stayed c Y v n' (tt, (tt, (tt, tt))) (tt, (tt, (tt, tt)))) $
     nothing ! $ nothing ! $ join ! $ nothing ! $ join ! $ nothing ! $ join ! $ nothing ! $ group ! 3 $ done ! in
     first ! $ branches ! (get ! refl)
-    (λ t. let inside = ok (is_true b t) in
+    (λ t. let inside = ok.0 (is_true b t) in
     fsplit ! $ use1 𝓛 (‵ (handle x.alloc w' x.world)) (opens_non_null 𝓛 w' _ inside.0) $
     move ! (1 ∷ []) $ fsplit ! $ use1 𝓛 (‵ (room_at RawPtr r')) (opens_non_null 𝓛 r' _ inside.1) $
     move ! (1 ∷ []) $ use1 𝓛 (‵ (room_at usize m')) (opens_non_null 𝓛 m' _ inside.2) $
@@ -107,5 +108,6 @@ weblocks_audit_spec 𝓤 𝓛 𝓜 𝓡 wired =
     (λ is. move ! (1 ∷ []) $ pick ! (λ ws. split ! $ drop ! $ heard ! _ (λ no.
     lands_as ! refl refl ((sint_Lawful 𝓛 w32).typed n' _ is).0 $
     returns ! (look_at ! 0 refl) $ free_all ! refl $ move ! (1 ∷ []) $
-    fpack ! (n' ≡ fault_code Null) (λ _. may_audit w' r' m' x) no $ fpack ! Bool
-    (λ asked. had_audit asked w' r' m' x n') false $ move ! (1 ∷ 0 ∷ []) $ out v n'))))))))))))))
+    fpack ! ((n' ≡ fault_code Null) × HasNull (w' ∷ r' ∷ m' ∷ [])) (λ _. may_audit w' r' m' x)
+    (no, ok.1 (is_false b t)) $
+    fpack ! Bool (λ asked. had_audit asked w' r' m' x n') false $ move ! (1 ∷ 0 ∷ []) $ out v n'))))))))))))))
