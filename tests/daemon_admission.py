@@ -1,6 +1,7 @@
 """Who may come in to a daemon, and what they may open there: origins of pages, tokens, addresses."""
 
 import os
+import resource
 import subprocess
 import tempfile
 import time
@@ -158,6 +159,23 @@ def tokens_are_read_again(program):
                 expect(f"whether the log says {line!r}", line in log, True)
 
 
+def unreadable_tokens_are_tried_again(program):
+    """What can't be read for want of files is read once there are some, though the file stays as it is."""
+    with token_file("one\n") as path:
+        with Daemon(program, "--token-file", path) as daemon:
+            files = resource.prlimit(daemon.child.pid, resource.RLIMIT_NOFILE)
+            # Fewer than are open: those stay, and no other can be opened.
+            resource.prlimit(daemon.child.pid, resource.RLIMIT_NOFILE, (3, files[1]))
+            write(path, "two\n")
+            time.sleep(12)
+            resource.prlimit(daemon.child.pid, resource.RLIMIT_NOFILE, files)
+            until_true("the new token is one", lambda: daemon.peer(bearer("two")).status == 101, 12)
+            expect("the old one", daemon.peer(bearer("one")).status, 401)
+            _, log = daemon.end()
+            expect("how often it is told", log.count("token file: cannot be read, so the old tokens stay"), 1)
+            expect("whether the log says that it was read", "token file: read again" in log, True)
+
+
 # ---- what is refused at the start
 
 
@@ -243,6 +261,7 @@ def admission_checks(program):
         ("all pages may open all URLs", all_origins_allowed),
         ("tokens", tokens),
         ("tokens are read again", tokens_are_read_again),
+        ("tokens that can't be read are tried again", unreadable_tokens_are_tried_again),
         ("bad token files", bad_token_files),
         ("an address beyond the machine", beyond_the_machine),
         ("an address of version 6", another_version_of_ip),

@@ -27,6 +27,13 @@ pub enum FileFault {
     Memory,
 }
 
+impl FileFault {
+    /// Whether the same file may be read at a later try, as where files or memory were wanting.
+    pub(crate) fn may_pass(self) -> bool {
+        matches!(self, FileFault::Unreadable | FileFault::Memory)
+    }
+}
+
 /// What tells one state of a file from the next.
 #[derive(Clone, Copy, Debug, PartialEq, Eq)]
 struct Mark {
@@ -63,8 +70,14 @@ fn is_exposed(mode: u32) -> bool
 }
 
 impl<'a> TokenFile<'a> {
+    /// The file at this path, which wasn't looked at yet.
     pub fn new(path: &'a str) -> TokenFile<'a> {
         TokenFile { path, seen: None }
+    }
+
+    /// What it has isn't in place: it is read again, though it stays as it is.
+    pub(crate) fn forget(&mut self) {
+        self.seen = None;
     }
 
     /// Its tokens, if it has changed since it was last looked at.

@@ -19,6 +19,7 @@ pub struct Over {
 }
 
 impl Over {
+    /// The server goes on.
     pub fn new() -> Over {
         Over {
             is_over: Mutex::new(false),
@@ -26,9 +27,14 @@ impl Over {
         }
     }
 
+    /// The server has ended: whoever waits goes on.
     pub fn tell<R: Wait>(&self, rt: &R) {
         *self.is_over.lock(rt) = true;
         self.ended.notify_all();
+    }
+
+    pub fn is_over<R: Wait>(&self, rt: &R) -> bool {
+        *self.is_over.lock(rt)
     }
 
     /// Waits for so long, and answers whether the server has ended.
@@ -79,7 +85,7 @@ impl WatchedTokens<'_> {
 }
 
 /// Reads the tokens again when their file has changed, until the server has ended. Where the file is wrong the old ones
-/// stay.
+/// stay. One that can't be read is tried again at each look, and what hinders that is told once.
 pub fn watch<R, L, H>(
     rt: &R,
     log: &L,
@@ -91,14 +97,26 @@ where
     R: Wait + Clock + Files + AllocGlobal,
     L: Log,
 {
+    let mut hindrance: Option<FileFault> = None;
     for _ in rt.forever() {
         if over.wait(rt, Duration::from_secs(PERIOD)) {
             return;
         }
         match tokens.renew(rt, shared) {
             Ok(false) => {}
-            Ok(true) => info!(log; "token file: read again"),
-            Err(fault) => warn!(log; "token file: {fault}, so the old tokens stay"),
+            Ok(true) => {
+                hindrance = None;
+                info!(log; "token file: read again");
+            }
+            Err(fault) => {
+                if hindrance != Some(fault) {
+                    warn!(log; "token file: {fault}, so the old tokens stay");
+                }
+                hindrance = fault.may_pass().then_some(fault);
+                if hindrance.is_some() {
+                    tokens.file.forget();
+                }
+            }
         }
     }
 }
