@@ -1,12 +1,14 @@
 """Silent and slow peers of a daemon, and handshakes that are none. Silence is tried with `--idle 1` or `2`."""
 
 import json
+import os
+import signal
 import socket
 import struct
 import threading
 import time
 
-from daemon_pushes import POLL, POLLED, push, release, request
+from daemon_pushes import POLL, POLLED, asked, push, release, released, request
 from daemon_server import MEGABYTE, PING, PONG, PUSH, Daemon, framed, handshake, until_true, within
 from running import Wrong, expect
 
@@ -40,6 +42,20 @@ def peer_that_answers_pings_stays(program):
             peer.send(body, PONG)
         expect("its pings are three at least", peer.pings >= 3, True)
         expect("the reply", peer.ask('{"id":1,"op":"poll"}'), '{"id":1,"notices":[],"ok":{}}')
+
+
+def stopped_daemon(program):
+    """The time for which it was stopped is nobody's silence: what came meanwhile is read, and who was silent pinged."""
+    with Daemon(program, "--idle", "1") as daemon:
+        silent, talker = daemon.opened(), daemon.opened()
+        expect("the reply", silent.ask(request(1)), asked(1, 1, ("granted", 1)))
+        os.kill(daemon.child.pid, signal.SIGSTOP)
+        talker.send(POLL)
+        time.sleep(4)
+        os.kill(daemon.child.pid, signal.SIGCONT)
+        expect("the reply to what came meanwhile", talker.get(), POLLED)
+        expect("the kind of what the silent one is sent", silent.frame()[0], PING)
+        expect("the silent one's release", silent.ask(release(2, 1)), released(2))
 
 
 def peer_that_does_not_read(program):
@@ -230,6 +246,7 @@ def hostile_checks(program):
     for name, check in [
         ("a silent peer is pinged and ended", silent_peer_is_pinged_and_ended),
         ("a peer that answers pings stays", peer_that_answers_pings_stays),
+        ("a daemon that was stopped", stopped_daemon),
         ("a peer that does not read", peer_that_does_not_read),
         ("a peer that does not read its pushes", does_not_read_its_pushes),
         ("a peer that sends pings and does not read", pings_and_does_not_read),

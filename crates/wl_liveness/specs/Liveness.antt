@@ -46,6 +46,16 @@ dropping (Handshake since) count = Handshake since
 dropping (Open last is_pinged) count = Open last is_pinged
 dropping (Closing since dropped) count = Closing since (min (dropped + count) (2 ^ 64 - 1))
 
+-- a time that counts for nothing
+abbrev pub later : ℕ → ℕ → ℕ
+later since time = min (since + time) (2 ^ 64 - 1)
+
+-- the connection couldn't be served for so long
+abbrev pub spared : Liveness → ℕ → Liveness
+spared (Handshake since) time = Handshake (later since time)
+spared (Open last is_pinged) time = Open (later last time) is_pinged
+spared (Closing since dropped) time = Closing (later since time) dropped
+
 abbrev pub end_if : Bool → Due
 end_if is_over = if is_over then End else Nothing
 

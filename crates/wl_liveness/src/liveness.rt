@@ -2,6 +2,7 @@
 
 ghost use Rattle.std.specs.Prelude.{◌≡◌};
 ghost use Rattle.wl_liveness.specs.Liveness.{due_of, new_liveness, opened, heard, after_ping, closing, dropping};
+ghost use Rattle.wl_liveness.specs.Liveness.{spared};
 
 use crate::limits::Limits;
 
@@ -95,6 +96,26 @@ impl Liveness {
         if let Liveness::Closing { dropped, .. } = self {
             *dropped = dropped.saturating_add(count);
         }
+    }
+
+    /// For so many milliseconds nobody could serve the connection, as where the process was stopped: what its peer sent
+    /// then wasn't read, and so that time is no silence, nor any of its handshake's or its closing's.
+    pub fn spare(&mut self, time: u64)
+        ensures { self.new ≡ spared self.old time }
+    {
+        *self = match *self {
+            Liveness::Handshake { since } => Liveness::Handshake {
+                since: since.saturating_add(time),
+            },
+            Liveness::Open { heard, is_pinged } => Liveness::Open {
+                heard: heard.saturating_add(time),
+                is_pinged,
+            },
+            Liveness::Closing { since, dropped } => Liveness::Closing {
+                since: since.saturating_add(time),
+                dropped,
+            },
+        };
     }
 
     /// What is due now.

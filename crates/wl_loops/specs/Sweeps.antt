@@ -1,7 +1,7 @@
--- What a look at all connections of a loop does (own).
+-- What a look at all connections of a loop does, and what a loop does that was held up (own).
 use Rattle.std.specs.Prelude.{◌≡◌, ℕ, Option, None, Some, IfSome}
 use Rattle.slab.specs.Slab.{Slab, get}
-use Rattle.wl_liveness.specs.Liveness.{due_of, after_ping}
+use Rattle.wl_liveness.specs.Liveness.{due_of, after_ping, spared}
 use Rattle.wl_liveness.specs.declared.limits.Limits.{Limits}
 use Rattle.wl_liveness.specs.declared.liveness.Due.{Due}
 use Rattle.wl_liveness.specs.declared.liveness.Due.TheVariants.{Nothing, Ping, End}
@@ -23,3 +23,12 @@ module _ {C : Type 0} (liveness_of : C → Liveness) where
   -- at each key
   abbrev pub EachWatched : ℕ → Limits → Slab C → Slab C → Type 0
   EachWatched now limits old new = (key : ℕ) → Watched now limits (get old key) (get new key)
+
+  -- the time counts for nothing at the connection of a key, and there is no other
+  abbrev pub Spared : ℕ → Option C → Option C → Type 0
+  Spared time None new = new ≡ None
+  Spared time (Some old) new = (one : C) × (new ≡ Some one) × (liveness_of one ≡ spared (liveness_of old) time)
+
+  -- at each key
+  abbrev pub EachSpared : ℕ → Slab C → Slab C → Type 0
+  EachSpared time old new = (key : ℕ) → Spared time (get old key) (get new key)

@@ -92,7 +92,8 @@ impl Acceptor {
         }
     }
 
-    fn give<R: Wait, H>(&mut self, rt: &R, shared: &Shared<H>, arrival: Arrival) {
+    /// Gives it to the loop that has the fewest. Where there is no memory for that it is closed.
+    fn give<R: Wait, H: Host>(&mut self, rt: &R, shared: &Shared<H>, arrival: Arrival) {
         let hold = arrival.hold;
         let event_loop = shared.emptiest(self.next);
         self.next = event_loop.wrapping_add(1);
@@ -103,6 +104,7 @@ impl Acceptor {
                 return;
             }
         }
+        shared.refuse_for_memory(hold.source());
         shared.leave(rt, event_loop, hold);
     }
 }

@@ -1,7 +1,7 @@
 //! One connection of a loop.
 
 ghost use Rattle.std.specs.Prelude.{◌≡◌, true, false};
-ghost use Rattle.wl_liveness.specs.Liveness.{due_of, new_liveness, after_ping};
+ghost use Rattle.wl_liveness.specs.Liveness.{due_of, new_liveness, after_ping, spared};
 ghost use Rattle.wl_liveness.specs.declared.liveness.Due.TheVariants.{Nothing, Ping, End};
 
 use crate::affinity::Affinity;
@@ -252,6 +252,13 @@ impl<'a, R: Wait, H: Host> Connection<'a, R, H> {
         } else {
             Next::Waits
         }
+    }
+
+    /// Its loop served nobody for so many milliseconds.
+    pub fn spare(&mut self, time: u64)
+        ensures { self.new.liveness ≡ spared self.old.liveness time }
+    {
+        self.liveness.spare(time);
     }
 
     /// Pings a peer that is silent, and answers whether the connection is over.

@@ -9,7 +9,7 @@ use crate::accepting::Acceptor;
 use crate::connection::{Connection, Next};
 use crate::host::{Host, Place, Ring};
 use crate::lobby::Lobby;
-use crate::served::{Served, watch_all};
+use crate::served::{Served, spare_all, watch_all};
 use crate::shared::{Arrival, Inbox, Shared, WAKER};
 use crate::transport_listener::TransportListener;
 use mio::event::Event;
@@ -27,8 +27,11 @@ const EVENTS: usize = 1_024;
 /// The milliseconds between two looks at all connections.
 const SWEEP: u64 = 500;
 
-/// The connections of a loop at most.
-const MOST: usize = 65_536;
+/// The milliseconds between two looks at the clock beyond which a loop was held up: it waits for `SWEEP` at most.
+const HELD_UP: u64 = 2_000;
+
+/// The streams, or the connections of other loops, that are taken in at once at most.
+const MOST_NEWCOMERS: usize = 65_536;
 
 /// A loop, and the connections that it serves.
 #[derive(Drop)]
@@ -148,8 +151,19 @@ impl<'a, 'b, R: Wait + Clock, H: Host> EventLoop<'a, 'b, R, H> {
 
     fn look_at_clock(&mut self) {
         if let Ok(now) = Instant::now(self.rt) {
+            let before = self.now;
             self.now = millis(now.duration_since(self.start));
             self.shared.host.tell_time(self.now);
+            self.spare_since(before);
+        }
+    }
+
+    /// A loop that was held up since its last look at the clock, as where its process was stopped, hasn't read yet what
+    /// peers sent meanwhile. So no more of that time is silence than what a loop waits for.
+    fn spare_since(&mut self, before: u64) {
+        let time = self.now.saturating_sub(before);
+        if time > HELD_UP {
+            spare_all(&mut self.served, time - SWEEP);
         }
     }
 
@@ -216,12 +230,15 @@ impl<'a, 'b, R: Wait + Clock, H: Host> EventLoop<'a, 'b, R, H> {
     }
 
     fn take_arrivals(&mut self, inbox: &Inbox) {
-        for _ in 0..MOST {
+        for _ in 0..MOST_NEWCOMERS {
             let Some(arrival) = inbox.next_arrival(self.rt) else {
                 return;
             };
             let hold = arrival.hold;
-            if self.is_leaving || self.take_in(arrival).is_err() {
+            if self.is_leaving {
+                self.shared.leave(self.rt, self.number, hold);
+            } else if self.take_in(arrival).is_err() {
+                self.shared.refuse_for_memory(hold.source());
                 self.shared.leave(self.rt, self.number, hold);
             }
         }

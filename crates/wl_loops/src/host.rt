@@ -41,7 +41,7 @@ pub trait Listener: Speaker {
 /// What a server's log may tell of its connections.
 #[derive(Clone, Copy, Debug, PartialEq, Eq)]
 pub enum Event {
-    /// A handshake was refused.
+    /// A handshake was refused, or for want of memory a connection that hadn't asked yet.
     Refused(Source, Rejection),
     /// A connection was closed without a word: there was no place for it, nor one to be told so.
     Dropped(Source),

@@ -27,6 +27,7 @@ struct Room<'a, R: Wait, H: Host> {
 }
 
 impl<'a, R: Wait, H: Host> Lobby<'a, R, H> {
+    /// Empty rooms, one for each loop.
     pub fn new(rt: &'a R, shared: &'a Shared<H>) -> Result<Lobby<'a, R, H>, AllocError> {
         let mut rooms = Vec::new(shared.alloc);
         for _ in 0..shared.inboxes.len() {

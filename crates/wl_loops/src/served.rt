@@ -2,7 +2,7 @@
 
 ghost use Rattle.std.specs.Prelude.{◌≡◌, ◌≢◌, ℕ};
 ghost use Rattle.slab.specs.Slab.{get};
-ghost use Rattle.wl_loops.specs.Sweeps.{EachWatched, Watched};
+ghost use Rattle.wl_loops.specs.Sweeps.{EachSpared, EachWatched, Spared, Watched};
 
 use crate::connection::Connection;
 use crate::host::Host;
@@ -60,5 +60,24 @@ fn watch_one<'a, R: Wait, H: Host>(
             Some(hold)
         }
         None => None,
+    }
+}
+
+/// For so many milliseconds the loop served nobody: that is no peer's silence.
+pub(crate) fn spare_all<'a, R: Wait, H: Host>(served: &mut Slab<Served<'a, R, H>>, time: u64)
+    ensures { EachSpared (λ one. one.connection.liveness) time served.old served.new }
+{
+    for key in 0..served.capacity() {
+        spare_one(served, key, time);
+    }
+}
+
+/// Spares the connection of this key, if there is one.
+fn spare_one<'a, R: Wait, H: Host>(served: &mut Slab<Served<'a, R, H>>, key: usize, time: u64)
+    ensures spared { Spared (λ one. one.connection.liveness) time (get served.old key) (get served.new key) }
+    ensures others { (other : ℕ) → other ≢ key → get served.new other ≡ get served.old other }
+{
+    if let Some(one) = served.get_mut(key) {
+        one.connection.spare(time);
     }
 }

@@ -5,7 +5,7 @@ ghost use Rattle.std.specs.Arc.{arc_value};
 ghost use Rattle.wl_loops.specs.Holds.{is_served, source_of};
 ghost use Rattle.wl_loops.specs.Transports.{is_local};
 
-use crate::host::{Host, Ring};
+use crate::host::{Event, Host, Ring};
 use crate::rules::AdmissionRules;
 use crate::transport::Transport;
 use mio::{Poll, Token, Waker};
@@ -214,7 +214,7 @@ where
 }
 
 impl<H> Shared<H> {
-    /// Puts other rules of the network in place for the handshakes from now on.
+    /// Puts other rules of the network in place, for the connections that come from now on.
     pub fn set_rules<R: Wait>(&self, rt: &R, rules: Rules) -> Result<(), AllocError> {
         self.rules.set(rt, rules)
     }
@@ -276,8 +276,8 @@ impl<H> Shared<H> {
         self.free_place(rt, hold);
     }
 
-    /// The loop that has the fewest connections. Of several such it is the first from this one on, where behind the last
-    /// loop comes the first.
+    /// The loop that has the fewest connections. Of several such it is the first from this one on, where behind the
+    /// last loop comes the first.
     pub(crate) fn emptiest(&self, from: usize) -> usize {
         let loops = self.inboxes.len();
         let mut emptiest = 0;
@@ -346,6 +346,11 @@ impl<H> Shared<H> {
 }
 
 impl<H: Host> Shared<H> {
+    /// Tells that a connection from there is closed for want of memory.
+    pub(crate) fn refuse_for_memory(&self, source: Source) {
+        self.host.note(Event::Refused(source, Rejection::Memory));
+    }
+
     /// Wakes the other loops whose connections were marked.
     pub(crate) fn wake_marked(&self, own: usize) {
         for (event_loop, inbox) in self.inboxes.iter().enumerate() {

@@ -1,6 +1,5 @@
 //! How far a connection is, by lists of calls: `open`, `hear` and `close` at a time, `ping`, `drop` of so many bytes,
-//! and
-//! `due` at a time, with 30 seconds to a ping.
+//! `spare` of so many milliseconds, and `due` at a time, with 30 seconds to a ping.
 
 use crate::lists::{Scene, assert_lists, word};
 use std::alloc::Global;
@@ -12,6 +11,9 @@ const LISTS: &[&str] = &[
     "due 9999 -> Nothing
 hear 9999 -> Handshake { since: 0 }
 due 10000 -> End
+spare 5000 -> Handshake { since: 5000 }
+due 14999 -> Nothing
+due 15000 -> End
 ",
     "open 1000 -> Open { heard: 1000, is_pinged: false }
 due 30999 -> Nothing
@@ -23,6 +25,10 @@ hear 61000 -> Open { heard: 61000, is_pinged: false }
 due 90999 -> Nothing
 due 91000 -> Ping
 due 5 -> Nothing
+spare 90000 -> Open { heard: 151000, is_pinged: false }
+due 180999 -> Nothing
+due 181000 -> Ping
+spare 18446744073709551615 -> Open { heard: 18446744073709551615, is_pinged: false }
 ",
     "open 0 -> Open { heard: 0, is_pinged: false }
 due 60000 -> End
@@ -31,6 +37,9 @@ close 2000 -> Closing { since: 1000, dropped: 0 }
 hear 2000 -> Closing { since: 1000, dropped: 0 }
 due 2999 -> Nothing
 due 3000 -> End
+spare 1000 -> Closing { since: 2000, dropped: 0 }
+due 3999 -> Nothing
+due 4000 -> End
 ",
     "close 0 -> Closing { since: 0, dropped: 0 }
 drop 65535 -> Closing { since: 0, dropped: 65535 }
@@ -65,6 +74,7 @@ impl Scene for Connection {
             "ping" => self.liveness.ping(),
             "close" => self.liveness.close(number),
             "drop" => self.liveness.drop_bytes(number),
+            "spare" => self.liveness.spare(number),
             _ => {
                 write!(came, "{:?}", self.liveness.due(number, &self.limits))?;
                 return Ok(());

@@ -6,7 +6,7 @@
 //! which the other poll is told once the stream is registered there, and changes in its inbox, at which its first turn
 //! there looks.
 
-use super::{EventLoop, MOST};
+use super::{EventLoop, MOST_NEWCOMERS};
 use crate::host::{Event, Host, Place};
 use crate::served::Served;
 use std::sync::Wait;
@@ -57,7 +57,7 @@ impl<'a, 'b, R: Wait + Clock, H: Host> EventLoop<'a, 'b, R, H> {
 
     /// Takes in the connections that other loops sent here. Those for which there is no memory wait for the next time.
     pub(super) fn take_moved(&mut self) {
-        for _ in 0..MOST {
+        for _ in 0..MOST_NEWCOMERS {
             let Some(served) = self.next_moved() else {
                 return;
             };
