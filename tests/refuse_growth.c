@@ -1,7 +1,8 @@
 /* Loaded before a program, refuses it one growth of memory, and says so: the call of malloc or realloc whose number,
    counted from 1, stands in REFUSED_GROWTH, or all calls from that one on, where REFUSED_ON is set too. Where the
-   number of a connection stands in REFUSED_CONNECTION, accepting that one fails for want of memory in the system. What
-   it takes from the C library is declared here, so that the kit's clang needs no headers. */
+   number of a connection stands in REFUSED_CONNECTION, accepting that one fails for want of memory in the system. Once
+   there is a file at the path in REFUSED_WAIT, each wait for events fails. What it takes from the C library is declared
+   here, so that the kit's clang needs no headers. */
 typedef unsigned long size;
 
 extern void *__libc_malloc(size bytes);
@@ -11,10 +12,11 @@ extern unsigned long strtoul(const char *text, char **end, int base);
 extern long write(int file, const void *bytes, size count);
 extern long syscall(long number, ...);
 extern int *__errno_location(void);
+extern int access(const char *path, int mode);
 
 static const char SAID[] = "a growth was refused\n";
-static const long ACCEPT4 = 288;
-static const int ENOMEM = 12;
+static const long EPOLL_WAIT = 232, ACCEPT4 = 288;
+static const int EBADF = 9, ENOMEM = 12;
 static size calls, connections;
 
 static int is_refused(void) {
@@ -37,4 +39,13 @@ int accept4(int file, void *address, void *length, int flags) {
         return -1;
     }
     return (int)syscall(ACCEPT4, file, address, length, flags);
+}
+
+int epoll_wait(int file, void *events, int count, int timeout) {
+    const char *path = getenv("REFUSED_WAIT");
+    if (path && access(path, 0) == 0) {
+        *__errno_location() = EBADF;
+        return -1;
+    }
+    return (int)syscall(EPOLL_WAIT, file, events, count, timeout);
 }

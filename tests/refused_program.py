@@ -1,10 +1,12 @@
 """Refuses each growth of memory of the built program in turn, as it answers, audits, draws and serves."""
 
 import re
+import tempfile
 from pathlib import Path
 
+from daemon_server import Daemon
 from network import Client, Serving
-from running import Ended, Wrong, expect, expect_end, run_whole, text
+from running import SECONDS, Ended, Wrong, expect, expect_end, run_whole, text
 
 SCRIPTS = Path(__file__).resolve().parent / "scripts"
 NAMES = [
@@ -119,6 +121,19 @@ def connection_is_refused(program, refuser):
     return 1
 
 
+def wait_is_refused(program, refuser):
+    """The system fails as the loops wait for events: the daemon says so and ends, though its input goes on."""
+    with tempfile.TemporaryDirectory() as folder:
+        path = Path(folder) / "refused"
+        with Daemon(program, before=["env", f"LD_PRELOAD={refuser}", f"REFUSED_WAIT={path}"]) as daemon:
+            daemon.opened()
+            path.touch()
+            expect("the status", daemon.child.wait(SECONDS), 1)
+            said = daemon.child.stderr.read().splitlines()[-1]
+            expect("the last line of its log", said, b"weblocks: an event loop failed")
+    return 1
+
+
 def program_growths(program, refuser):
     """The names of what is done, each with what refuses its growths and answers their number."""
     for name in NAMES:
@@ -131,3 +146,4 @@ def program_growths(program, refuser):
         )
     yield "serve a client", lambda: each_growth(lambda n: server_is_refused(program, n, refuser))
     yield "serve, and accept no second client", lambda: connection_is_refused(program, refuser)
+    yield "a daemon, and wait for no event", lambda: wait_is_refused(program, refuser)

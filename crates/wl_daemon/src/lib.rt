@@ -12,6 +12,7 @@ mod entry;
 mod epoch;
 mod fencing;
 mod hall;
+mod input;
 mod locks;
 mod log_lines;
 mod loop_state;

@@ -1,13 +1,13 @@
 //! The threads of a server.
 
 use crate::hall::Hall;
+use crate::input::wait_for_input;
 use crate::overview::ServerOverview;
 use crate::serving::ServeFault;
 use crate::watching::{Over, WatchedTokens, watch};
 use log::Log;
 use mio::Poll;
 use std::fs::Files;
-use std::io::Read;
 use std::net::Net;
 use std::random::RandomSource;
 use std::sync::Wait;
@@ -17,9 +17,6 @@ use std::time::{Clock, Instant};
 use std::{io, mem, thread};
 use wl_loops::{EventLoop, Lobby, Shared, TransportListener};
 use wl_status::{StatusEnd, StatusServer};
-
-/// The bytes of standard input that are read at once.
-const INPUT: usize = 4_096;
 
 /// What the threads of a server are given.
 #[derive(Drop)]
@@ -69,7 +66,7 @@ where
         }
         start_status(scope, rt, overview, end, status)?;
         if while_input {
-            wait_for_input(rt);
+            wait_for_input(rt, &end.over);
             end.tell(rt);
         }
         Ok(())
@@ -142,18 +139,6 @@ where
         return Err(end.give_up(rt));
     }
     Ok(())
-}
-
-/// Reads standard input to its end, or until it fails.
-fn wait_for_input<R: io::Input + AllocGlobal>(rt: &R) {
-    let mut reader = rt.reader();
-    let mut bytes = [0; INPUT];
-    for _ in 0..u64::MAX {
-        match reader.read(&mut bytes) {
-            Ok(0) | Err(_) => return,
-            Ok(_) => {}
-        }
-    }
 }
 
 /// What ends the threads of a server.
