@@ -7,7 +7,9 @@ import socket
 import subprocess
 from pathlib import Path
 
-from daemon_admission import bearer, token_file
+from daemon_admission import bearer, open_of, token_file
+from daemon_fences import FENCE
+from daemon_pushes import URL, request
 from daemon_server import until_true
 from running import SECONDS, Ended, expect, expect_end, run_on
 from status_server import Shown, expect_guards, expect_status
@@ -50,6 +52,16 @@ def metrics(program):
             peer.leave()
         gone = lambda: "weblocks_connections 0" in daemon.get("/metrics").body.decode().splitlines()
         until_true("they are gone", gone)
+
+
+def bytes_sent(program):
+    """Those of fencing tokens are among them."""
+    with Shown(program, "--epoch", "1") as daemon:
+        peer = daemon.peer(FENCE)
+        told = [peer.ask(open_of(URL)), peer.ask(request(1))]
+        expect("whether a token was told", "fence" in told[1], True)
+        wanted = f"weblocks_sent_bytes_total {sum(map(len, told))}"
+        until_true("they are counted", lambda: wanted in daemon.get("/metrics").body.decode().splitlines())
 
 
 def metrics_are_well_formed(program):
@@ -271,6 +283,7 @@ def status_checks(program):
         ("the health of a daemon", health),
         ("the page", page),
         ("metrics", metrics),
+        ("the bytes that were sent", bytes_sent),
         ("the text of metrics", metrics_are_well_formed),
         ("locks", locks),
         ("locks that are left out", left_out_locks),

@@ -45,18 +45,21 @@ pub struct Counter {
 }
 
 impl Counter {
+    /// A counter at 0.
     pub fn new() -> Counter {
         Counter {
             number: AtomicU64::new(0),
         }
     }
 
+    /// Counts so many more. It begins at 0 again behind 2^64 - 1.
     pub fn add(&self, more: u64) {
         if more > 0 {
             self.number.fetch_add(more, Ordering::SeqCst);
         }
     }
 
+    /// How many were counted.
     pub fn value(&self) -> u64 {
         self.number.load(Ordering::SeqCst)
     }
@@ -69,6 +72,7 @@ pub struct Counters {
 }
 
 impl Counters {
+    /// A counter at 0 for each of so many places.
     pub fn new(alloc: Global, places: usize) -> Result<Counters, Memory> {
         let mut counters = Vec::new(alloc);
         for _ in 0..places {
@@ -77,12 +81,14 @@ impl Counters {
         Ok(Counters { counters })
     }
 
+    /// Counts one at this place, if there is one.
     pub fn add(&self, place: usize) {
         if let Some(counter) = self.counters.get(place) {
             counter.add(1);
         }
     }
 
+    /// How many were counted at this place: none where there is none.
     pub fn value(&self, place: usize) -> u64 {
         match self.counters.get(place) {
             Some(counter) => counter.value(),
@@ -98,16 +104,19 @@ pub struct Refused {
 }
 
 impl Refused {
+    /// None was refused yet.
     pub fn new(alloc: Global) -> Result<Refused, Memory> {
         Ok(Refused {
             by_reason: Counters::new(alloc, REASONS.len())?,
         })
     }
 
+    /// A handshake was refused, or a connection before it.
     pub fn refuse(&self, rejection: Rejection) {
         self.by_reason.add(place_of(rejection));
     }
 
+    /// A connection was closed without an answer.
     pub fn drop_one(&self) {
         self.by_reason.add(DROPPED);
     }
@@ -130,6 +139,7 @@ pub struct Counts {
 }
 
 impl Counts {
+    /// Nothing was counted yet.
     pub fn new(alloc: Global) -> Result<Counts, Memory> {
         Ok(Counts {
             messages: Counter::new(),
@@ -149,22 +159,22 @@ impl Counts {
         self.received.add(message.len() as u64);
     }
 
-    /// A reply is to leave.
+    /// A reply is to leave, which may have tokens then.
     pub fn reply(&self, text: &str) {
-        self.tell(text);
+        self.grants.add(grants_in(text));
         if let Some(rule) = rule_in(text) {
             self.by_rule.add(rule);
         }
     }
 
-    /// A push is to leave.
+    /// A push is to leave, which may have tokens then.
     pub fn push(&self, text: &str) {
         self.pushes.add(1);
-        self.tell(text);
+        self.grants.add(grants_in(text));
     }
 
-    fn tell(&self, text: &str) {
+    /// A reply or a push leaves, with the tokens that it has.
+    pub fn send(&self, text: &str) {
         self.sent.add(text.len() as u64);
-        self.grants.add(grants_in(text));
     }
 }

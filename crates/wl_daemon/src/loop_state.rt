@@ -22,6 +22,7 @@ pub struct LoopState {
 }
 
 impl LoopState {
+    /// Of a loop that has no connections yet.
     pub fn new(alloc: Global) -> Result<LoopState, Memory> {
         Ok(LoopState {
             ring: LoopRing::new(alloc)?,

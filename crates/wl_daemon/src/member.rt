@@ -123,13 +123,16 @@ impl<'a> Member<'a> {
         }
     }
 
-    /// What it made as its connection is told it. Where memory is refused it has ended.
+    /// What it made as its connection is told it, and its bytes are counted. Where memory is refused it has ended.
     fn with_tokens<R: Wait>(self, rt: &R, text: String) -> Result<(Member<'a>, String), Memory>
         ensures member { IfOk result (λ told. told.0 ≡ self.entry) }
         ensures text { IfOk result (λ told. IsFenced self.entry.epoch (string_bytes text) (string_bytes told.1)) }
     {
         match text_with_tokens(self.desk.alloc, self.epoch, &self.peer, text) {
-            Ok(told) => Ok((self, told)),
+            Ok(told) => {
+                self.desk.event_loop.counts.send(told.as_str());
+                Ok((self, told))
+            }
             Err(Memory) => {
                 self.end(rt);
                 Err(Memory)

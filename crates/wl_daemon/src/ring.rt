@@ -14,6 +14,7 @@ pub struct LoopRing {
 }
 
 impl LoopRing {
+    /// Of a loop none of whose connections has changes.
     pub fn new(alloc: Global) -> Result<LoopRing, Memory> {
         Ok(LoopRing {
             places: Arc::new(alloc, wl_manager::Ring::new(alloc))?,
