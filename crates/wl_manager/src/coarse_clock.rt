@@ -29,12 +29,10 @@ impl CoarseClock {
 
     /// Sets it. A time before that of the clock, as of one of several hosts who is late, changes nothing.
     pub fn set(&self, now: u64) {
-        if self.now() < now {
-            self.millis.store(now, Ordering::SeqCst);
-        }
+        self.millis.fetch_max(now, Ordering::SeqCst);
     }
 
-    /// The time to which it was set last.
+    /// The latest time to which it was set.
     pub fn now(&self) -> u64 {
         self.millis.load(Ordering::SeqCst)
     }

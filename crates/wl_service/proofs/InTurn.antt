@@ -1,6 +1,6 @@
 -- Managers in turn.
 use Rattle.std.proofs.Common.{◌≡◌, ◌∙◌, ap, arith, refl, subst, sym}
-use Rattle.std.specs.Prelude.{ℕ, ◌+◌, ◌≤◌, List, [], ◌∷◌, ◌++◌, Option, Some, None}
+use Rattle.std.specs.Prelude.{ℕ, ◌+◌, ◌≤◌, List, [], ◌∷◌, ◌++◌, length, Option, Some, None}
 use Rattle.wl_origin.specs.Origin.{Tuple}
 use Rattle.wl_origin.specs.declared.manager_key.ManagerKey.{ManagerKey}
 use Rattle.wl_service.specs.declared.listing.ManagerLocks.{ManagerLocks}
@@ -21,6 +21,10 @@ pub rows_in_push : (managers : List ManagerLocks) (one : ManagerLocks)
 rows_in_push [] one = omega arith
 rows_in_push (first ∷ rest) one = let e = rows_in_push rest one in omega arith
 
+length_push : (managers : List ManagerLocks) (one : ManagerLocks) → length (managers ++ one ∷ []) ≡ length managers + 1
+length_push [] one = refl
+length_push (first ∷ rest) one = let e = length_push rest one in omega arith
+
 pub in_turn_push : (after : Option ManagerKey) (only : Option Tuple) (managers : List ManagerLocks) (one : ManagerLocks)
     → AreInTurn after only managers → MayFollow (last_key after managers) only one.key → rows_of one ≤ 1000
     → AreInTurn after only (managers ++ one ∷ [])
@@ -36,10 +40,12 @@ pub one_more : (only : Option Tuple) (managers longer : List ManagerLocks) (one 
     → AreInTurn None only managers → (only ≡ None → rows_in managers + room ≡ 10000)
     → (only ≡ None → left + rows_of one ≡ room)
     → (Some key ≡ last_key None longer) × AreInTurn None only longer × (only ≡ None → rows_in longer + left ≡ 10000)
+    × (length longer ≡ length managers + 1)
 one_more only managers longer one key after room left longer_is key_is after_is follows few turn full spent =
     rw longer_is (
       ap Some key_is ∙ sym (last_key_push None managers one),
       in_turn_push None only managers one turn (subst (λ (last : Option ManagerKey). MayFollow last only one.key)
           after_is follows) few,
       (λ none. let a = full none in let b = spent none in let e = rows_in_push managers one in omega arith),
+      length_push managers one,
     )

@@ -51,8 +51,9 @@ AreInTurn after only [] = Unit {0}
 AreInTurn after only (one ∷ rest) = MayFollow after only one.key × (rows_of one ≤ 1000)
     × AreInTurn (Some one.key) only rest
 
--- Each manager is listed once, in the order of their keys, and those that were asked for alone; with no more rows than
--- may be, of one manager and, where no origin is named, in all
+-- Each manager is listed once, in the order of their keys, and those that were asked for alone; with no more managers
+-- than may be, and no more rows, of one manager and, where no origin is named, in all
 pub record IsListing (only : Option Tuple) (all : ServiceLocks) : Type 0 where
   pub managers : AreInTurn None only all.managers.items
+  pub few : length all.managers.items ≤ 10000
   pub in_all : only ≡ None → rows_in all.managers.items ≤ 10000

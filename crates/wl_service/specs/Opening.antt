@@ -1,4 +1,4 @@
--- Which client a URL and a bucket give that are opened, and why they give none.
+-- Which client a URL and a bucket give that are opened, and why they give none (own).
 use Rattle.std.specs.Prelude.{◌≡◌, true, Option, Some, None, Result, Ok, Err}
 use Rattle.wl_types.specs.declared.words.Kind.{Kind}
 use Rattle.wl_origin.specs.declared.manager_key.ManagerKey.{ManagerKey}

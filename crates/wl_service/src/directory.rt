@@ -5,7 +5,6 @@ ghost use Rattle.std.specs.Prelude.{option_map};
 ghost use Rattle.std.specs.Arc.{arc_value};
 ghost use Rattle.std.specs.Option.{option_copied};
 ghost use Rattle.std.specs.Range.Bound.{bound_map};
-ghost use Rattle.wl_origin.specs.Manager.{manager_cmp};
 ghost use Rattle.wl_service.specs.declared.fault.OpenFault.TheVariants.{BadUrl, BadBucket};
 ghost use Rattle.wl_service.specs.Directory.{Adds, KeepsOthers, kept_for};
 ghost use Rattle.wl_service.specs.Listing.{MayFollow, bound_after, first_of, left_after};

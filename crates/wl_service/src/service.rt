@@ -1,6 +1,6 @@
 //! The service.
 
-ghost use Rattle.std.specs.Prelude.{◌≡◌, ◌≢◌, true, is_some, IfErr, IfOk, IfNone, IfSome, Some, Ok};
+ghost use Rattle.std.specs.Prelude.{◌≡◌, ◌≢◌, true, is_some, IfErr, Some, Ok};
 ghost use Rattle.wl_origin.specs.Bucket.{default_bucket};
 ghost use Rattle.wl_origin.specs.Opening.{manager_of};
 ghost use Rattle.wl_service.specs.Clients.{number_of};
@@ -142,7 +142,9 @@ impl Service {
             Ok(agent) => Ok(Client::of_manager(agent, own)),
             Err(fault) => {
                 // Its manager may have lost its last client meanwhile.
-                self.drop_if_unused(rt, own);
+                if let Some(own) = own {
+                    self.drop_unused(rt, &own);
+                }
                 Err(fault)
             }
         }
@@ -192,22 +194,16 @@ impl Service {
         ensures { is_some result ≡ is_some (number_of client) }
     {
         let (leaving, key) = client.close(rt);
-        self.drop_if_unused(rt, key);
+        if let Some(key) = key {
+            self.drop_unused(rt, &key);
+        }
         leaving
     }
 
-    /// Drops the key's manager, if nobody uses it.
-    fn drop_if_unused<R: Wait>(&self, rt: &R, key: Option<ManagerKey>) {
-        if let Some(key) = key {
-            // It is dropped once the directory's lock is free.
-            let unused = self.directory.lock(rt).take_unused(&key);
-            drop(unused);
-        }
-    }
-
-    /// The same, unless the service keeps each manager.
+    /// Drops the key's manager if nobody uses it, unless the service keeps each.
     pub(crate) fn drop_unused<R: Wait>(&self, rt: &R, key: &ManagerKey) {
         if let Keeping::Used { .. } = self.keeping {
+            // It is dropped once the directory's lock is free.
             let unused = self.directory.lock(rt).take_unused(key);
             drop(unused);
         }

@@ -1,4 +1,4 @@
-use Rattle.std.proofs.Common.{rules, ◌≤◌, ◌+◌, length}
+use Rattle.std.proofs.Common.{rules, ◌≤◌, ◌+◌, ◌∙◌, ap, length}
 use Rattle.std.specs.Option.{option_copied}
 use Rattle.wl_service.specs.Listing.{MayFollow}
 use Rattle.wl_service.proofs.InTurn.{one_more}
@@ -11,7 +11,8 @@ loop-taken-preserved g c =
     let few : length c.in_ok-locks.locks.held.items + length c.in_ok-locks.locks.pending.items ≤ 1000 = search rules in
     let room : length c.in_ok-locks.locks.held.items + length c.in_ok-locks.locks.pending.items
     ≤ c.loop-taken.room = search rules in
-    one_more (option_copied c.args.only) c.loop-taken.managers.items _
+    let more = one_more (option_copied c.args.only) c.loop-taken.managers.items _
     (record { key = c.in-Some.key; locks = c.in_ok-locks.locks }) _ c.loop-taken.after c.loop-taken.room _
     c.in_ok-push.ensures.items c.in_ok-copy.ensures i.0 follows few i.1 i.2
-    (λ none. let e = c.room_of-used.ensures.counted none in search rules)
+    (λ none. let e = c.room_of-used.ensures.counted none in search rules) in
+    (more.0, more.1, more.2, more.3 ∙ ap (λ n. n + 1) i.3)
