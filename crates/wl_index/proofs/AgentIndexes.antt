@@ -21,8 +21,8 @@ use Rattle.wl_machine.specs.declared.rows.SignalRow.{SignalRow}
 use Rattle.wl_machine.specs.Refusals.{is_window, reason_in, signals_of}
 use Rattle.wl_machine.specs.Step.{with_active}
 use Rattle.wl_machine.proofs.Lists.{any_both, any_map, any_same}
-use Rattle.wl_index.specs.declared.agents.Agent.{Agent}
-use Rattle.wl_index.specs.declared.agents.Signal.{Signal}
+use Rattle.wl_index.specs.declared.agent.Agent.{Agent}
+use Rattle.wl_index.specs.declared.agent.Signal.{Signal}
 use Rattle.wl_index.specs.inner.AgentRows.{agent_row, signal_row, made_by, IsAgentIndex, at_some, reason_at}
 use Rattle.wl_index.proofs.Lists.{all_append, all_front, all_back, all_weaker}
 use Rattle.wl_number_map.proofs.Keyed.{Found, found, entry_last, same_number, number_same, above_apart}

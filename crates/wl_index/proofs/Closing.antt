@@ -17,8 +17,8 @@ use Rattle.wl_machine.specs.declared.rows.SignalRow.{SignalRow}
 use Rattle.wl_machine.specs.Refusals.{signals_of}
 use Rattle.wl_machine.specs.Step.{with_reason}
 use Rattle.wl_machine.proofs.Lists.{filter_map, map_twice}
-use Rattle.wl_index.specs.declared.agents.Agent.{Agent}
-use Rattle.wl_index.specs.declared.agents.Signal.{Signal}
+use Rattle.wl_index.specs.declared.agent.Agent.{Agent}
+use Rattle.wl_index.specs.declared.agent.Signal.{Signal}
 use Rattle.wl_index.specs.inner.AgentRows.{agent_row, signal_row, made_by, IsAgentIndex, aborted}
 use Rattle.wl_index.specs.inner.Lists.{is_spared}
 use Rattle.wl_index.proofs.Lists.{all_append, all_front, all_back, all_weaker, all_filter}

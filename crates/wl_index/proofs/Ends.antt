@@ -18,7 +18,8 @@ use Rattle.wl_machine.specs.Grants.{granted_lock, locks, queue}
 use Rattle.wl_machine.proofs.Lists.{same_bytes, filters_commute, filter_map}
 use Rattle.wl_number_map.proofs.Keyed.{Found, found, number_same}
 use Rattle.wl_index.specs.declared.request.Request.{Request}
-use Rattle.wl_index.specs.inner.GrantOrder.{by_grant_seq, by_grant_seq_all}
+use Rattle.wl_index.specs.inner.GrantOrder.{by_grant_seq}
+use Rattle.wl_index.proofs.GrantOrder.{by_grant_seq_all}
 use Rattle.wl_index.specs.inner.Rows.{Entry, other, waiting, holding, grant_seq_of, request_row, lock_row, held_of}
 use Rattle.wl_index.specs.inner.Rows.{pending_of}
 use Rattle.wl_index.specs.inner.NameQueue.{Waiting, Matches, without, other_than, number_and_mode, lock_and_mode}

@@ -15,7 +15,8 @@ use Rattle.wl_machine.specs.Grants.{is_exclusive, is_empty, grants, locks, queue
 use Rattle.wl_machine.specs.Laws.{is_grantable}
 use Rattle.wl_machine.proofs.InTurn.{in_turn}
 use Rattle.wl_number_map.proofs.Keyed.{same_number, number_same}
-use Rattle.wl_index.specs.inner.GrantOrder.{by_grant_seq, by_grant_seq_all}
+use Rattle.wl_index.specs.inner.GrantOrder.{by_grant_seq}
+use Rattle.wl_index.proofs.GrantOrder.{by_grant_seq_all}
 use Rattle.wl_index.specs.inner.Rows.{Entry, other, grant_seq_of, waiting, holding, request_row, lock_row, held_of}
 use Rattle.wl_index.specs.inner.Rows.{pending_of}
 use Rattle.wl_index.specs.inner.NameQueue.{Numbered, Waiting, Matches, admits, number_and_mode, lock_and_mode}

@@ -16,7 +16,8 @@ use Rattle.wl_machine.specs.declared.rows.PendingRow.{PendingRow}
 use Rattle.wl_machine.specs.Grants.{granted_lock}
 use Rattle.wl_index.specs.declared.request.Request.{Request}
 use Rattle.wl_index.specs.declared.request.Stage.TheVariants.{Pending, Held}
-use Rattle.wl_index.specs.inner.GrantOrder.{Distinct, by_grant_seq, by_grant_seq_last}
+use Rattle.wl_index.specs.inner.GrantOrder.{Distinct, by_grant_seq}
+use Rattle.wl_index.proofs.GrantOrder.{by_grant_seq_last}
 use Rattle.wl_index.specs.inner.Rows.{Entry, holds, waiting, holding, grant_seq_of, request_row, lock_row, pending_of}
 use Rattle.wl_index.specs.inner.Rows.{held_of, IsTable}
 use Rattle.wl_index.proofs.Distinct.{distinct_last_come}

@@ -15,7 +15,8 @@ use Rattle.wl_machine.proofs.Lists.{filter_map, any_map}
 use Rattle.wl_index.specs.declared.request.Request.{Request}
 use Rattle.wl_index.specs.declared.request.Stage.{Stage}
 use Rattle.wl_index.specs.declared.request.Stage.TheVariants.{Pending, Held}
-use Rattle.wl_index.specs.inner.GrantOrder.{by_grant_seq, by_grant_seq_all}
+use Rattle.wl_index.specs.inner.GrantOrder.{by_grant_seq}
+use Rattle.wl_index.proofs.GrantOrder.{by_grant_seq_all}
 use Rattle.wl_index.specs.inner.Rows.{Entry, tag, tags_of, is_fresh, taken_stage, waits, holds, grant_seq, waiting}
 use Rattle.wl_index.specs.inner.Rows.{holding, grant_seq_of, request_row, lock_row, pending_of, held_of, IsTable}
 use Rattle.wl_index.proofs.Distinct.{distinct_map}

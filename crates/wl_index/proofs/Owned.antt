@@ -14,7 +14,8 @@ use Rattle.wl_index.specs.declared.request.Standing.TheVariants.{Waits, Holds}
 use Rattle.wl_index.specs.declared.request.Place.{Place}
 use Rattle.wl_index.specs.declared.request.Stage.{Stage}
 use Rattle.wl_index.specs.declared.request.Stage.TheVariants.{Pending, Held}
-use Rattle.wl_index.specs.inner.GrantOrder.{Distinct, by_grant_seq, filter_by_grant_seq}
+use Rattle.wl_index.specs.inner.GrantOrder.{Distinct, by_grant_seq}
+use Rattle.wl_index.proofs.GrantOrder.{filter_by_grant_seq}
 use Rattle.wl_index.specs.inner.Rows.{Entry, waits, holds, waiting, holding, grant_seq_of, request_row, lock_row}
 use Rattle.wl_index.specs.inner.Rows.{pending_of, held_of}
 use Rattle.wl_index.specs.inner.Lists.{is_spared}

@@ -11,8 +11,8 @@ use Rattle.std.specs.List.Sorted.{IsStrictlySortedBy}
 use Rattle.std.specs.BTreeMap.{is_at}
 use Rattle.std.specs.Ordering.{nat_cmp}
 use Rattle.std.proofs.lemmas.Bool.Decides.{nat_tests}
-use Rattle.wl_index.specs.declared.agents.Agent.{Agent}
-use Rattle.wl_index.specs.declared.agents.Signal.{Signal}
+use Rattle.wl_index.specs.declared.agent.Agent.{Agent}
+use Rattle.wl_index.specs.declared.agent.Signal.{Signal}
 use Rattle.wl_index.specs.inner.Lists.{IsRising, Keeps, SameLists, at, list_at, numbers_on, own_of, signed_of}
 use Rattle.wl_index.specs.inner.AgentRows.{IsAgentIndex, agent_row}
 use Rattle.wl_index.specs.inner.Rows.{Entry}

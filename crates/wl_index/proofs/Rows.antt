@@ -20,7 +20,8 @@ use Rattle.wl_machine.proofs.Lists.{filter_map, filters_commute}
 use Rattle.wl_index.specs.declared.request.Request.{Request}
 use Rattle.wl_index.specs.declared.request.Stage.{Stage}
 use Rattle.wl_index.specs.declared.request.Stage.TheVariants.{Pending, Held}
-use Rattle.wl_index.specs.inner.GrantOrder.{place, by_grant_seq, filter_by_grant_seq}
+use Rattle.wl_index.specs.inner.GrantOrder.{place, by_grant_seq}
+use Rattle.wl_index.proofs.GrantOrder.{filter_by_grant_seq}
 use Rattle.wl_index.specs.inner.Rows.{Entry, Apart, tag, tags_of, other, waits, holds, waiting, holding, grant_seq_of}
 use Rattle.wl_index.specs.inner.Rows.{request_row, lock_row, pending_of, held_of}
 use Rattle.wl_index.proofs.Lists.{filter_whole, filter_none, all_weaker}

@@ -6,8 +6,9 @@ use Rattle.std.specs.List.Sorted.{IsPermutation, IsNonDecreasingBy}
 use Rattle.std.proofs.lemmas.List.Elements.{recursion_from_All}
 use Rattle.std.proofs.lemmas.List.Sorted.{IsPermutation-keeps, IsPermutation-refl, IsPermutation-sym}
 use Rattle.std.proofs.lemmas.List.Sorted.{IsPermutation-trans, IsPermutation-cons, IsPermutation-middle}
-use Rattle.wl_index.specs.inner.GrantOrder.{Distinct, Rising, place, by_grant_seq, place_apart, place_first}
-use Rattle.wl_index.specs.inner.GrantOrder.{by_grant_seq_rising}
+use Rattle.wl_index.specs.inner.GrantOrder.{Distinct, place, by_grant_seq}
+use Rattle.wl_index.proofs.GrantOrder.{Rising, place_apart, place_first}
+use Rattle.wl_index.proofs.GrantOrder.{by_grant_seq_rising}
 
 -- A relation holds along each permutation if it is reflexive and transitive, and goes under a head and over an exchange
 -- of two heads.

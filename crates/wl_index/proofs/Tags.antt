@@ -17,7 +17,7 @@ use Rattle.wl_machine.proofs.Covers.{alike}
 use Rattle.wl_machine.proofs.Lists.{and_first, and_second, any_map, or_false}
 use Rattle.wl_index.specs.declared.request.Owner.{Owner}
 use Rattle.wl_index.specs.declared.request.Owner.TheVariants as owner
-use Rattle.wl_index.specs.declared.agents.Agent.{Agent}
+use Rattle.wl_index.specs.declared.agent.Agent.{Agent}
 use Rattle.wl_index.specs.inner.GrantOrder.{by_grant_seq}
 use Rattle.wl_index.specs.inner.Rows.{Entry, Tag, tag, tags_of, other, waits, waiting, holding, grant_seq_of}
 use Rattle.wl_index.specs.inner.Rows.{request_row, lock_row, pending_of, held_of}

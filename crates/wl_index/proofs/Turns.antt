@@ -10,7 +10,8 @@ use Rattle.std.specs.BTreeMap.{is_at}
 use Rattle.std.specs.Ordering.{nat_cmp}
 use Rattle.std.proofs.lemmas.Bool.Decides.{nat_tests}
 use Rattle.std.proofs.lemmas.Map.Keys.{sorted_head, sorted_tail}
-use Rattle.wl_index.specs.inner.GrantOrder.{Distinct, place, by_grant_seq, by_grant_seq_all, place_all}
+use Rattle.wl_index.specs.inner.GrantOrder.{Distinct, place, by_grant_seq}
+use Rattle.wl_index.proofs.GrantOrder.{by_grant_seq_all, place_all}
 use Rattle.wl_index.specs.inner.Rows.{Entry, other}
 use Rattle.wl_index.specs.inner.Ends.{AreLive}
 use Rattle.wl_index.proofs.Lists.{all_filter, all_weaker}

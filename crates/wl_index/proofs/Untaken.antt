@@ -8,7 +8,8 @@ use Rattle.std.proofs.lemmas.List.Elements.{filter-append}
 use Rattle.wl_machine.specs.declared.rows.HeldRow.{HeldRow}
 use Rattle.wl_machine.proofs.Lists.{filter_map}
 use Rattle.wl_index.specs.declared.request.Place.{Place}
-use Rattle.wl_index.specs.inner.GrantOrder.{by_grant_seq, by_grant_seq_all, filter_by_grant_seq, Distinct}
+use Rattle.wl_index.specs.inner.GrantOrder.{by_grant_seq, Distinct}
+use Rattle.wl_index.proofs.GrantOrder.{by_grant_seq_all, filter_by_grant_seq}
 use Rattle.wl_index.specs.inner.Rows.{Entry, holding, grant_seq_of, lock_row, held_of}
 use Rattle.wl_index.specs.inner.Order.{place_of, from_grant_seq, first_of}
 use Rattle.std.specs.List.Sorted.{IsStrictlySortedBy}

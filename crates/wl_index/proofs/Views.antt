@@ -17,7 +17,8 @@ use Rattle.wl_machine.specs.Step.{lock_info, request_info}
 use Rattle.wl_machine.proofs.Lists.{filter_map, map_twice}
 use Rattle.wl_index.specs.declared.request.Request.{Request}
 use Rattle.wl_index.specs.inner.NameQueue.{Numbered, number_and_mode}
-use Rattle.wl_index.specs.inner.GrantOrder.{by_grant_seq, by_grant_seq_all}
+use Rattle.wl_index.specs.inner.GrantOrder.{by_grant_seq}
+use Rattle.wl_index.proofs.GrantOrder.{by_grant_seq_all}
 use Rattle.wl_index.specs.inner.Rows.{Entry, waiting, holding, grant_seq_of, request_row, lock_row, pending_of, held_of}
 use Rattle.wl_index.proofs.Lists.{all_filter}
 use Rattle.wl_number_map.proofs.Keyed.{same_number, number_same}

@@ -1,18 +1,14 @@
 //! What an abort or a termination ends.
-ghost use Rattle.std.specs.Prelude.{◌≡◌, ℕ, ◌+◌, ◌≤◌, [], ◌++◌, map, filter, length, vec_len, vec_capacity};
+ghost use Rattle.std.specs.Prelude.{◌≡◌, ◌+◌, ◌≤◌, [], ◌++◌, filter, length, vec_capacity};
 ghost use Rattle.std.specs.List.Sorted.{IsStrictlySortedBy};
-ghost use Rattle.std.specs.Map.{keys_of};
-ghost use Rattle.std.specs.Option.{option_to_list};
 ghost use Rattle.std.specs.Ordering.{nat_cmp};
 ghost use Rattle.wl_machine.specs.Step.{request_ends, lock_ends};
 ghost use Rattle.wl_index.specs.declared.request.Standing.TheVariants.{Waits, Holds};
 ghost use Rattle.wl_index.specs.declared.request.Place.{Place};
-ghost use Rattle.wl_index.specs.inner.Ends.{IsOwners, ends_request, ends_lock, ends_entry, place_ends, numbers_of};
+ghost use Rattle.wl_index.specs.inner.Ends.{IsOwners, ends_request, ends_lock, place_ends, numbers_of};
 ghost use Rattle.wl_index.specs.inner.Ends.{without_ends, AreLive};
 ghost use Rattle.wl_index.specs.inner.Lists.{is_spared};
-ghost use Rattle.wl_index.specs.inner.Order.{place_of};
-ghost use Rattle.wl_index.specs.inner.Rows.{held_of, pending_of, holding, grant_seq_of};
-ghost use Rattle.wl_index.specs.inner.GrantOrder.{Distinct};
+ghost use Rattle.wl_index.specs.inner.Rows.{held_of, pending_of};
 
 use crate::locks::Locks;
 use crate::order::sort;

@@ -5,6 +5,7 @@
 //! have is found. An event notes its changes and the queues that it touched, which are processed at its end.
 #![tactic(auto)]
 
+mod agent;
 mod agents;
 mod copies;
 mod ending;

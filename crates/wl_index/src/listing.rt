@@ -2,7 +2,7 @@
 //!
 //! A request that ends stays on its lists, so that its end costs nothing here: whether a number is of a live request is
 //! seen where it is looked up. A list that is full is cleaned before it grows.
-ghost use Rattle.std.specs.Prelude.{◌≡◌, ◌<◌, ℕ, filter, is_some, nat_lt, true, IsSome, OnOk};
+ghost use Rattle.std.specs.Prelude.{◌≡◌, ◌<◌, ℕ, filter, nat_lt, true, IsSome, OnOk};
 ghost use Rattle.std.specs.List.{AllByRecursion, Contains};
 ghost use Rattle.std.specs.List.Sorted.{IsStrictlySortedBy};
 ghost use Rattle.std.specs.Ordering.{nat_cmp};

@@ -7,7 +7,6 @@ ghost use Rattle.std.specs.Map.{keys_of, lookup};
 ghost use Rattle.std.specs.BTreeMap.{is_at};
 ghost use Rattle.std.specs.Ordering.{nat_cmp};
 ghost use Rattle.wl_types.specs.declared.phases.Phase.TheVariants.{Stolen, Granted, Unavailable};
-ghost use Rattle.wl_machine.specs.declared.rows.HeldRow.{HeldRow};
 ghost use Rattle.wl_machine.specs.declared.rows.PendingRow.{PendingRow};
 ghost use Rattle.wl_machine.specs.Grants.{Lists, granted_lock, grants, in_use, is_empty, lists_of, locks, queue};
 ghost use Rattle.wl_machine.specs.Grants.{process_queues};

@@ -1,12 +1,9 @@
 //! The names in use, each with its queue.
-ghost use Rattle.std.specs.Prelude.{◌≡◌, ◌<◌, true, List, ℕ, [], ◌∷◌, ◌++◌, map, slice_get, IfOk, OnOk, OnErr, IfSome};
+ghost use Rattle.std.specs.Prelude.{◌≡◌, ◌<◌, List, [], ◌∷◌, ◌++◌, IfOk, OnOk, OnErr, IfSome};
 ghost use Rattle.std.specs.Prelude.{IfNone, Some, None};
 ghost use Rattle.std.specs.List.{AllByRecursion};
-ghost use Rattle.std.specs.Map.{lookup};
-ghost use Rattle.std.specs.BTreeMap.{is_at};
 ghost use Rattle.std.specs.Option.{option_copied};
-ghost use Rattle.std.specs.Ordering.{nat_cmp};
-ghost use Rattle.wl_index.specs.inner.NameQueue.{Waiting, without, after_seize, after_grant, is_busy, with_one_more};
+ghost use Rattle.wl_index.specs.inner.NameQueue.{without, after_seize, after_grant, is_busy, with_one_more};
 ghost use Rattle.wl_index.specs.inner.Queues.{AreQueues, IsBelow, at_place, grant_at, place_of, queue_of, with_joined};
 ghost use Rattle.wl_index.specs.inner.Queues.{with_updated, without_idle};
 

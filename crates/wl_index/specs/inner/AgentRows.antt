@@ -8,8 +8,8 @@ use Rattle.wl_types.specs.declared.words.Reason.{Reason}
 use Rattle.wl_machine.specs.declared.rows.AgentRow.{AgentRow}
 use Rattle.wl_machine.specs.declared.rows.SignalRow.{SignalRow}
 use Rattle.wl_machine.specs.Refusals.{signals_of}
-use Rattle.wl_index.specs.declared.agents.Agent.{Agent}
-use Rattle.wl_index.specs.declared.agents.Signal.{Signal}
+use Rattle.wl_index.specs.declared.agent.Agent.{Agent}
+use Rattle.wl_index.specs.declared.agent.Signal.{Signal}
 
 -- the machine's agents and signals, and the numbers that are given next
 pub record AgentRows : Type 0 where

@@ -6,7 +6,7 @@ use Rattle.std.specs.Map.{lookup}
 use Rattle.std.specs.BTreeMap.{is_at}
 use Rattle.std.specs.Ordering.{nat_cmp}
 use Rattle.std.specs.declared.vec.Vec.{Vec}
-use Rattle.wl_index.specs.declared.agents.Agent.{Agent}
+use Rattle.wl_index.specs.declared.agent.Agent.{Agent}
 use Rattle.wl_index.specs.declared.request.Owner.{Owner}
 use Rattle.wl_index.specs.declared.request.Owner.TheVariants as owner
 use Rattle.wl_index.specs.inner.Rows.{Entry, Tag}

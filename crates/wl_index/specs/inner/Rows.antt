@@ -1,4 +1,4 @@
--- What a table of requests by number means: the machine's locks and requests.
+-- What a table of requests by number means: the machine's locks and requests (own).
 use Rattle.std.specs.Prelude.{◌≡◌, ◌==◌, ℕ, ◌+◌, ◌≤◌, ◌<◌, Bool, true, false, not, Option, Some, List, [], ◌∷◌, map}
 use Rattle.std.specs.Prelude.{filter, length}
 use Rattle.std.specs.List.{AllByRecursion}

@@ -4,7 +4,7 @@ use Rattle.std.specs.List.{list_any}
 use Rattle.std.specs.Map.{lookup}
 use Rattle.std.specs.BTreeMap.{is_at}
 use Rattle.wl_number_map.proofs.Keyed.{same_number}
-use Rattle.wl_index.specs.declared.agents.Signal.{Signal}
+use Rattle.wl_index.specs.declared.agent.Signal.{Signal}
 use Rattle.wl_index.specs.inner.Lists.{IsRising, is_spared}
 use Rattle.wl_index.specs.inner.AgentRows.{Register}
 use Rattle.wl_index.proofs.Grouping.{no_group_rises, with_updated}

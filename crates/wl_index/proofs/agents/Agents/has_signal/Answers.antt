@@ -1,5 +1,5 @@
 use Rattle.std.proofs.Common.{◌∙◌, ◌==◌, sym, ap}
-use Rattle.wl_index.specs.declared.agents.Signal.{Signal}
+use Rattle.wl_index.specs.declared.agent.Signal.{Signal}
 use Rattle.wl_index.specs.inner.AgentRows.{at_some}
 use Rattle.wl_index.proofs.AgentIndexes.{signal_there}
 use Rattle.wl_index.proofs.agents.Agents.has_signal.Goals as goal

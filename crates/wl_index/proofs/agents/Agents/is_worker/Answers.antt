@@ -1,7 +1,7 @@
 use Rattle.std.proofs.Common.{◌∙◌, sym, ap}
 use Rattle.std.specs.Prelude.{not}
 use Rattle.wl_machine.specs.Refusals.{is_window}
-use Rattle.wl_index.specs.declared.agents.Agent.{Agent}
+use Rattle.wl_index.specs.declared.agent.Agent.{Agent}
 use Rattle.wl_index.specs.inner.AgentRows.{at_some}
 use Rattle.wl_index.proofs.AgentIndexes.{agent_test}
 use Rattle.wl_index.proofs.agents.Agents.is_worker.Goals as goal

@@ -3,7 +3,7 @@ use Rattle.std.specs.Option.{is_some}
 use Rattle.std.specs.List.{list_any}
 use Rattle.std.specs.Map.{keys_of, lookup, set_value, remove_entry}
 use Rattle.std.specs.BTreeMap.{is_at, insert_entry}
-use Rattle.wl_index.specs.declared.agents.Agent.{Agent}
+use Rattle.wl_index.specs.declared.agent.Agent.{Agent}
 use Rattle.wl_index.specs.inner.Lists.{IsRising, list_at, own_of, signed_of}
 use Rattle.wl_index.specs.inner.AgentRows.{Register}
 use Rattle.wl_number_map.proofs.Keyed.{Found, entry_last, found, undone}

@@ -1,6 +1,6 @@
 use Rattle.std.proofs.Common.{◌≡◌, ◌∙◌, ap, refl, sym, true, None}
 use Rattle.std.specs.Map.{keys_of}
-use Rattle.wl_index.specs.declared.agents.Agent.{Agent}
+use Rattle.wl_index.specs.declared.agent.Agent.{Agent}
 use Rattle.wl_index.specs.inner.Lists.{at, list_at, own_of, signed_of}
 use Rattle.wl_index.proofs.Registers.{empty_rises, lists_written, none_above, rises_written}
 use Rattle.wl_index.proofs.AgentIndexes.{opened_index, opened_rows}

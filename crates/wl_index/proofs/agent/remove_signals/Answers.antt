@@ -2,7 +2,7 @@ use Rattle.std.proofs.Common.{◌∙◌, ap, sym, filter}
 use Rattle.wl_index.specs.inner.Lists.{is_spared}
 use Rattle.wl_number_map.proofs.Keyed.{removed_at}
 use Rattle.wl_index.proofs.Spared.{spared_all, spared_next}
-use Rattle.wl_index.proofs.agents.remove_signals.Goals as goal
+use Rattle.wl_index.proofs.agent.remove_signals.Goals as goal
 
 pub loop-number-preserved : goal.loop-number-preserved
 loop-number-preserved c =

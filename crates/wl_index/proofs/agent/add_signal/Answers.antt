@@ -3,9 +3,9 @@ use Rattle.std.specs.Option.{option_copied_mut}
 use Rattle.std.specs.Prelude.{Result, Ok, Err, OnErr}
 use Rattle.std.specs.Map.{lookup}
 use Rattle.std.specs.BTreeMap.{is_at}
-use Rattle.wl_index.specs.declared.agents.Agent.{Agent}
-use Rattle.wl_index.proofs.agents.add_signal.Goals.{After-insert}
-use Rattle.wl_index.proofs.agents.add_signal.Goals as goal
+use Rattle.wl_index.specs.declared.agent.Agent.{Agent}
+use Rattle.wl_index.proofs.agent.add_signal.Goals.{After-insert}
+use Rattle.wl_index.proofs.agent.add_signal.Goals as goal
 
 err_holds : {T E : Type 0} (r : Result T E) (P : Type 0) → P → OnErr r P
 err_holds (Ok x) P p = tt

@@ -3,7 +3,7 @@ use Rattle.std.specs.Option.{unwrap_or}
 use Rattle.std.specs.List.{Contains}
 use Rattle.std.proofs.lemmas.Result.{on_ok_weaker}
 use Rattle.wl_index.specs.inner.Lists.{list_at}
-use Rattle.wl_index.proofs.agents.enroll.Goals as goal
+use Rattle.wl_index.proofs.agent.enroll.Goals as goal
 
 pub returns-in-Some-clause-on : goal.returns-in-Some-clause-on
 returns-in-Some-clause-on c = on_ok_weaker c.sign.result (λ on. record {

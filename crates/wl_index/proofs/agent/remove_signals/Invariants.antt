@@ -3,7 +3,7 @@ use Rattle.std.specs.List.Sorted.{IsStrictlySortedBy}
 use Rattle.std.specs.Map.{keys_of}
 use Rattle.std.specs.Ordering.{nat_cmp}
 use Rattle.wl_index.specs.inner.Lists.{is_spared}
-use Rattle.wl_index.proofs.agents.remove_signals.Given as goal
+use Rattle.wl_index.proofs.agent.remove_signals.Given as goal
 
 -- what the numbers that are left spare is what all spare
 abbrev pub invariant-loop-number : goal.invariant-loop-number

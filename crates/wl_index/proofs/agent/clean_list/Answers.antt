@@ -6,8 +6,8 @@ use Rattle.wl_machine.proofs.Covers.{Contains-filter, rising_filter}
 use Rattle.wl_index.specs.inner.Lists.{KeepsLive, at, list_at, numbers_on, only_live}
 use Rattle.wl_index.proofs.Grouping.{one_list}
 use Rattle.wl_index.proofs.Registers.{written_here}
-use Rattle.wl_index.proofs.agents.clean_list.Goals.{After-shrink_to_fit}
-use Rattle.wl_index.proofs.agents.clean_list.Goals as goal
+use Rattle.wl_index.proofs.agent.clean_list.Goals.{After-shrink_to_fit}
+use Rattle.wl_index.proofs.agent.clean_list.Goals as goal
 
 -- the lists, of which one was cleaned
 cleaned : (c : After-shrink_to_fit) → let list = c.shrink_to_fit.new.self in

@@ -5,8 +5,8 @@ use Rattle.std.specs.Ordering.{nat_cmp}
 use Rattle.wl_index.specs.inner.Lists.{at, numbers_on}
 use Rattle.wl_index.proofs.Grouping.{one_list}
 use Rattle.wl_index.proofs.Registers.{lent_some}
-use Rattle.wl_index.proofs.agents.sign.Goals.{After-unwrap-list}
-use Rattle.wl_index.proofs.agents.sign.Goals as goal
+use Rattle.wl_index.proofs.agent.sign.Goals.{After-unwrap-list}
+use Rattle.wl_index.proofs.agent.sign.Goals as goal
 
 pub unwrap-list-requires : goal.unwrap-list-requires
 unwrap-list-requires c = lent_some c.get_mut.result _ c.get_mut.ensures.value c.requires.there
