@@ -13,16 +13,13 @@ use std::thread::Threads;
 use std::time::Clock;
 use std::{io, thread};
 use wl_admission::Rules;
-use wl_cli::{DaemonOptions, EpochSource, addresses_of};
+use wl_cli::{DaemonOptions, EpochSource, MOST_LOOPS, addresses_of};
 use wl_daemon::{
     EntryFault, Setup, TokenFile, WatchedTokens, check_address, next_epoch, places_for, read_rules,
     serve,
 };
 use wl_liveness::Limits;
 use wl_status::StatusServer;
-
-/// The event loops at most.
-const MOST_LOOPS: usize = 64;
 
 /// One loop a core, where nothing else is asked for.
 fn loops_of<R: Threads>(rt: &R, options: &DaemonOptions<'_>) -> usize {
@@ -33,7 +30,7 @@ fn loops_of<R: Threads>(rt: &R, options: &DaemonOptions<'_>) -> usize {
             Err(_) => 1,
         },
     };
-    loops.clamp(1, MOST_LOOPS)
+    loops.clamp(1, MOST_LOOPS as usize)
 }
 
 /// The rules that are asked for, of the addresses and the token file of the options.

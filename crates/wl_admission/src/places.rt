@@ -42,6 +42,7 @@ pub struct Source {
 }
 
 impl Source {
+    /// The source of a connection from this address.
     pub fn of(address: IpAddr) -> Source {
         let address = address.to_canonical();
         let mapped = match address {
@@ -76,6 +77,7 @@ pub struct Places {
 }
 
 impl Places {
+    /// None is taken yet.
     pub fn new(alloc: Global, limits: PlaceLimits) -> Places
         ensures taken { result.taken ≡ 0 }
         ensures counts { (number : ℕ) → count_at result number ≡ 0 }

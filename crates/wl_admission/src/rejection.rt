@@ -1,6 +1,6 @@
 //! Why a handshake is refused.
 
-ghost use Rattle.std.specs.Prelude.{◌≡◌, codes};
+ghost use Rattle.std.specs.Prelude.{◌≡◌};
 ghost use Rattle.wl_admission.specs.Handshakes.{status_of};
 
 use std::error::Error;

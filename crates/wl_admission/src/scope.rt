@@ -31,6 +31,7 @@ impl Scope {
         }
     }
 
+    /// The same scope once more. `Memory` where a growth was refused.
     pub fn copy(&self, alloc: Global) -> Result<Scope, Memory>
         ensures { IfOk result (λ made. reach_of made ≡ reach_of self.now) }
     {

@@ -14,7 +14,7 @@ mod job;
 mod parts;
 mod texts;
 
-pub use daemon::DaemonOptions;
+pub use daemon::{DaemonOptions, MOST_LOOPS};
 pub use endpoint::{Endpoint, addresses_of};
 pub use epoch::EpochSource;
 pub use job::{Job, UsageFault, job_of};

@@ -1,4 +1,4 @@
--- Laws of what is read. The function that they are about is in `Reading`.
+-- Laws of what is read (own). The function that they are about is in `Reading`.
 use Rattle.std.specs.Prelude.{◌≡◌, ◌↔◌, ℕ, List, Option, Some, None, codes, option_and_then}
 use Rattle.serde_json.specs.Data.{Data}
 use Rattle.serde_json.specs.Find.{get}

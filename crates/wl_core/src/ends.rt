@@ -3,7 +3,6 @@ ghost use Rattle.std.specs.Prelude.{◌≡◌, ◌+◌, ◌≤◌, ◌<◌, [], 
 ghost use Rattle.std.specs.Prelude.{◌&&◌, Some};
 ghost use Rattle.std.specs.List.{list_any, slice_get};
 ghost use Rattle.std.specs.Option.{option_to_list};
-ghost use Rattle.wl_machine.specs.Grants.{locks};
 ghost use Rattle.wl_machine.specs.Least.{IsLeast, above};
 ghost use Rattle.wl_machine.specs.Step.{is_lock_of, lock_ends, with_taken, is_untaken, is_signal, request_ends};
 ghost use Rattle.wl_machine.specs.Step.{is_abortable};

@@ -1,5 +1,5 @@
 //! The names in use.
-ghost use Rattle.std.specs.Prelude.{◌≡◌, ◌<◌, filter, not, OnOk, OnErr, ◌||◌};
+ghost use Rattle.std.specs.Prelude.{◌≡◌, ◌<◌, filter, OnOk, OnErr, ◌||◌};
 ghost use Rattle.std.specs.List.{list_any};
 ghost use Rattle.std.specs.Str.{bytes_eq};
 ghost use Rattle.wl_machine.specs.Grants.{in_use};

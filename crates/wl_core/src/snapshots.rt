@@ -1,7 +1,7 @@
 //! What is held and what waits, as a snapshot shows it.
 ghost use Rattle.std.specs.Prelude.{◌≡◌, ◌+◌, ◌<◌, ◌++◌, map, OnOk, IfOk};
 ghost use Rattle.std.specs.List.{flat_map};
-ghost use Rattle.wl_machine.specs.Grants.{locks, queue};
+ghost use Rattle.wl_machine.specs.Grants.{queue};
 ghost use Rattle.wl_machine.specs.Step.{lock_info, request_info};
 
 use std::alloc::Global;

@@ -1,4 +1,4 @@
--- Comparing as the same is an equivalence: proofs alone, which `==` owes.
+-- Comparing as the same is an equivalence (own): proofs alone, which `==` owes.
 use Rattle.std.specs.Prelude.{◌≡◌, true}
 use Rattle.std.specs.Cmp.{IsEquivalence, bool_eq_equiv}
 use Rattle.std.specs.Cmp.Lexicographic.{options_equiv}

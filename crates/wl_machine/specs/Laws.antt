@@ -1,4 +1,5 @@
--- Laws of the machine, as statements. Each is the contract of a public function of the same name.
+-- Laws of the machine, as statements (own; what restates a section of Web Locks says so). Each is the contract of a
+-- public function of the same name.
 use Rattle.std.specs.Prelude.{◌≡◌, ◌<◌, ◌≤◌, ◌↔◌, ℕ, Bool, true, false, not, ◌&&◌, ◌==◌, List, [], ◌∷◌, ◌++◌, length}
 use Rattle.std.specs.Prelude.{map, filter, if◌then◌else◌}
 use Rattle.std.specs.List.{list_any, AllPairs}

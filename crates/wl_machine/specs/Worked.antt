@@ -1,5 +1,5 @@
--- Worked examples of the machine, as statements that hold by computation. Three windows are open, with numbers 1, 2 and
--- 3.
+-- Worked examples of the machine (own), as statements that hold by computation. Three windows are open, with numbers 1,
+-- 2 and 3.
 use Rattle.std.specs.Prelude.{◌≡◌, ℕ, true, false, List, [], ◌∷◌, Some, None}
 use Rattle.wl_types.specs.declared.words.Mode.{Mode}
 use Rattle.wl_types.specs.declared.words.Mode.TheVariants.{Exclusive, Shared}

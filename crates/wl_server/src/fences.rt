@@ -1,6 +1,6 @@
 //! Fences: tokens that grow, by which a resource behind a lock knows a later holder from an earlier one.
 
-ghost use Rattle.std.specs.Prelude.{◌≡◌, ◌<◌, ◌++◌, false, codes, IfOk, OnOk, string_bytes};
+ghost use Rattle.std.specs.Prelude.{◌≡◌, ◌<◌, ◌++◌, false, IfOk, OnOk, string_bytes};
 ghost use Rattle.std.specs.Fmt.{digit_glyph};
 ghost use Rattle.wl_server.specs.Fences.{hexadecimal, fence_word, fence_object, fences_member, fenced};
 ghost use Rattle.wl_server.specs.Fences.{WordsCompareAsTokens};

@@ -17,8 +17,7 @@ use std::random::RandomSource;
 use std::sync::Wait;
 
 /// Takes a line, asks it, and writes its reply and LF, after so many replies. Answers false where there is no line.
-/// What
-/// `line` and `reply` have plays no part.
+/// What `line` and `reply` have plays no part.
 fn relay_line<R: Wait, A: Asker, I: Read + Drop, O: Write>(
     rt: &R,
     asker: &mut A,

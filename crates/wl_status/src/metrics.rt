@@ -107,6 +107,7 @@ pub struct Metrics {
 }
 
 impl Metrics {
+    /// Nothing was counted yet.
     pub fn new(alloc: Global) -> Metrics {
         Metrics {
             samples: Vec::new(alloc),

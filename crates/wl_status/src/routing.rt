@@ -1,6 +1,6 @@
 //! Which request is answered by what.
 
-ghost use Rattle.std.specs.Prelude.{◌≡◌, map, option_map};
+ghost use Rattle.std.specs.Prelude.{◌≡◌, option_map};
 ghost use Rattle.std.specs.Option.{option_copied};
 ghost use Rattle.wl_admission.specs.Scopes.{tuple_in};
 ghost use Rattle.wl_admission.specs.Tokens.{rules_of};

@@ -3,8 +3,7 @@
 //! A handshake is admitted or refused (`Greeting`); then messages are answered and changes pushed in turns
 //! (`take_turn`), for as long as the stream doesn't block. Each text leaves whole before the next is made, and nothing
 //! is read while something waits to leave: so a peer that doesn't read costs one text of memory. What answers and
-//! pushes is a
-//! `Speaker`.
+//! pushes is a `Speaker`.
 #![tactic(auto)]
 
 mod counted;

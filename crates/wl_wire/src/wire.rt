@@ -73,6 +73,7 @@ impl<S: Read + Write + Drop> Wire<S> {
         self.may_read = true;
     }
 
+    /// Whether something waits to leave, or may.
     pub fn is_blocked(&self) -> bool
         ensures { result ≡ false → self.now.socket.output ≡ [] }
     {

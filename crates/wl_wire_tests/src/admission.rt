@@ -5,10 +5,9 @@
 //! - `fences`: from now on the server has fencing tokens to give;
 //! - `shard`: from now on each handshake has to name its origin;
 //! - `hello HEADER; HEADER; ..`: a handshake with these headers, by their first letters (`o`, `a`, `s`), each with its
-//! value
-//!   behind a colon; `t` stands for its target, which is `/` where it is left out;
+//!   value behind a colon; `t` stands for its target, which is `/` where it is left out;
 //! - `target TARGET`: whether a handshake with this target and no headers is admitted, or by which status it is
-//! refused;
+//!   refused;
 //! - `open URL`: whether whoever was admitted last may open it;
 //! - `take ADDRESS` and `leave ADDRESS`: a place of three, two for an address and three for one of this machine.
 

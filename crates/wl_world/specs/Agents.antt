@@ -1,4 +1,4 @@
--- One line of an agent that is open.
+-- One line of an agent that is open (own).
 use Rattle.std.specs.Prelude.{ℕ, List, [], Some, map, if◌then◌else◌}
 use Rattle.wl_codec.specs.declared.message.Body.{Body}
 use Rattle.wl_codec.specs.declared.reply.Outcome.{Outcome}

@@ -1,4 +1,4 @@
--- What a label's line makes of the realm and the label.
+-- What a label's line makes of the realm and the label (own).
 use Rattle.std.specs.Prelude.{ℕ, Bool, true, false, [], Option, Some, None, Result, Ok, Err, if◌then◌else◌}
 use Rattle.std.specs.Ordering.{is_eq}
 use Rattle.wl_types.specs.declared.words.Kind.{Kind}

@@ -1,6 +1,6 @@
 //! The requests of a manager by number, and of each agent the numbers that its requests are found by: the agent index.
 
-ghost use Rattle.std.specs.Prelude.{◌≡◌, ◌∷◌, ◌++◌, [], map, filter, is_some, true, IfOk, IsSome, OnOk, Some, None, ℕ};
+ghost use Rattle.std.specs.Prelude.{◌≡◌, ◌∷◌, ◌++◌, [], map, filter, is_some, IfOk, IsSome, OnOk, Some, None, ℕ};
 ghost use Rattle.std.specs.List.{Contains, flat_map};
 ghost use Rattle.std.specs.List.Sorted.{IsStrictlySortedBy};
 ghost use Rattle.std.specs.Map.{keys_of, values_of};

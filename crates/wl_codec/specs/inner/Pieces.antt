@@ -1,4 +1,4 @@
--- Texts of parts of a reply that are no JSON value of their own, for private clauses.
+-- Texts of parts of a reply that are no JSON value of their own, for private clauses (own).
 use Rattle.std.specs.Prelude.{ℕ, List, ◌++◌, codes}
 use Rattle.serde_json.specs.Written.{compact_text}
 use Rattle.wl_codec.specs.Replies.{whole_value, notices_value}

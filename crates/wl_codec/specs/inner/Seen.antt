@@ -1,4 +1,4 @@
--- The data of a tree that keeps the texts of its numbers. For private clauses.
+-- The data of a tree that keeps the texts of its numbers, for private clauses (own).
 use Rattle.std.specs.Prelude.{ℕ, List, Bool, true, ◌&&◌, negsuc, is_some, unwrap_or}
 use Rattle.std.specs.declared.alloc.Global.{Global}
 use Rattle.json.specs.Json as json

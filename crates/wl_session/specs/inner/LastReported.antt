@@ -1,5 +1,5 @@
 -- What only the code of this crate says (own), beside `LastReported`.
-use Rattle.std.specs.Prelude.{◌≡◌, List, true, not, All}
+use Rattle.std.specs.Prelude.{◌≡◌, List, true, All}
 use Rattle.wl_session.specs.LastReported.{IsByNumber, RequestPhase, is_live}
 
 -- the requests whose end was not reported, by number

@@ -1,4 +1,4 @@
--- What the code's values stand for.
+-- What the code's values stand for (own).
 use Rattle.wl_world.specs.declared.requests.Request.{Request}
 use Rattle.std.specs.Prelude.{◌≡◌, ℕ, List, [], Option, Result, Ok, Err}
 use Rattle.wl_types.specs.declared.phases.Change.{Change}
