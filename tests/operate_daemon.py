@@ -9,6 +9,7 @@ from daemon_epochs import epoch_checks
 from daemon_fence_order import fence_order_checks
 from daemon_fences import GRANTS, fence_checks
 from daemon_sharded import sharded_checks
+from daemon_socket_files import socket_file_checks
 from daemon_status import status_checks
 from daemon_status_clients import status_client_checks
 from daemon_unix import unix_checks
@@ -29,7 +30,7 @@ def page_is_tried(built: Built) -> None:
 
 def daemon_checks(built: Built, needs: Needs) -> Checks:
     kinds = [status_checks, status_client_checks, admission_checks, epoch_checks, fence_order_checks, sharded_checks]
-    for checks in [*kinds, unix_checks, timeline_checks]:
+    for checks in [*kinds, socket_file_checks, unix_checks, timeline_checks]:
         yield from checks(built.program)
     yield from fence_checks(built.program, GRANTS)
     page = "the page, in a browser"
