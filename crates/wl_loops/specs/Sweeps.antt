@@ -1,5 +1,5 @@
 -- What a look at all connections of a loop does, and what a loop does that was held up (own).
-use Rattle.std.specs.Prelude.{◌≡◌, ℕ, Option, None, Some, IfSome}
+use Rattle.std.specs.Prelude.{◌≡◌, ℕ, Option, None, Some, IfSome, option_map}
 use Rattle.slab.specs.Slab.{Slab, get}
 use Rattle.wl_liveness.specs.Liveness.{due_of, after_ping, spared}
 use Rattle.wl_liveness.specs.declared.limits.Limits.{Limits}
@@ -24,10 +24,9 @@ module _ {C : Type 0} (liveness_of : C → Liveness) where
   abbrev pub EachWatched : ℕ → Limits → Slab C → Slab C → Type 0
   EachWatched now limits old new = (key : ℕ) → Watched now limits (get old key) (get new key)
 
-  -- the time counts for nothing at the connection of a key, and there is no other
+  -- the time counts for nothing at the connection of a key, if there is one, and there is no other
   abbrev pub Spared : ℕ → Option C → Option C → Type 0
-  Spared time None new = new ≡ None
-  Spared time (Some old) new = (one : C) × (new ≡ Some one) × (liveness_of one ≡ spared (liveness_of old) time)
+  Spared time old new = option_map liveness_of new ≡ option_map (λ one. spared (liveness_of one) time) old
 
   -- at each key
   abbrev pub EachSpared : ℕ → Slab C → Slab C → Type 0
