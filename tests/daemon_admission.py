@@ -163,6 +163,8 @@ def unreadable_tokens_are_tried_again(program):
     """What can't be read for want of files is read once there are some, though the file stays as it is."""
     with token_file("one\n") as path:
         with Daemon(program, "--token-file", path) as daemon:
+            # Once it answers, it has the files that it begins with.
+            expect("the token", daemon.peer(bearer("one")).status, 101)
             files = resource.prlimit(daemon.child.pid, resource.RLIMIT_NOFILE)
             # Fewer than are open: those stay, and no other can be opened.
             resource.prlimit(daemon.child.pid, resource.RLIMIT_NOFILE, (3, files[1]))
