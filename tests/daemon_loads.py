@@ -19,13 +19,16 @@ def link(pid, descriptor):
 
 
 def watched(daemon):
-    """The sockets that each poll watches, those of the loops first to last."""
+    """The sockets that the poll of each loop watches, from the first to the last. One that isn't theirs watches the
+    daemon's input."""
     pid, polls = daemon.child.pid, []
     for path in sorted(glob.glob(f"/proc/{pid}/fdinfo/*"), key=lambda it: int(os.path.basename(it))):
         if link(pid, os.path.basename(path)) == "anon_inode:[eventpoll]":
             with open(path) as file:
-                links = {link(pid, it) for it in re.findall(r"^tfd:\s*([0-9]+)", file.read(), re.MULTILINE)}
-            polls.append({it for it in links if it.startswith("socket:")})
+                descriptors = re.findall(r"^tfd:\s*([0-9]+)", file.read(), re.MULTILINE)
+            links = {link(pid, it) for it in descriptors}
+            if "0" not in descriptors:
+                polls.append({it for it in links if it.startswith("socket:")})
     return polls
 
 
