@@ -120,7 +120,7 @@ fn make_wire<S: Read + Write + Drop>(
     let stream = socket.into_inner().into_stream().into_stream();
     let counted = Counted::new(stream, u64::MAX);
     let socket = WebSocket::from_raw_socket(alloc, counted, NoMask, Role::Server, Some(config()));
-    Wire::new(alloc, socket)
+    Wire::new(socket)
 }
 
 /// What a verdict says, if one was given. The handshake has let go of it.

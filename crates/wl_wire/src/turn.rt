@@ -149,7 +149,7 @@ fn push_changes<R: Wait, S: Read + Write + Drop, P: Speaker>(
     match speaker.push(rt) {
         Ok((next, said)) => match said {
             Some(text) => {
-                let pushing = wire.put(text.as_str());
+                let pushing = wire.put(text);
                 after_sending(rt, pushing, next)
             }
             None => Stepped::Went(next),
@@ -253,7 +253,7 @@ fn answer<R: Wait, S: Read + Write + Drop, P: Speaker>(
     match speaker.answer(rt, given.bytes()) {
         Ok((next, said)) => match said {
             Answer::Text(text) => {
-                let replying = wire.put(text.as_str());
+                let replying = wire.put(text);
                 after_sending(rt, replying, next)
             }
             Answer::End(ending) => {

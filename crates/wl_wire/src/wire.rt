@@ -1,6 +1,6 @@
 //! A WebSocket to which texts are put one by one.
 
-ghost use Rattle.std.specs.Prelude.{◌≡◌, [], true, false};
+ghost use Rattle.std.specs.Prelude.{◌≡◌, [], true, false, string_bytes};
 ghost use Rattle.wl_wire.specs.Endings.{close_number};
 ghost use Rattle.wl_wire.specs.Wires.{Closes, Pings, Sends, Yields};
 ghost use Rattle.wl_wire.specs.inner.Wires.{Says, Unsent};
@@ -8,9 +8,9 @@ ghost use Rattle.wl_wire.specs.declared.wire.Sending.TheVariants.{Left};
 
 use crate::counted::Counted;
 use crate::ending::{Ending, ending_of, would_block};
-use std::alloc::Global;
+use bytes::{ByteStr, Bytes};
 use std::io::{Read, Write};
-use tungstenite::{Bytes, Error, Message, NoMask, WebSocket};
+use tungstenite::{Error, Message, NoMask, WebSocket};
 
 /// What became of what was to leave.
 #[derive(Clone, Copy, Debug, PartialEq, Eq)]
@@ -27,7 +27,6 @@ pub enum Sending {
 #[derive(Drop)]
 pub struct Wire<S> {
     pub(crate) socket: WebSocket<Counted<S>, NoMask>,
-    alloc: Global,
     // Something waits to leave, or that isn't known.
     is_blocked: bool,
     // Bytes may be there to be read.
@@ -36,12 +35,11 @@ pub struct Wire<S> {
 }
 
 impl<S: Read + Write + Drop> Wire<S> {
-    pub(crate) fn new(alloc: Global, socket: WebSocket<Counted<S>, NoMask>) -> Wire<S>
+    pub(crate) fn new(socket: WebSocket<Counted<S>, NoMask>) -> Wire<S>
         ensures { result.socket ≡ socket }
     {
         Wire {
             socket,
-            alloc,
             // The first turn looks.
             is_blocked: true,
             may_read: true,
@@ -81,14 +79,14 @@ impl<S: Read + Write + Drop> Wire<S> {
     }
 
     /// Puts a text behind what waits, and sends what the stream takes.
-    pub(crate) fn put(&mut self, text: &str) -> Sending
-        ensures { Says S.contents result self.old.socket text.now self.new.socket }
+    pub(crate) fn put(&mut self, text: String) -> Sending
+        ensures { Says S.contents result self.old.socket (string_bytes text) self.new.socket }
     {
-        let Ok(message) = Message::text(self.alloc, text) else {
+        let Ok(text) = ByteStr::from_string(text) else {
             return Sending::Failed(Ending::Memory);
         };
         self.is_blocked = true;
-        match self.socket.send(message) {
+        match self.socket.send(Message::Text(text)) {
             Ok(()) => {
                 self.is_blocked = false;
                 Sending::Left

@@ -9,7 +9,7 @@ returns-in-Text g c =
     c.in-Ok.next = search rules in
     rw c.after_sending.ensures (
     answered g.S.Write.contents g.P.Speaker.answers c.put-replying.result _ _ _ _ _ (string_bytes c.in-Text.text) says
-    (rw c.as_str.ensures.value at c.put-replying.ensures)
+    c.put-replying.ensures
     )
 
 pub returns-in-End : goal.returns-in-End

@@ -16,7 +16,7 @@ returns-in-Some g c =
     rw c.after_sending.ensures (
     pushed g.S.Read.remaining g.S.Write.contents g.P.Speaker.answers g.P.Speaker.pushes g.P.Speaker.rests
     c.put-pushing.result _ _ _ _ (string_bytes c.in-Some.text) c.requires tells
-    (rw c.as_str.ensures.value at c.put-pushing.ensures)
+    c.put-pushing.ensures
     )
 
 pub returns-in-None : goal.returns-in-None
