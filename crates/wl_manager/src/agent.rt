@@ -17,8 +17,8 @@ use wl_core::LockCore;
 use wl_journal::Sight;
 use wl_types::{AbortAnswer, Ask, Change, Reason, Refusal, ReleaseAnswer};
 
-/// A window or worker that opened. Each call but `client`, `changed_requests` and `is_rung` takes the manager's lock,
-/// and is one event of the machine.
+/// A window or worker that opened. Each call but `client`, `changed_requests`, `is_rung` and `silence_bell` takes the
+/// manager's lock, and is one event of the machine.
 ///
 /// Where shares are counted, an agent's share has as many entries as its calls recorded. An agent should end by
 /// `terminate`: one that is dropped stays in the manager, with its locks.
@@ -50,6 +50,13 @@ impl<C: LockCore, T: Count> Agent<C, T> {
     /// rung then.
     pub fn is_rung(&self) -> bool {
         self.inbox.is_rung()
+    }
+
+    /// From here until `changed_requests` is next called no change rings the bell, and `is_rung` answers true: for
+    /// whoever is about to call that in any case, as behind an operation of its own. Whoever doesn't is told of nothing
+    /// any more.
+    pub fn silence_bell(&self) {
+        self.inbox.silence();
     }
 
     /// Asks for a lock. The ticket tells what becomes of it. Refused: as `LockCore::request`.

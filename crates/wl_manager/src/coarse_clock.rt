@@ -1,5 +1,6 @@
 //! A clock that is set now and then.
 
+use crossbeam_utils::CachePadded;
 use std::alloc::Global;
 use std::sync::Arc;
 use std::sync::atomic::{AtomicU64, Ordering};
@@ -9,14 +10,15 @@ use wl_types::Memory;
 /// request is asked for and when it is granted, so that no call of theirs asks the system for the time.
 #[derive(Drop)]
 pub struct CoarseClock {
-    millis: Arc<AtomicU64>,
+    // Apart from what others write.
+    millis: Arc<CachePadded<AtomicU64>>,
 }
 
 impl CoarseClock {
     /// A clock at 0.
     pub fn new(alloc: Global) -> Result<CoarseClock, Memory> {
         Ok(CoarseClock {
-            millis: Arc::new(alloc, AtomicU64::new(0))?,
+            millis: Arc::new(alloc, CachePadded::new(AtomicU64::new(0)))?,
         })
     }
 
@@ -29,7 +31,10 @@ impl CoarseClock {
 
     /// Sets it. A time before that of the clock, as of one of several hosts who is late, changes nothing.
     pub fn set(&self, now: u64) {
-        self.millis.fetch_max(now, Ordering::SeqCst);
+        // Hosts set it far more often than its time changes, and all of them read it.
+        if self.now() < now {
+            self.millis.fetch_max(now, Ordering::SeqCst);
+        }
     }
 
     /// The latest time to which it was set.

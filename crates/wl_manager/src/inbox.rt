@@ -39,6 +39,13 @@ impl Inbox {
         }
     }
 
+    /// From here until the next `collect` no change rings the bell.
+    pub(crate) fn silence(&self) {
+        if self.bell.is_some() {
+            self.changed.set_rung();
+        }
+    }
+
     /// Whether a number was added since the last `collect`.
     pub(crate) fn is_rung(&self) -> bool {
         self.changed.is_rung()

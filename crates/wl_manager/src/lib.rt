@@ -8,6 +8,7 @@
 #![tactic(auto)]
 
 mod agent;
+mod alarm;
 mod coarse_clock;
 mod count;
 mod inbox;
@@ -19,6 +20,7 @@ mod ring;
 mod ticket;
 
 pub use crate::agent::Agent;
+pub use crate::alarm::Alarm;
 pub use crate::coarse_clock::CoarseClock;
 pub use crate::count::{Count, Ledgered, Loose, Recent, Uncounted};
 pub use crate::inbox::Inbox;

@@ -1,5 +1,6 @@
 //! Lists of what changed, which are added to without memory and without waiting.
 
+use crate::alarm::Alarm;
 use std::alloc::Global;
 use std::hint::spin_loop;
 use std::mem;
@@ -19,14 +20,26 @@ pub struct Ring {
     missed: AtomicBool,
     // A number was added since this was last taken.
     rung: AtomicBool,
+    alarm: Option<Alarm>,
 }
 
 impl Ring {
+    /// A ring to which nothing was added.
     pub fn new(alloc: Global) -> Ring {
+        Ring::with(alloc, None)
+    }
+
+    /// A ring that raises this alarm with the first number that is added since `take_rung` was last called.
+    pub fn with_alarm(alloc: Global, alarm: Alarm) -> Ring {
+        Ring::with(alloc, Some(alarm))
+    }
+
+    fn with(alloc: Global, alarm: Option<Alarm>) -> Ring {
         Ring {
             changed: Mutex::new(Vec::new(alloc)),
             missed: AtomicBool::new(false),
             rung: AtomicBool::new(false),
+            alarm,
         }
     }
 
@@ -44,7 +57,13 @@ impl Ring {
         if !self.put(number) {
             self.missed.store(true, Ordering::SeqCst);
         }
-        !self.rung.swap(true, Ordering::SeqCst)
+        let is_first = !self.rung.swap(true, Ordering::SeqCst);
+        if is_first {
+            if let Some(alarm) = &self.alarm {
+                alarm.raise();
+            }
+        }
+        is_first
     }
 
     /// Puts a number with those that changed, and answers whether there was a place for it.
@@ -60,6 +79,11 @@ impl Ring {
             spin_loop();
         }
         false
+    }
+
+    /// As if something was added: until `take_rung` is next called no number is the first one.
+    pub(crate) fn set_rung(&self) {
+        self.rung.store(true, Ordering::SeqCst);
     }
 
     /// Whether something was added since `take_rung` was last called.
@@ -133,6 +157,7 @@ impl Bell {
         Ok(())
     }
 
+    /// Adds its place to its ring. One that is being moved meanwhile is passed over.
     pub(crate) fn ring(&self) {
         for _ in 0..TRIES {
             if let Some(target) = self.target.try_lock() {

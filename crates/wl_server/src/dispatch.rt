@@ -94,7 +94,8 @@ fn release<R: Wait>(
     }
 }
 
-/// Does what an agent that opened asks for, but for its end.
+/// Does what an agent that opened asks for, but for its end. What changes for the agent meanwhile is told with the
+/// reply, since each of these outcomes carries notices: no bell rings for it.
 fn operate<R: Wait>(
     rt: &R,
     client: &mut Client,
@@ -103,6 +104,7 @@ fn operate<R: Wait>(
 ) -> Result<Outcome, Memory>
     ensures { IfOk result (λ outcome. IsOutcomeOf body outcome) }
 {
+    client.silence_bell();
     match body {
         Body::Signal => match client.new_signal(rt) {
             Ok(number) => Ok(Outcome::Signal(number)),

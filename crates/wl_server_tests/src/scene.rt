@@ -7,10 +7,11 @@
 //! `request CLIENT NAME SIGNAL`, which answers the request's number, and `look TICKET`; `ask_often CLIENT NAME`, which
 //! requests more than is listed; `release CLIENT TICKET`; `signal CLIENT` and `abort CLIENT SIGNAL REASON`;
 //! `set CLIENT active`; `query CLIENT`, which answers how many entries were seen and how many locks are held;
-//! `hear CLIENT` and `changes CLIENT`, what its bell tells (`service::hearing`); `terminate CLIENT` and `close CLIENT`,
-//! which answer whether it left something; and `visit URL BUCKET`, which answers whether the visitor was called, and
-//! how many entries it was shown. One that names no bucket visits that of `default`. `keep COUNT` puts a new service in
-//! the place of the one that keeps each manager, which has so many at most, and `managers` answers how many.
+//! `silence CLIENT`, `hear CLIENT` and `changes CLIENT`, what its bell tells (`service::hearing`); `terminate CLIENT`
+//! and `close CLIENT`, which answer whether it left something; and `visit URL BUCKET`, which answers whether the visitor
+//! was called, and how many entries it was shown. One that names no bucket visits that of `default`. `keep COUNT` puts
+//! a new service in the place of the one that keeps each manager, which has so many at most, and `managers` answers how
+//! many.
 //! `locks URL` lists the locks of that URL's origin, or without it all: each manager with the numbers of the requests
 //! that hold and, behind a bar, of those that wait, and how many were left out; `cut` counts those of the first one.
 
@@ -95,6 +96,7 @@ fn call_client<R: Wait>(
         }
         "set" => show(came, Some(client.set_active(rt, word(call, 2) == "active"))),
         "query" => show(came, Some(count_sight(client.query(rt)))),
+        "silence" => hearing::silence(came, client),
         "hear" => hearing::put_hearing(alloc, came, client, ring),
         "changes" => hearing::put_changes(alloc, came, client),
         _ => show(came, None::<u64>),

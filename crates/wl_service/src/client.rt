@@ -32,9 +32,9 @@ enum Side {
 
 /// A window or worker that opened: an agent of its origin's manager, or one of an opaque origin, which is refused.
 ///
-/// Each call of a managed client but `client`, `changed_requests` and `is_rung` is its agent's, and takes its manager's
-/// lock; an opaque one takes none. A client should end by `Service::close`, or by `terminate` where its service keeps
-/// each manager: one that is dropped stays in its manager, with its locks.
+/// Each call of a managed client but `client`, `changed_requests`, `is_rung` and `silence_bell` is its agent's, and takes
+/// its manager's lock; an opaque one takes none. A client should end by `Service::close`, or by `terminate` where its
+/// service keeps each manager: one that is dropped stays in its manager, with its locks.
 #[derive(Drop)]
 pub struct Client {
     side: Side,
@@ -105,6 +105,15 @@ impl Client {
         match &self.side {
             Side::Managed(agent) => agent.is_rung(),
             Side::Opaque(_) => false,
+        }
+    }
+
+    /// From here until `changed_requests` is next called no change rings the bell, and `is_rung` answers true: for
+    /// whoever is about to call that in any case, as behind an operation of its own. Whoever doesn't is told of nothing
+    /// any more. An opaque client has no bell.
+    pub fn silence_bell(&self) {
+        if let Side::Managed(agent) = &self.side {
+            agent.silence_bell();
         }
     }
 

@@ -7,7 +7,7 @@ use std::sync::{Arc, Wait};
 use wl_cell::Watch;
 use wl_core::{ReleaseAnswer, Reply};
 use wl_journal::{Entry, Sight};
-use wl_manager::{Bell, Ring, Visitor};
+use wl_manager::{Alarm, Bell, Ring, Visitor};
 use wl_test_support::ask;
 use wl_types::{Ask, Kind, Memory, Mode, Phase, Reason, Refusal};
 
@@ -26,6 +26,8 @@ pub enum Call {
     LookOn(usize),
     /// Whether a bell rang since the last such call, and the places of those that did.
     Ring,
+    /// Whether the alarm of the desk's ring was raised since the last such call.
+    Alarm,
     /// How many there are.
     Entries,
     /// The command and the reply.
@@ -42,6 +44,8 @@ pub enum Act {
     /// How many entries the agent sees, and the locks.
     Query,
     IsRung,
+    /// Whether it is rung then.
+    SilenceBell,
     /// The numbers of the requests that changed, where these are all.
     Changed,
     /// Of the ticket at this place.
@@ -73,6 +77,7 @@ pub enum Manner {
 pub struct Desk {
     alloc: Global,
     manager: PlainManager,
+    alarm: Alarm,
     ring: Arc<Ring>,
     agents: Vec<PlainAgent>,
     tickets: Vec<PlainTicket>,
@@ -81,10 +86,13 @@ pub struct Desk {
 
 impl Desk {
     pub fn new(alloc: Global, manager: PlainManager) -> Result<Desk, Memory> {
+        let alarm = Alarm::new(alloc)?;
+        let ring = Ring::with_alarm(alloc, alarm.share()?);
         Ok(Desk {
             alloc,
             manager,
-            ring: Arc::new(alloc, Ring::new(alloc))?,
+            alarm,
+            ring: Arc::new(alloc, ring)?,
             agents: Vec::new(alloc),
             tickets: Vec::new(alloc),
             watches: Vec::new(alloc),
@@ -167,6 +175,7 @@ impl Driver for Desk {
             Call::DropTicket => show(alloc, &self.drop_last()),
             Call::LookOn(place) => show(alloc, &self.look_on(place)),
             Call::Ring => self.show_rung(),
+            Call::Alarm => show(alloc, &self.alarm.take()),
             Call::Entries => show(alloc, &self.manager.sum_up(rt).entries),
             Call::Entry(number) => Ok(self.entry(rt, number)),
         }
@@ -204,6 +213,10 @@ fn act_by<R: Wait>(
         }
         Act::Query => show_sight(alloc, agent.query(rt)),
         Act::IsRung => show(alloc, &agent.is_rung()),
+        Act::SilenceBell => {
+            agent.silence_bell();
+            show(alloc, &agent.is_rung())
+        }
         Act::Changed => changed_requests(alloc, agent),
         Act::Release(place) => show(alloc, &release(rt, agent, tickets, place)),
         Act::Abort(signal, reason) => show(alloc, &agent.abort(rt, signal, reason)),

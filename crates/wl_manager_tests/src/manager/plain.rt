@@ -81,6 +81,10 @@ impl PlainAgent {
         self.agent.is_rung()
     }
 
+    pub fn silence_bell(&self) {
+        self.agent.silence_bell();
+    }
+
     pub fn request<R: Wait>(&mut self, rt: &R, asked: &Ask) -> Result<PlainTicket, Refusal> {
         let ticket = self.agent.request(rt, asked)?;
         Ok(PlainTicket { ticket })

@@ -1,5 +1,6 @@
 //! A client whose bell rings.
 
+use crate::lists::show;
 use std::alloc::Global;
 use std::sync::{Arc, Wait};
 use std::test::Fail;
@@ -25,6 +26,12 @@ pub fn open<R: Wait>(
 fn bell_and_bucket(alloc: Global, ring: &Arc<Ring>, place: u64) -> Result<(Bell, Text), Memory> {
     let bell = Bell::new(alloc, ring, place)?;
     Ok((bell, Text::of(alloc, "default")?))
+}
+
+/// Silences the client's bell, and adds whether it counts as rung.
+pub fn silence(came: &mut String, client: &Client) -> Result<(), Fail> {
+    client.silence_bell();
+    show(came, Some(client.is_rung()))
 }
 
 /// Adds whether the client was rung, the places that its bell added, and whether these are all.
@@ -62,4 +69,20 @@ changes 1 -> changed [2] true
 hear 1 -> silent [] true
 ";
 
-pub const LISTS: &[&str] = &[A_BELL_RINGS_WHEN_A_REQUEST_CHANGES];
+/// The client changes its requests itself. An opaque client has no bell.
+const A_SILENCED_BELL_RINGS_ONCE_THE_CHANGES_WERE_COLLECTED: &str = "\
+open_heard window 7 https://a.test/ -> Ok(Some(1))
+silence 1 -> true
+request 1 db -> Ok(1)
+hear 1 -> rung [] true
+changes 1 -> changed [1] true
+release 1 1 -> Released
+hear 1 -> rung [7] true
+open window data:,one -> Ok(None)
+silence 2 -> false
+";
+
+pub const LISTS: &[&str] = &[
+    A_BELL_RINGS_WHEN_A_REQUEST_CHANGES,
+    A_SILENCED_BELL_RINGS_ONCE_THE_CHANGES_WERE_COLLECTED,
+];
