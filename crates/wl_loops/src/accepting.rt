@@ -10,6 +10,7 @@ use mio::{Registry, Token};
 use std::io;
 use std::io::ErrorKind;
 use std::sync::Wait;
+use wl_admission::Rejection;
 
 /// The connections that are accepted in a turn.
 const TURN: u32 = 1_024;
@@ -33,6 +34,7 @@ pub struct Acceptor {
 }
 
 impl Acceptor {
+    /// Accepts from these listeners, and gives what comes to the first loop first.
     pub fn new(listeners: Vec<TransportListener>) -> Acceptor {
         Acceptor { listeners, next: 0 }
     }
@@ -73,9 +75,10 @@ impl Acceptor {
             };
             match listener.accept() {
                 Ok((transport, source)) => match shared.take_place(rt, source) {
-                    Some(hold) => self.give(rt, shared, Arrival { transport, hold }),
+                    Ok(hold) => self.give(rt, shared, Arrival { transport, hold }),
                     // It is closed.
-                    None => shared.host.note(Event::Dropped(source)),
+                    Err(Rejection::Memory) => shared.refuse_for_memory(source),
+                    Err(_) => shared.host.note(Event::Dropped(source)),
                 },
                 Err(error) => {
                     let kind = error.kind();

@@ -19,6 +19,7 @@ pub struct Affinity {
 }
 
 impl Affinity {
+    /// Of a connection that nothing draws.
     pub fn new() -> Affinity
         ensures { result ≡ new_affinity }
     {
@@ -43,6 +44,7 @@ impl Affinity {
         self.pull = self.pull.saturating_sub(1);
     }
 
+    /// Whether it is to go where its changes come from.
     pub fn is_drawn(&self) -> bool
         ensures { result ≡ is_drawn self.now }
     {

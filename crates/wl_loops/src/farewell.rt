@@ -34,6 +34,7 @@ impl Farewell {
         }
     }
 
+    /// Whether nothing is left to be done.
     pub fn is_done(&self) -> bool {
         matches!(self, Farewell::Done)
     }

@@ -77,6 +77,10 @@ pub trait Host {
     /// that waited longer may be late with an earlier one.
     fn tell_time(&self, now: u64);
 
+    /// Whether a loop's ring was rung since this was last asked. Of several who ask one alone is told so, and looks at
+    /// each ring.
+    fn take_alarm(&self) -> bool;
+
     /// The ring of the loop of this number, from 0; none where there is no such loop.
     fn ring(&self, event_loop: usize) -> Option<&Self::Ring>;
 

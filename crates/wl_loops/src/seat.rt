@@ -13,6 +13,7 @@ pub struct Seat<'a, R: Wait, P: Speaker> {
 }
 
 impl<'a, R: Wait, P: Speaker> Seat<'a, R, P> {
+    /// With this speaker in it.
     pub fn new(rt: &'a R, speaker: P) -> Seat<'a, R, P>
         ensures { result.speaker ≡ Some speaker }
     {
@@ -22,6 +23,7 @@ impl<'a, R: Wait, P: Speaker> Seat<'a, R, P> {
         }
     }
 
+    /// Who is in it; none in the middle of a turn.
     pub fn speaker(&self) -> Option<&P>
         ensures { option_copied result ≡ self.now.speaker }
     {

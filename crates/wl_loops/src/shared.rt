@@ -8,6 +8,7 @@ ghost use Rattle.wl_loops.specs.Transports.{is_local};
 use crate::host::{Event, Host, Ring};
 use crate::rules::AdmissionRules;
 use crate::transport::Transport;
+use crossbeam_utils::CachePadded;
 use mio::{Poll, Token, Waker};
 use std::alloc::{AllocError, Global};
 use std::io;
@@ -43,6 +44,7 @@ pub(crate) enum Hold {
 }
 
 impl Hold {
+    /// The address that has it.
     pub fn source(self) -> Source
         ensures { result ≡ source_of self }
     {
@@ -137,6 +139,7 @@ impl Inbox {
         self.has_newcomers.store(true, Ordering::SeqCst);
     }
 
+    /// Whether something was given to the loop since it last took newcomers in.
     pub fn has_newcomers(&self) -> bool {
         self.has_newcomers.load(Ordering::SeqCst)
     }
@@ -146,6 +149,7 @@ impl Inbox {
         self.has_newcomers() && self.has_newcomers.swap(false, Ordering::SeqCst)
     }
 
+    /// One of the streams that were given to the loop, which is the loop's now.
     pub fn next_arrival<R: Wait>(&self, rt: &R) -> Option<Arrival> {
         self.arrivals.lock(rt).pop()
     }
@@ -156,7 +160,8 @@ impl Inbox {
 pub struct Shared<H> {
     pub(crate) alloc: Global,
     pub(crate) host: H,
-    pub(crate) inboxes: Vec<Inbox>,
+    // Each apart from the others, since its loop writes to it in each turn.
+    pub(crate) inboxes: Vec<CachePadded<Inbox>>,
     places: Mutex<Places>,
     turned_away: Mutex<Places>,
     rules: AdmissionRules,
@@ -193,7 +198,7 @@ where
     for _ in 0..loops {
         let poll = Poll::new(net)?;
         let waker = Waker::new(poll.registry(), Token(WAKER))?;
-        inboxes.push(Inbox::new(alloc, waker))?;
+        inboxes.push(CachePadded::new(Inbox::new(alloc, waker)))?;
         polls.push(poll)?;
     }
     let rules = AdmissionRules::new(alloc, rules)?;
@@ -243,22 +248,21 @@ impl<H> Shared<H> {
         }
     }
 
-    /// Takes a place for a connection from this address, if there is one.
-    pub(crate) fn take_place<R: Wait>(&self, rt: &R, source: Source) -> Option<Hold>
-        ensures { IfSome result (λ hold. source_of hold ≡ source) }
+    /// Takes a place for a connection from this address, of those that are served, or else of those that are turned
+    /// away. Refused: `NoPlace` where there is neither, `Memory`.
+    pub(crate) fn take_place<R: Wait>(&self, rt: &R, source: Source) -> Result<Hold, Rejection>
+        ensures { IfOk result (λ hold. source_of hold ≡ source) }
     {
         match self.places.lock(rt).take(source) {
             Ok(()) => {
                 self.ever.fetch_add(1, Ordering::SeqCst);
-                return Some(Hold::Served(source));
+                return Ok(Hold::Served(source));
             }
             Err(Rejection::NoPlace) => {}
-            Err(_) => return None,
+            Err(rejection) => return Err(rejection),
         }
-        match self.turned_away.lock(rt).take(source) {
-            Ok(()) => Some(Hold::TurnedAway(source)),
-            Err(_) => None,
-        }
+        self.turned_away.lock(rt).take(source)?;
+        Ok(Hold::TurnedAway(source))
     }
 
     fn free_place<R: Wait>(&self, rt: &R, hold: Hold) {
@@ -308,9 +312,7 @@ impl<H> Shared<H> {
     /// Whether each loop has a turn within 2 s. It waits until all had one, or for that long.
     pub fn all_answer<C: Clock>(&self, clock: &C) -> bool {
         let beat = self.beat.fetch_add(1, Ordering::SeqCst).wrapping_add(1);
-        for inbox in &self.inboxes {
-            inbox.rouse();
-        }
+        self.rouse_all();
         for _ in 0..LOOKS {
             if self.have_answered(beat) {
                 return true;
@@ -318,6 +320,13 @@ impl<H> Shared<H> {
             sleep(clock, Duration::from_millis(PAUSE));
         }
         self.have_answered(beat)
+    }
+
+    /// Wakes each loop that sleeps.
+    fn rouse_all(&self) {
+        for inbox in &self.inboxes {
+            inbox.rouse();
+        }
     }
 
     /// Whether each loop has answered this beat, or a later one.
@@ -332,6 +341,7 @@ impl<H> Shared<H> {
         self.beat.load(Ordering::SeqCst)
     }
 
+    /// Whether the loops are to end.
     pub(crate) fn is_ending(&self) -> bool {
         self.is_ending.load(Ordering::SeqCst)
     }
@@ -351,8 +361,12 @@ impl<H: Host> Shared<H> {
         self.host.note(Event::Refused(source, Rejection::Memory));
     }
 
-    /// Wakes the other loops whose connections were marked.
+    /// Wakes the other loops whose connections were marked. Whoever marked one calls this afterwards, so that a loop
+    /// which somebody else is about to look at is left to him.
     pub(crate) fn wake_marked(&self, own: usize) {
+        if !self.host.take_alarm() {
+            return;
+        }
         for (event_loop, inbox) in self.inboxes.iter().enumerate() {
             if event_loop != own && self.is_rung(event_loop) {
                 inbox.rouse();

@@ -59,6 +59,7 @@ impl Transport {
         }
     }
 
+    /// Ends one direction of the stream, or both, as the peer is told.
     pub fn shutdown(&self, how: Shutdown) -> io::Result<()> {
         match self {
             Transport::Tcp(stream) => stream.shutdown(how),
