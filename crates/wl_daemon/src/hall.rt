@@ -13,7 +13,7 @@ use std::sync::Wait;
 use wl_admission::Admitted;
 use wl_liveness::Limits;
 use wl_loops::{Event, Host, Place};
-use wl_manager::CoarseClock;
+use wl_manager::{Alarm, CoarseClock};
 use wl_service::Service;
 use wl_types::Memory;
 
@@ -24,6 +24,8 @@ pub struct Hall<'a, L> {
     pub service: &'a Service,
     /// One for each loop.
     pub loops: &'a Vec<LoopState>,
+    /// That of the loops' rings.
+    pub alarm: Alarm,
     /// The clock of the service's managers.
     pub clock: CoarseClock,
     pub refused: &'a Refused,
@@ -55,6 +57,10 @@ impl<'a, L: Log> Host for Hall<'a, L> {
 
     fn tell_time(&self, now: u64) {
         self.clock.set(now);
+    }
+
+    fn take_alarm(&self) -> bool {
+        self.alarm.take()
     }
 
     fn ring(&self, event_loop: usize) -> Option<&LoopRing> {

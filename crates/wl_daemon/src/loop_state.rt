@@ -5,6 +5,7 @@ use crate::ring::LoopRing;
 use crossbeam_utils::CachePadded;
 use std::alloc::Global;
 use std::sync::Mutex;
+use wl_manager::Alarm;
 use wl_server::Scratch;
 use wl_types::Memory;
 
@@ -22,10 +23,10 @@ pub struct LoopState {
 }
 
 impl LoopState {
-    /// Of a loop that has no connections yet.
-    pub fn new(alloc: Global) -> Result<LoopState, Memory> {
+    /// Of a loop that has no connections yet. The alarm is that of all loops.
+    pub fn new(alloc: Global, alarm: &Alarm) -> Result<LoopState, Memory> {
         Ok(LoopState {
-            ring: LoopRing::new(alloc)?,
+            ring: LoopRing::new(alloc, alarm)?,
             scratch: Mutex::new(Scratch::new(alloc)),
             counts: CachePadded::new(Counts::new(alloc)?),
         })

@@ -3,6 +3,7 @@
 use std::alloc::Global;
 use std::sync::{Arc, Mutex};
 use wl_loops::Ring;
+use wl_manager::Alarm;
 use wl_types::Memory;
 
 /// The ring of a loop, by the keys of its connections.
@@ -14,10 +15,11 @@ pub struct LoopRing {
 }
 
 impl LoopRing {
-    /// Of a loop none of whose connections has changes.
-    pub fn new(alloc: Global) -> Result<LoopRing, Memory> {
+    /// Of a loop none of whose connections has changes. The first that has raises the alarm of all loops.
+    pub fn new(alloc: Global, alarm: &Alarm) -> Result<LoopRing, Memory> {
+        let ring = wl_manager::Ring::with_alarm(alloc, alarm.share()?);
         Ok(LoopRing {
-            places: Arc::new(alloc, wl_manager::Ring::new(alloc))?,
+            places: Arc::new(alloc, ring)?,
             collected: Mutex::new(Vec::new(alloc)),
         })
     }

@@ -1,6 +1,6 @@
 //! What a reply or a push says, for whoever counts.
 
-use memchr::{memchr, memmem};
+use memchr::{memchr, memchr_iter, memmem};
 
 /// The rules that a reply may name: those of refusals, and those of faults of messages.
 pub const RULES: [&str; 30] = [
@@ -42,8 +42,8 @@ const ERROR: &[u8] = b"{\"error\":{";
 /// What stands before its rule, which is its object's last member.
 const RULE: &[u8] = b"\"rule\":\"";
 
-/// The phase of a notice of a grant.
-const GRANTED: &[u8] = b"\"granted\"";
+/// How a notice of a grant begins. No other notice does, and no text within one: there a quotation mark is escaped.
+const GRANTED: &[u8] = b"{\"phase\":\"granted\"";
 
 /// The rule that a text names, where it is the reply of an error.
 fn named_rule(text: &str) -> Option<&[u8]> {
@@ -72,12 +72,20 @@ fn notices_in(text: &str) -> Option<&[u8]> {
     Some(notices)
 }
 
+/// Whether a notice that begins at this place tells a grant.
+fn is_grant(notices: &[u8], start: usize) -> bool {
+    match notices.split_at_checked(start) {
+        Some((_, notice)) => notice.starts_with(GRANTED),
+        None => false,
+    }
+}
+
 /// How many grants a reply or a push tells.
 pub fn grants_in(text: &str) -> u64 {
-    match notices_in(text) {
-        Some(notices) if notices.len() > GRANTED.len() => {
-            memmem::find_iter(notices, GRANTED).count() as u64
-        }
-        _ => 0,
-    }
+    let Some(notices) = notices_in(text) else {
+        return 0;
+    };
+    memchr_iter(b'{', notices)
+        .filter(|start| is_grant(notices, *start))
+        .count() as u64
 }
