@@ -52,7 +52,7 @@ def ask(client, *words, seconds=None):
 
 
 def variables():
-    """What ./weblocks and the package's service say to the C library's allocator, where the environment says nothing."""
+    """What ./weblocks and the package's service say to the C library's allocator, unless the environment does."""
     return [] if "MALLOC_ARENA_MAX" in os.environ else ["MALLOC_ARENA_MAX=1"]
 
 

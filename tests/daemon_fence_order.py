@@ -1,8 +1,8 @@
 """Fencing tokens: each is stepped after its lock was seen granted, and before the lock is taken.
 
 Another order shows only where other loops have a lock granted and taken between two instructions of a loop. So the loop
-of one peer is run instruction by instruction, and held behind each atomic one, since others can see no order but theirs,
-until two peers of another loop have handed the lock on, or stolen it.
+of one peer is run instruction by instruction, and held behind each atomic one, since others can see no order but
+theirs, until two peers of another loop have handed the lock on, or stolen it.
 """
 
 import ctypes

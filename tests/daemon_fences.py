@@ -1,4 +1,4 @@
-"""Fencing tokens: who is told them, their bytes, and that of two locks that exclude each other the later one's is greater.
+"""Fencing tokens: who is told them, their bytes, and that of two locks that exclude each other the later has a greater.
 
 A theft is granted as it is asked for, under the manager's lock, where requests get their numbers. So the numbers of
 thefts of one name are the order of their grants.

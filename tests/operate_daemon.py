@@ -1,5 +1,5 @@
-"""What the daemon itself gives an administrator, which the gate tries too: its status and the page in a browser, who may
-come in, tokens of grants, sockets, shards, what is refused at a start, and the pictures of scripts."""
+"""What the daemon itself gives an administrator, which the gate tries too: its status and the page in a browser, who
+may come in, tokens of grants, sockets, shards, what is refused at a start, and the pictures of scripts."""
 
 from functools import partial
 
