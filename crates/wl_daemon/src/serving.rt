@@ -3,7 +3,6 @@
 use crate::counts::Refused;
 use crate::fencing::Fencing;
 use crate::hall::Hall;
-use crate::log_queue::{LogQueue, log_queue};
 use crate::loop_state::LoopState;
 use crate::overview::ServerOverview;
 use crate::threads::{Run, run_threads};
@@ -11,12 +10,12 @@ use crate::watching::WatchedTokens;
 use log::Log;
 use std::alloc::Global;
 use std::fs::Files;
+use std::io;
 use std::net::Net;
 use std::random::RandomSource;
 use std::sync::Wait;
 use std::thread::Threads;
 use std::time::{Clock, Instant, SystemTime, UNIX_EPOCH};
-use std::{io, thread};
 use thiserror::Error;
 use wl_admission::{PlaceLimits, Rules};
 use wl_liveness::Limits;
@@ -91,32 +90,10 @@ fn seconds_since_1970<R: Clock>(rt: &R) -> u64 {
     }
 }
 
-/// Serves what comes to the listeners, until it is to end, which it may never be, or a loop fails. A thread of its own
-/// tells the log what happens, so that nobody else waits for whoever reads that; at the end it has told all.
+/// Serves what comes to the listeners, until it is to end, which it may never be, or a loop fails.
 pub fn serve<R, L>(
     rt: &R,
     log: &L,
-    listeners: Vec<TransportListener>,
-    asked: Setup<'_>,
-) -> Result<(), ServeFault>
-where
-    R: Net + Threads + Wait + Clock + Files<File: Send, Dir: Send> + Sync,
-    R: io::Input + RandomSource + AllocGlobal,
-    L: Log + Sync,
-{
-    let (queue, writer) = log_queue(rt, rt.alloc(), log)?;
-    thread::scope(thread::scope_env(), rt, |scope| -> Result<(), ServeFault> {
-        if scope.spawn(move || writer.write(rt)).is_err() {
-            return Err(ServeFault::Start);
-        }
-        serve_queued(rt, queue, listeners, asked)
-    })
-}
-
-/// Serves what comes to the listeners, and tells a queue what happens, which is dropped at the end.
-fn serve_queued<'a, R, L>(
-    rt: &'a R,
-    log: LogQueue<'a, R, L>,
     listeners: Vec<TransportListener>,
     asked: Setup<'_>,
 ) -> Result<(), ServeFault>
@@ -141,7 +118,7 @@ where
         refused: &refused,
         fencing: Fencing::of(alloc, asked.epoch)?,
         limits: asked.limits,
-        log: &log,
+        log,
     };
     serve_hall(rt, hall, listeners, asked)
 }
