@@ -48,6 +48,9 @@ pub enum Next {
     Ended,
 }
 
+/// The milliseconds between two times at which a peer sends something up to which it is busy.
+const BUSY: u64 = 1;
+
 /// A connection. Its speaker ends when it is let go.
 #[derive(Drop)]
 pub struct Connection<'a, R: Wait, H: Host> {
@@ -63,6 +66,10 @@ pub struct Connection<'a, R: Wait, H: Host> {
     // Something may have changed that wasn't pushed.
     may_push: bool,
     affinity: Affinity,
+    // When its peer last sent something, in the milliseconds of its loop.
+    heard: u64,
+    // In its last turn something came that its peer sent shortly behind what came before.
+    pub is_busy: bool,
     // It stands among those that have a turn.
     pub is_queued: bool,
 }
@@ -90,6 +97,8 @@ impl<'a, R: Wait, H: Host> Connection<'a, R, H> {
             wants_pushes: false,
             may_push: false,
             affinity: Affinity::new(),
+            heard: now,
+            is_busy: false,
             is_queued: false,
         }
     }
@@ -219,8 +228,10 @@ impl<'a, R: Wait, H: Host> Connection<'a, R, H> {
         };
         let talked = talk.go_on(self.rt, &mut self.may_push);
         let came = talk.wire.byte_count();
+        self.is_busy = came != self.came && now.saturating_sub(self.heard) <= BUSY;
         if came != self.came {
             self.came = came;
+            self.heard = now;
             self.liveness.hear(now);
             self.affinity.ask();
         }

@@ -30,6 +30,10 @@ const SWEEP: u64 = 500;
 /// The milliseconds between two looks at the clock beyond which a loop was held up: it waits for `SWEEP` at most.
 const HELD_UP: u64 = 2_000;
 
+/// How often a loop that has a busy connection looks for events before it waits for them, where all others wait: for
+/// some 20 µs.
+const LOOKS: usize = 40;
+
 /// The streams, or the connections of other loops, that are taken in at once at most.
 const MOST_NEWCOMERS: usize = 65_536;
 
@@ -52,6 +56,8 @@ pub struct EventLoop<'a, 'b, R: Wait, H: Host> {
     start: Instant,
     // The milliseconds since the start, when the last wait ended.
     now: u64,
+    // A connection that had a turn since the last wait is busy.
+    is_busy: bool,
     swept: u64,
     // The server ends: what is left are connections that are closing.
     is_leaving: bool,
@@ -82,6 +88,7 @@ impl<'a, 'b, R: Wait + Clock, H: Host> EventLoop<'a, 'b, R, H> {
             keys: Vec::new(alloc),
             start,
             now: 0,
+            is_busy: false,
             swept: 0,
             is_leaving: false,
         }
@@ -121,12 +128,50 @@ impl<'a, 'b, R: Wait + Clock, H: Host> EventLoop<'a, 'b, R, H> {
     /// Waits until a stream is ready, or somebody wakes the loop, or it is time to look at all connections. Where a
     /// connection is to have a turn it doesn't wait.
     fn wait(&mut self, events: &mut Events) -> io::Result<()> {
+        if mem::replace(&mut self.is_busy, false) && self.finds_events(events)? {
+            return Ok(());
+        }
         let timeout = self.fall_asleep();
-        let waited = self.poll.poll(events, Some(timeout));
+        self.shared.count_waiting();
+        let waited = self.poll_for(events, timeout);
+        self.shared.count_awake();
         if let Some(inbox) = self.shared.inboxes.get(self.number) {
             inbox.set_asleep(false);
         }
-        match waited {
+        waited
+    }
+
+    /// Whether a loop that has a busy connection finds events without a wait for them (busy polling). A thread that
+    /// waits is woken later than one that looks finds what came, and a peer that sends again at once sends nearly as
+    /// soon. While another loop is awake it doesn't look, so no more than one processor is ever used for that; and what
+    /// others gave it ends it.
+    fn finds_events(&mut self, events: &mut Events) -> io::Result<bool> {
+        for _ in 0..LOOKS {
+            if self.has_work() || !self.shared.others_wait() {
+                return Ok(false);
+            }
+            self.poll_for(events, Duration::ZERO)?;
+            if !events.is_empty() {
+                return Ok(true);
+            }
+        }
+        Ok(false)
+    }
+
+    /// Whether a connection is to have a turn, or something was given to this loop.
+    fn has_work(&self) -> bool {
+        if !self.queue.is_empty() || self.shared.is_rung(self.number) {
+            return true;
+        }
+        match self.shared.inboxes.get(self.number) {
+            Some(inbox) => inbox.has_newcomers(),
+            None => false,
+        }
+    }
+
+    /// Takes the events that there are, or else those that come within a time.
+    fn poll_for(&mut self, events: &mut Events, timeout: Duration) -> io::Result<()> {
+        match self.poll.poll(events, Some(timeout)) {
             Err(error) if error.kind() != ErrorKind::Interrupted => Err(error),
             _ => Ok(()),
         }
@@ -142,7 +187,7 @@ impl<'a, 'b, R: Wait + Clock, H: Host> EventLoop<'a, 'b, R, H> {
         };
         inbox.set_asleep(true);
         // The last look, which `Inbox` speaks of.
-        if self.shared.is_rung(self.number) || inbox.has_newcomers() {
+        if self.has_work() {
             Duration::ZERO
         } else {
             Duration::from_millis(SWEEP)
@@ -335,7 +380,9 @@ impl<'a, 'b, R: Wait + Clock, H: Host> EventLoop<'a, 'b, R, H> {
             let next = match self.served.get_mut(*key) {
                 Some(served) => {
                     served.connection.is_queued = false;
-                    served.connection.go_on(self.now)
+                    let next = served.connection.go_on(self.now);
+                    self.is_busy |= served.connection.is_busy;
+                    next
                 }
                 None => Next::Waits,
             };

@@ -162,6 +162,8 @@ pub struct Shared<H> {
     pub(crate) host: H,
     // Each apart from the others, since its loop writes to it in each turn.
     pub(crate) inboxes: Vec<CachePadded<Inbox>>,
+    // How many loops don't wait.
+    awake: CachePadded<AtomicUsize>,
     places: Mutex<Places>,
     turned_away: Mutex<Places>,
     rules: AdmissionRules,
@@ -207,6 +209,7 @@ where
             alloc,
             host,
             inboxes,
+            awake: CachePadded::new(AtomicUsize::new(loops)),
             places: Mutex::new(Places::new(alloc, limits)),
             turned_away: Mutex::new(Places::new(alloc, TURNED_AWAY)),
             rules,
@@ -339,6 +342,21 @@ impl<H> Shared<H> {
     /// The last beat.
     pub(crate) fn beat(&self) -> u64 {
         self.beat.load(Ordering::SeqCst)
+    }
+
+    /// A loop is about to wait for events.
+    pub(crate) fn count_waiting(&self) {
+        self.awake.fetch_sub(1, Ordering::SeqCst);
+    }
+
+    /// Its wait has ended.
+    pub(crate) fn count_awake(&self) {
+        self.awake.fetch_add(1, Ordering::SeqCst);
+    }
+
+    /// Whether there are other loops, and all of them wait: asked by one that doesn't.
+    pub(crate) fn others_wait(&self) -> bool {
+        self.inboxes.len() > 1 && self.awake.load(Ordering::SeqCst) <= 1
     }
 
     /// Whether the loops are to end.
