@@ -139,8 +139,8 @@ def hung_loop(program):
     with Shown(program, "--loops", "2") as daemon:
         expect_status(daemon, 200)
         threads = sorted(int(it) for it in os.listdir(f"/proc/{daemon.child.pid}/task"))
-        # The first waits for input, and the loops begin before the status.
-        expect("the number of threads", len(threads), 4)
+        # The first waits for input, the loops begin before the status, and what writes the log comes last.
+        expect("the number of threads", len(threads), 5)
         for thread in threads[1:3]:
             with Stopped(thread):
                 answer = expect_status(daemon, 503)

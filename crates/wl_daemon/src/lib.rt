@@ -15,6 +15,7 @@ mod hall;
 mod input;
 mod locks;
 mod log_lines;
+mod log_queue;
 mod loop_state;
 mod member;
 mod overview;

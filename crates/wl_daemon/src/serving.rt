@@ -3,6 +3,7 @@
 use crate::counts::Refused;
 use crate::fencing::Fencing;
 use crate::hall::Hall;
+use crate::log_queue::{LogQueue, LogWriter, log_queue};
 use crate::loop_state::LoopState;
 use crate::overview::ServerOverview;
 use crate::threads::{Run, run_threads};
@@ -90,7 +91,8 @@ fn seconds_since_1970<R: Clock>(rt: &R) -> u64 {
     }
 }
 
-/// Serves what comes to the listeners, until it is to end, which it may never be, or a loop fails.
+/// Serves what comes to the listeners, until it is to end, which it may never be, or a loop fails. A thread of its own
+/// tells the log what happens, so that nobody else waits for whoever reads that; at the end it has told all.
 pub fn serve<R, L>(
     rt: &R,
     log: &L,
@@ -109,6 +111,7 @@ where
     let refused = Refused::new(alloc)?;
     let alarm = Alarm::new(alloc)?;
     let states = states_for(alloc, asked.loops, &alarm)?;
+    let (queue, writer) = log_queue(rt, alloc, log)?;
     let hall = Hall {
         alloc,
         service: &service,
@@ -118,17 +121,18 @@ where
         refused: &refused,
         fencing: Fencing::of(alloc, asked.epoch)?,
         limits: asked.limits,
-        log,
+        log: &queue,
     };
-    serve_hall(rt, hall, listeners, asked)
+    serve_hall(rt, hall, listeners, asked, writer)
 }
 
 /// Serves by this hall what comes to the listeners.
 fn serve_hall<'a, R, L>(
     rt: &'a R,
-    hall: Hall<'a, L>,
+    hall: Hall<'a, LogQueue<'a, R, L>>,
     listeners: Vec<TransportListener>,
     asked: Setup<'_>,
+    writer: LogWriter<'a, L>,
 ) -> Result<(), ServeFault>
 where
     R: Net + Threads + Wait + Clock + Files<File: Send, Dir: Send> + Sync,
@@ -162,6 +166,7 @@ where
         tokens,
         while_input,
         status,
+        writer,
     };
     run_threads(rt, log, &overview, run)
 }

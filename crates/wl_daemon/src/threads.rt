@@ -2,6 +2,7 @@
 
 use crate::hall::Hall;
 use crate::input::wait_for_input;
+use crate::log_queue::{LogQueue, LogWriter};
 use crate::overview::ServerOverview;
 use crate::serving::ServeFault;
 use crate::watching::{Over, WatchedTokens, watch};
@@ -12,7 +13,7 @@ use std::net::Net;
 use std::random::RandomSource;
 use std::sync::Wait;
 use std::sync::atomic::{AtomicBool, Ordering};
-use std::thread::{Scope, Threads};
+use std::thread::{JoinHandle, Scope, Threads};
 use std::time::{Clock, Instant};
 use std::{io, mem, thread};
 use wl_loops::{EventLoop, Lobby, Shared, TransportListener};
@@ -20,21 +21,23 @@ use wl_status::{StatusEnd, StatusServer};
 
 /// What the threads of a server are given.
 #[derive(Drop)]
-pub struct Run<'a> {
+pub struct Run<'a, L> {
     pub listeners: Vec<TransportListener>,
     /// One for each loop.
     pub polls: Vec<Poll>,
     pub tokens: Option<WatchedTokens<'a>>,
     pub while_input: bool,
     pub status: Option<StatusServer>,
+    /// What tells the log the lines of the loops' queue.
+    pub writer: LogWriter<'a, L>,
 }
 
-/// Runs the threads of a server until it ends.
+/// Runs the threads of a server until it ends, and all lines of the queue are told.
 pub fn run_threads<'a, R, L>(
     rt: &'a R,
-    log: &'a L,
-    overview: &'a ServerOverview<'a, L>,
-    asked: Run<'a>,
+    log: &'a LogQueue<'a, R, L>,
+    overview: &'a ServerOverview<'a, LogQueue<'a, R, L>>,
+    asked: Run<'a, L>,
 ) -> Result<(), ServeFault>
 where
     R: Net + Threads + Wait + Clock + Files<File: Send, Dir: Send> + Sync,
@@ -47,6 +50,7 @@ where
         tokens,
         while_input,
         status,
+        writer,
     } = asked;
     let end = End::new(overview.shared, status.as_ref())?;
     let Ok(lobby) = Lobby::new(rt, overview.shared) else {
@@ -54,7 +58,7 @@ where
     };
     let (end, lobby) = (&end, &lobby);
     thread::scope(thread::scope_env(), rt, |scope| -> Result<(), ServeFault> {
-        start_loops(scope, rt, end, lobby, listeners, polls, overview.start)?;
+        let loops = start_loops(scope, rt, end, lobby, listeners, polls, overview.start)?;
         if let Some(tokens) = tokens {
             let spawned = scope.spawn(move || {
                 let mut tokens = tokens;
@@ -65,10 +69,15 @@ where
             }
         }
         start_status(scope, rt, overview, end, status)?;
+        if scope.spawn(move || writer.write(rt)).is_err() {
+            return Err(end.give_up(rt));
+        }
         if while_input {
             wait_for_input(rt, &end.over);
             end.tell(rt);
         }
+        join_all(rt, loops);
+        log.end();
         Ok(())
     })?;
     if end.has_failed.load(Ordering::SeqCst) {
@@ -77,7 +86,7 @@ where
     Ok(())
 }
 
-/// Starts the loops. The first that is started has all listeners.
+/// Starts the loops, and answers their threads. The first that is started has all listeners.
 fn start_loops<'s, 'a: 's, 'b: 's, E, R, L>(
     scope: &Scope<'s, E>,
     rt: &'a R,
@@ -86,13 +95,14 @@ fn start_loops<'s, 'a: 's, 'b: 's, E, R, L>(
     listeners: Vec<TransportListener>,
     polls: Vec<Poll>,
     start: Instant,
-) -> Result<(), ServeFault>
+) -> Result<Vec<JoinHandle<()>>, ServeFault>
 where
     R: Wait + Clock + AllocGlobal + Sync,
     L: Log + Sync,
 {
     let mut listeners = listeners;
     let mut polls = polls;
+    let mut threads = Vec::new(rt.alloc());
     for place in (0..polls.len()).rev() {
         let Some(poll) = polls.pop() else {
             break;
@@ -106,11 +116,22 @@ where
             }
             end.tell(rt);
         });
-        if spawned.is_err() {
+        let Ok(thread) = spawned else {
             return Err(end.give_up(rt));
+        };
+        if threads.push(thread).is_err() {
+            end.tell(rt);
+            return Err(ServeFault::Memory);
         }
     }
-    Ok(())
+    Ok(threads)
+}
+
+/// Waits until these threads have ended.
+fn join_all<R: Threads>(rt: &R, threads: Vec<JoinHandle<()>>) {
+    for thread in threads {
+        thread.join(rt);
+    }
 }
 
 /// Starts what shows the status, if it is asked for.
