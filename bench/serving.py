@@ -20,6 +20,8 @@ from network import Serving, free_port
 PROGRAM = str(TOP / "crates/weblocks/out/weblocks")
 # How a client of each job is told of a grant.
 TELLING = {"serve": "polled", "daemon": "pushed"}
+# Of a round's time, for how much at most a processor may be kept from a machine that is calm.
+STOLEN = 0.02
 
 
 def raise_file_limit():
@@ -66,6 +68,28 @@ def started(program, job, connections, *options):
         server = Daemon(program, "--log", "off", *options, before=before)
     with server:
         yield server
+
+
+@contextmanager
+def bound_to(cores):
+    """What is started meanwhile has these processors alone, by their numbers; where there are none, all of ours."""
+    ours = os.sched_getaffinity(0)
+    os.sched_setaffinity(0, cores or ours)
+    try:
+        yield
+    finally:
+        os.sched_setaffinity(0, ours)
+
+
+def stolen_seconds():
+    """For how long the hypervisor has kept processors that had work from this machine, all of them together."""
+    with open("/proc/stat") as file:
+        return int(file.readline().split()[8]) / os.sysconf("SC_CLK_TCK")
+
+
+def is_calm(found):
+    """Whether the hypervisor kept hardly anything of a round's time from this machine."""
+    return found["stolen"] <= STOLEN * found["seconds"]
 
 
 def cpu_seconds(pid):
