@@ -5,6 +5,7 @@ ghost use Rattle.wl_liveness.specs.Liveness.{due_of, new_liveness, after_ping, s
 ghost use Rattle.wl_liveness.specs.declared.liveness.Due.TheVariants.{Nothing, Ping, End};
 
 use crate::affinity::Affinity;
+use crate::corkable::Corkable;
 use crate::farewell::Farewell;
 use crate::host::{Event, Host, Listener, Place};
 use crate::seat::Seat;
@@ -21,7 +22,7 @@ use wl_wire::{Ending, Greeted, Greeting, Pace, Sending, Wire};
 /// How far a connection is.
 #[derive(Drop)]
 enum Stage<'a, R: Wait, P: Listener> {
-    Greeting(Greeting<Transport>),
+    Greeting(Greeting<Corkable<Transport>>),
     Open(Talk<'a, R, P>),
     Closing(Farewell),
     Ended,
@@ -81,7 +82,7 @@ impl<'a, R: Wait, H: Host> Connection<'a, R, H> {
         host: &'a H,
         place: Place,
         source: Source,
-        greeting: Greeting<Transport>,
+        greeting: Greeting<Corkable<Transport>>,
         now: u64,
     ) -> Connection<'a, R, H>
         ensures { result.liveness ≡ new_liveness now }
@@ -173,7 +174,7 @@ impl<'a, R: Wait, H: Host> Connection<'a, R, H> {
     /// Goes on for as long as the stream doesn't block, or for a turn.
     pub fn go_on(&mut self, now: u64) -> Next {
         if matches!(self.stage, Stage::Open(..)) {
-            return self.converse(now);
+            return self.converse(now, false);
         }
         match mem::replace(&mut self.stage, Stage::Ended) {
             Stage::Greeting(greeting) => self.greet(greeting, now),
@@ -182,7 +183,15 @@ impl<'a, R: Wait, H: Host> Connection<'a, R, H> {
         }
     }
 
-    fn greet(&mut self, greeting: Greeting<Transport>, now: u64) -> Next {
+    /// Reads and answers, if it is open, but sends nothing: it is to go on behind that in any case.
+    pub fn go_ahead(&mut self, now: u64) -> Next {
+        if matches!(self.stage, Stage::Open(..)) {
+            return self.converse(now, true);
+        }
+        Next::Again
+    }
+
+    fn greet(&mut self, greeting: Greeting<Corkable<Transport>>, now: u64) -> Next {
         match greeting.go_on() {
             Greeted::Waits(greeting) => {
                 self.stage = Stage::Greeting(greeting);
@@ -200,21 +209,21 @@ impl<'a, R: Wait, H: Host> Connection<'a, R, H> {
         }
     }
 
-    fn begin(&mut self, wire: Wire<Transport>, admitted: Admitted, now: u64) -> Next {
+    fn begin(&mut self, wire: Wire<Corkable<Transport>>, admitted: Admitted, now: u64) -> Next {
         self.wants_pushes = admitted.is_pushed();
         match self.host.begin(self.rt, self.place, admitted) {
             Ok(speaker) => {
                 let seat = Seat::new(self.rt, speaker);
                 self.stage = Stage::Open(Talk { seat, wire });
-                self.converse(now)
+                self.converse(now, false)
             }
             Err(Memory) => self.close(wire, Ending::Memory, now),
         }
     }
 
     /// Goes on, where it is open.
-    fn converse(&mut self, now: u64) -> Next {
-        match self.talk(now) {
+    fn converse(&mut self, now: u64, is_corked: bool) -> Next {
+        match self.talk(now, is_corked) {
             Ok(Pace::Waits) => Next::Waits,
             Ok(Pace::Again) => Next::Again,
             Err(ending) => self.begin_close(ending, now),
@@ -222,11 +231,15 @@ impl<'a, R: Wait, H: Host> Connection<'a, R, H> {
     }
 
     /// A turn of a connection that is open, or why it is to end.
-    fn talk(&mut self, now: u64) -> Result<Pace, Ending> {
+    fn talk(&mut self, now: u64, is_corked: bool) -> Result<Pace, Ending> {
         let Stage::Open(talk) = &mut self.stage else {
             return Err(Ending::Broken);
         };
-        let talked = talk.go_on(self.rt, &mut self.may_push);
+        let talked = if is_corked {
+            talk.go_on_corked(self.rt, &mut self.may_push)
+        } else {
+            talk.go_on(self.rt, &mut self.may_push)
+        };
         let came = talk.wire.byte_count();
         self.is_busy = came != self.came && now.saturating_sub(self.heard) <= BUSY;
         if came != self.came {
@@ -239,7 +252,7 @@ impl<'a, R: Wait, H: Host> Connection<'a, R, H> {
     }
 
     /// Tells the peer why the connection ends, as far as it can be told.
-    fn close(&mut self, wire: Wire<Transport>, ending: Ending, now: u64) -> Next {
+    fn close(&mut self, wire: Wire<Corkable<Transport>>, ending: Ending, now: u64) -> Next {
         self.host.note(Event::Closed(self.source, ending));
         if ending == Ending::Broken {
             return Next::Ended;

@@ -4,10 +4,12 @@ ghost use Rattle.std.specs.Prelude.{◌≡◌, ◌-◌, ◌<◌, ◌≤◌};
 ghost use Rattle.wl_loops.specs.Sweeps.{EachWatched};
 
 mod moves;
+mod turns;
 
 use crate::accepting::Acceptor;
 use crate::connection::{Connection, Next};
-use crate::host::{Host, Place, Ring};
+use crate::corkable::Corkable;
+use crate::host::{Host, Place};
 use crate::lobby::Lobby;
 use crate::served::{Served, spare_all, watch_all};
 use crate::shared::{Arrival, Inbox, Shared, WAKER};
@@ -297,7 +299,7 @@ impl<'a, 'b, R: Wait + Clock, H: Host> EventLoop<'a, 'b, R, H> {
         let Arrival { transport, hold } = arrival;
         transport.register(self.poll.registry(), Token(key))?;
         transport.set_nodelay();
-        let greeting = Greeting::new(self.shared.alloc, transport, rules)?;
+        let greeting = Greeting::new(self.shared.alloc, Corkable::new(transport), rules)?;
         let place = Place {
             event_loop: self.number,
             key,
@@ -329,70 +331,6 @@ impl<'a, 'b, R: Wait + Clock, H: Host> EventLoop<'a, 'b, R, H> {
             drop(connection);
             self.shared.leave(self.rt, self.number, hold);
         }
-    }
-
-    /// Those that were marked get a turn, to push what changed.
-    fn take_marked(&mut self, from_others: bool) {
-        let Some(ring) = self.shared.host.ring(self.number) else {
-            return;
-        };
-        if !ring.take_rung() {
-            return;
-        }
-        let mut keys = mem::replace(&mut self.keys, Vec::new(self.shared.alloc));
-        if ring.collect(&mut keys) {
-            for key in &keys {
-                self.mark(*key, from_others);
-            }
-        } else {
-            self.mark_all(from_others);
-        }
-        self.keys = keys;
-    }
-
-    /// The connection of this key gets a turn, if it has changes that nobody looked at: what it changed itself it was
-    /// told with the answer.
-    fn mark(&mut self, key: usize, from_others: bool) {
-        if let Some(served) = self.served.get_mut(key) {
-            if served.connection.is_marked() {
-                served.connection.mark();
-                if from_others {
-                    served.connection.tell();
-                }
-                self.enqueue(key);
-            }
-        }
-    }
-
-    /// As `take_marked`, where a mark was missed: by looking at each connection.
-    fn mark_all(&mut self, from_others: bool) {
-        for key in 0..self.served.capacity() {
-            self.mark(key, from_others);
-        }
-    }
-
-    /// Each in the queue has a turn.
-    fn take_turns(&mut self) {
-        let mut queue = mem::replace(&mut self.keys, Vec::new(self.shared.alloc));
-        queue.clear();
-        mem::swap(&mut self.queue, &mut queue);
-        for key in &queue {
-            let next = match self.served.get_mut(*key) {
-                Some(served) => {
-                    served.connection.is_queued = false;
-                    let next = served.connection.go_on(self.now);
-                    self.is_busy |= served.connection.is_busy;
-                    next
-                }
-                None => Next::Waits,
-            };
-            match next {
-                Next::Waits => self.move_drawn(*key),
-                Next::Again => self.enqueue(*key),
-                Next::Ended => self.end_one(*key),
-            }
-        }
-        self.keys = queue;
     }
 
     /// Looks at all connections, if it is time to: silent peers are pinged, and those that are over end.

@@ -3,6 +3,7 @@
 //! What still comes is read and dropped, so that the close frame isn't lost: a system that gets bytes for a stream that
 //! was closed with bytes unread resets it, and the peer loses what it hasn't read yet.
 
+use crate::corkable::Corkable;
 use crate::transport::Transport;
 use std::io::{ErrorKind, Read};
 use std::net::Shutdown;
@@ -18,7 +19,7 @@ const TURN: u32 = 16;
 #[derive(Drop)]
 pub enum Farewell {
     /// The close frame has not left whole.
-    Sending(Wire<Transport>),
+    Sending(Wire<Corkable<Transport>>),
     /// All has left, and the writing side is shut.
     Draining(Transport),
     Done,
@@ -26,7 +27,7 @@ pub enum Farewell {
 
 impl Farewell {
     /// Begins, where the close frame was put.
-    pub fn new(wire: Wire<Transport>, sending: Sending) -> Farewell {
+    pub fn new(wire: Wire<Corkable<Transport>>, sending: Sending) -> Farewell {
         match sending {
             Sending::Left => shut(wire),
             Sending::Waits => Farewell::Sending(wire),
@@ -78,8 +79,8 @@ fn last_progress(dropped: u64) -> Progress {
     }
 }
 
-fn shut(wire: Wire<Transport>) -> Farewell {
-    let stream = wire.into_stream();
+fn shut(wire: Wire<Corkable<Transport>>) -> Farewell {
+    let stream = wire.into_stream().into_stream();
     match stream.shutdown(Shutdown::Write) {
         Ok(()) => Farewell::Draining(stream),
         Err(_) => Farewell::Done,

@@ -8,6 +8,7 @@
 mod accepting;
 mod affinity;
 mod connection;
+mod corkable;
 mod event_loop;
 mod farewell;
 mod host;

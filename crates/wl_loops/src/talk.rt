@@ -1,5 +1,6 @@
 //! What an open connection has.
 
+use crate::corkable::Corkable;
 use crate::host::{Host, Listener, Place};
 use crate::seat::Seat;
 use crate::transport::Transport;
@@ -12,7 +13,7 @@ use wl_wire::{Ending, Pace, Turn, Wire, take_turn};
 pub struct Talk<'a, R: Wait, P: Listener> {
     // Let go of in this order, so that whoever sees the stream closed finds the speaker ended.
     pub seat: Seat<'a, R, P>,
-    pub wire: Wire<Transport>,
+    pub wire: Wire<Corkable<Transport>>,
 }
 
 impl<'a, R: Wait, P: Listener> Talk<'a, R, P> {
@@ -30,9 +31,21 @@ impl<'a, R: Wait, P: Listener> Talk<'a, R, P> {
         }
     }
 
+    /// The same, but nothing leaves: what is to be sent waits for the next turn.
+    pub fn go_on_corked(&mut self, rt: &R, may_push: &mut bool) -> Result<Pace, Ending> {
+        self.wire.stream().cork();
+        let gone = self.go_on(rt, may_push);
+        self.wire.stream().uncork();
+        gone
+    }
+
+    fn transport(&self) -> &Transport {
+        self.wire.stream().get_ref()
+    }
+
     /// Has this poll report no more of its stream, and answers whether it won't.
     pub fn detach(&self, registry: &Registry) -> bool {
-        self.wire.stream().deregister(registry).is_ok()
+        self.transport().deregister(registry).is_ok()
     }
 
     /// Has its stream and its speaker report to this place, and answers whether they will. Else neither does.
@@ -43,12 +56,15 @@ impl<'a, R: Wait, P: Listener> Talk<'a, R, P> {
         registry: &Registry,
         place: Place,
     ) -> bool {
-        let transport = self.wire.stream();
-        if transport.register(registry, Token(place.key)).is_err() {
+        if self
+            .transport()
+            .register(registry, Token(place.key))
+            .is_err()
+        {
             return false;
         }
         if !self.set_speaker_place(rt, host, place) {
-            let _ = self.wire.stream().deregister(registry);
+            let _ = self.transport().deregister(registry);
             return false;
         }
         self.wire.wake();
