@@ -67,7 +67,7 @@ def one_that_does_not_read(program):
 
 
 def some_that_end(program):
-    """One that breaks the protocol, one that closes and one that is gone: their locks go on, and others are answered."""
+    """One breaks the protocol, one closes and one is gone: their locks go on, and the others are answered."""
     with Daemon(program, "--loops", "1") as daemon:
         broken, closing, gone = (daemon.opened(f"https://{it}.test/") for it in ("a", "b", "c"))
         waiters = [daemon.opened(f"https://{it}.test/", PUSH) for it in ("a", "b", "c")]
