@@ -69,8 +69,8 @@ impl JsonText {
         self.piece(digits.format(number))
     }
 
-    #[tactic(auto, using(crate::proofs::Pieces::string_made))]
     /// Appends a string in quotes. `serde_json` writes one that needs an escape.
+    #[tactic(auto, using(crate::proofs::Pieces::string_made))]
     pub(crate) fn string(&mut self, text: &str) -> Result<(), AllocError>
         ensures { OnOk result (self.new ≡ self.old ++ compact_text (string text.now)) }
     {
@@ -94,8 +94,8 @@ impl JsonText {
         }
     }
 
-    #[tactic(auto, using(crate::proofs::Pieces::client_made))]
     /// Appends the client id of an agent.
+    #[tactic(auto, using(crate::proofs::Pieces::client_made))]
     pub(crate) fn client(&mut self, client: u64) -> Result<(), AllocError>
         ensures { OnOk result (self.new ≡ self.old ++ compact_text (string (client_id client))) }
     {

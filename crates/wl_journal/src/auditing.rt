@@ -53,8 +53,8 @@ pub fn replay<C: LockCore>(from: C, entries: &[Entry]) -> Result<(), AuditFault>
     Ok(())
 }
 
-/// Whether the entries are legal: replays them on a copy of the base, which keeps its allocator, and whose calls go over
-/// all its locks and requests. The base may be a book's own or that of an earlier cut.
+/// Whether the entries are legal: replays them on a copy of the base, which keeps its allocator, and whose calls go
+/// over all its locks and requests. The base may be a book's own or that of an earlier cut.
 pub fn audit(base: &PlainCore, entries: &[Entry]) -> Result<(), AuditFault>
     ensures legal { OnOk result (IsLegal base.now.state entries.now) }
     ensures illegal { IfErr result (λ fault. Explains base.now.state entries.now fault) }

@@ -54,8 +54,8 @@ fault [1 stolen] -> {"error":{"name":"BadOp","rule":"op"},"id":7,"notices":[]} [
 refusal [1 stolen] -> {"error":{"name":"NoSuch","rule":"signal"},"id":7,"notices":[{"phase":"stolen","request":1}]} []
 "#;
 
-/// A session passes on what its state allows. What it plans to do, with the id of the reply, before it is open, while it
-/// is and when it is closed.
+/// A session passes on what its state allows. What it plans to do, with the id of the reply, before it is open, while
+/// it is and when it is closed.
 const PLANS: &str = r#"plan {"id":7,"op":"poll"} -> Some(7) NotOpen []
 plan {"id":1,"kind":"window","op":"open","url":"https://a.test/"} -> Some(1) opens a window of a.test []
 plan {"id":8,"op":"peek"} -> Some(8) BadOp []

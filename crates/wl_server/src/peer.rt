@@ -168,8 +168,8 @@ impl Peer {
         }
     }
 
-    /// `push` of a peer that stays where it is. Where there is no memory for it its agent is still there: whoever has the
-    /// peer is to end it.
+    /// `push` of a peer that stays where it is. Where there is no memory for it its agent is still there: whoever has
+    /// the peer is to end it.
     pub fn push_text(&mut self) -> Result<Option<String>, Memory>
         ensures text { IfOk result (λ said. IfSome said (λ text. PushesText self.old (string_bytes text) self.new)) }
         ensures none { IfOk result (λ said. IfNone said (self.new ≡ self.old)) }

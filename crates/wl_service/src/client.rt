@@ -32,9 +32,9 @@ enum Side {
 
 /// A window or worker that opened: an agent of its origin's manager, or one of an opaque origin, which is refused.
 ///
-/// Each call of a managed client but `client`, `changed_requests`, `is_rung` and `silence_bell` is its agent's, and takes
-/// its manager's lock; an opaque one takes none. A client should end by `Service::close`, or by `terminate` where its
-/// service keeps each manager: one that is dropped stays in its manager, with its locks.
+/// Each call of a managed client but `client`, `changed_requests`, `is_rung` and `silence_bell` is its agent's, and
+/// takes its manager's lock; an opaque one takes none. A client should end by `Service::close`, or by `terminate` where
+/// its service keeps each manager: one that is dropped stays in its manager, with its locks.
 #[derive(Drop)]
 pub struct Client {
     side: Side,
