@@ -33,6 +33,7 @@ impl Over {
         self.ended.notify_all();
     }
 
+    /// Whether the server has ended. It doesn't wait for that.
     pub fn is_over<R: Wait>(&self, rt: &R) -> bool {
         *self.is_over.lock(rt)
     }

@@ -36,12 +36,14 @@ impl<S> Corkable<S> {
         self.is_corked.store(false, Ordering::SeqCst);
     }
 
+    /// The stream, for what is asked of it beside reading and writing.
     pub fn get_ref(&self) -> &S
         ensures { result.now ≡ self.now.stream }
     {
         &self.stream
     }
 
+    /// The stream, corked or not.
     pub fn into_stream(self) -> S
         ensures { result ≡ self.stream }
     {

@@ -14,6 +14,7 @@ pub struct ConnectionLimit {
 }
 
 impl ConnectionLimit {
+    /// No connection runs, and none had a fault.
     pub fn new() -> ConnectionLimit
         ensures running { result.running ≡ 0 }
         ensures failed { result.failed ≡ 0 }

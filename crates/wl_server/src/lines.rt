@@ -43,6 +43,7 @@ pub struct Lines<R> {
 }
 
 impl<R: Read + Drop> Lines<R> {
+    /// Nothing is read, and no memory taken, before the first line is asked for.
     pub fn new(alloc: Global, reader: R) -> Lines<R>
         ensures { to_come R.remaining result ≡ R.remaining reader }
     {

@@ -13,18 +13,21 @@ pub struct OpenClient {
 }
 
 impl OpenClient {
+    /// Whoever calls this has to end the agent from here on.
     pub fn new(client: Client) -> OpenClient
         ensures { result.client ≡ client }
     {
         OpenClient { client }
     }
 
+    /// The client, for what takes no lock.
     pub fn client(&self) -> &Client
         ensures { result.now ≡ self.now.client }
     {
         &self.client
     }
 
+    /// The client, for its operations. Its end is not among them: `end` is.
     pub fn client_mut(&mut self) -> &mut Client {
         &mut self.client
     }

@@ -30,6 +30,7 @@ impl Model for Piece {
 }
 
 impl Piece {
+    /// Nothing was read, and no memory taken.
     pub fn new(alloc: Global) -> Piece
         ensures { result ≡ [] }
     {
@@ -39,12 +40,14 @@ impl Piece {
         }
     }
 
+    /// What is in no line yet.
     pub fn rest(&self) -> &[u8]
         ensures { result.now ≡ self.now }
     {
         &self.bytes[self.at..]
     }
 
+    /// So many bytes more are in lines.
     pub fn skip(&mut self, count: usize)
         requires { count ≤ length self.old }
         ensures { self.new ≡ drop count self.old }

@@ -16,6 +16,7 @@ pub enum Data {
 }
 
 impl Data {
+    /// A text's bytes are UTF-8; which of the two came makes no difference to the answer.
     pub fn bytes(&self) -> &[u8]
         ensures { result.now ≡ data_bytes self.now }
     {

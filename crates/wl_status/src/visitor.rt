@@ -55,6 +55,7 @@ fn config() -> Config {
 }
 
 impl Visitor {
+    /// A visitor whose connection came at this time, in milliseconds: a request has 10 seconds from there.
     pub fn new(alloc: Global, stream: TcpStream, keys: RandomState, now: u64) -> Visitor {
         Visitor {
             stream,
