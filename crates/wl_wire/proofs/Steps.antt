@@ -16,7 +16,7 @@ use Rattle.wl_wire.specs.Wires.{Falls, Hears, Puts, Sends, Yields}
 use Rattle.wl_wire.specs.inner.Wires.{Says}
 use Rattle.wl_wire.specs.declared.counted.Counted.{Counted}
 use Rattle.wl_wire.specs.declared.ending.Ending.{Ending}
-use Rattle.wl_wire.specs.declared.turn.Pace.{Pace}
+use Rattle.wl_wire.specs.declared.wire.Pace.{Pace}
 use Rattle.wl_wire.specs.declared.turn.Turn.{Turn}
 use Rattle.wl_wire.specs.declared.turn.Turn.TheVariants as turn
 use Rattle.wl_wire.specs.declared.turn.Stepped.{Stepped}

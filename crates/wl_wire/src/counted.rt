@@ -4,20 +4,29 @@ ghost use Rattle.std.specs.Prelude.{◌≡◌};
 
 use std::io;
 use std::io::{ErrorKind, Read, Write};
-use std::sync::atomic::{AtomicBool, Ordering};
+use std::sync::atomic::{AtomicBool, AtomicU64, Ordering};
+
+/// The bytes after which a turn reads no more, so that others have theirs: a peer may send without an end what makes no
+/// message, as empty fragments.
+const SHARE: u64 = 16_384;
 
 /// A stream that counts the bytes that came, since they alone are a sign of life, and gives no more than so many.
 ///
 /// It may be told when its stream is ready (`hear_of`), as a poll does that reports each change once. Then it asks the
 /// system no more once a read was short: all was taken that was there, and what comes later is reported.
+///
+/// It may be told that a turn begins (`begin_turn`). Then it reads on until it has given 16 KiB, and one read more at
+/// most.
 #[derive(Drop)]
 pub struct Counted<S> {
     stream: S,
     came: u64,
     // What may still come.
     left: u64,
-    // Nothing is there until the stream is ready once more. The two flags are changed behind a `&`, which leaves what a
-    // socket over this stream is known to be.
+    // What may still come in this turn. It and the two flags are changed behind a `&`, which leaves what a socket over
+    // this stream is known to be.
+    share: AtomicU64,
+    // Nothing is there until the stream is ready once more.
     is_drained: AtomicBool,
     // A short read says nothing: nobody reports when the stream is ready, or its end may be there, of which there will
     // be no further report.
@@ -35,6 +44,7 @@ impl<S> Counted<S> {
             stream,
             came: 0,
             left: limit,
+            share: AtomicU64::new(u64::MAX),
             is_drained: AtomicBool::new(false),
             reads_on: AtomicBool::new(true),
         }
@@ -47,6 +57,16 @@ impl<S> Counted<S> {
         self.is_drained.store(false, Ordering::SeqCst);
     }
 
+    /// A turn begins, which may read 16 KiB. Until this is called for the first time nothing limits a turn.
+    pub fn begin_turn(&self) {
+        self.share.store(SHARE, Ordering::SeqCst);
+    }
+
+    /// Whether more may be there than this turn could read.
+    pub fn has_more(&self) -> bool {
+        self.share.load(Ordering::SeqCst) == 0 && !self.is_drained.load(Ordering::SeqCst)
+    }
+
     /// How many bytes came, at most 2^64 - 1.
     pub fn byte_count(&self) -> u64
         ensures { result ≡ self.now.came }
@@ -54,12 +74,14 @@ impl<S> Counted<S> {
         self.came
     }
 
+    /// The stream, for what is asked of it beside reading and writing.
     pub fn get_ref(&self) -> &S
         ensures { result.now ≡ self.now.stream }
     {
         &self.stream
     }
 
+    /// The stream. What was counted is gone.
     pub fn into_stream(self) -> S
         ensures { result ≡ self.stream }
     {
@@ -74,7 +96,8 @@ impl<S: Read> Read for Counted<S> {
         if self.left == 0 {
             return Err(io::Error::from(ErrorKind::FileTooLarge));
         }
-        if self.is_drained.load(Ordering::SeqCst) {
+        let share = self.share.load(Ordering::SeqCst);
+        if share == 0 || self.is_drained.load(Ordering::SeqCst) {
             return Err(io::Error::from(ErrorKind::WouldBlock));
         }
         let room = buf.len();
@@ -86,6 +109,8 @@ impl<S: Read> Read for Counted<S> {
             let count = *count as u64;
             self.came = self.came.saturating_add(count);
             self.left = self.left.saturating_sub(count);
+            self.share
+                .store(share.saturating_sub(count), Ordering::SeqCst);
         }
         got
     }

@@ -73,8 +73,19 @@ impl Greeter {
             401 => StatusCode::UNAUTHORIZED,
             _ => StatusCode::SERVICE_UNAVAILABLE,
         };
+        if rejection.status() == 401 {
+            challenge(&mut refused);
+        }
         refused
     }
+}
+
+/// Says in a refusal that a token is wanted (RFC 6750, section 3). Without memory for that it says nothing.
+fn challenge(refused: &mut ErrorResponse) {
+    let name = HeaderName::from_static("www-authenticate");
+    let _ = refused
+        .headers_mut()
+        .insert(name, HeaderValue::from_static("Bearer"));
 }
 
 /// Says in an answer that this subprotocol is selected.

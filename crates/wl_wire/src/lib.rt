@@ -20,5 +20,5 @@ pub use crate::ending::Ending;
 pub use crate::greeter::Greeter;
 pub use crate::greeting::{Greeted, Greeting};
 pub use crate::speaker::{Answer, Speaker};
-pub use crate::turn::{Pace, Turn, take_turn};
-pub use crate::wire::{Sending, Wire};
+pub use crate::turn::{Turn, take_turn};
+pub use crate::wire::{Pace, Sending, Wire};

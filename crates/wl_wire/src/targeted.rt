@@ -29,6 +29,7 @@ impl<S> Targeted<S> {
         }
     }
 
+    /// The stream, whether the target has come or not.
     pub fn into_stream(self) -> S {
         self.stream
     }

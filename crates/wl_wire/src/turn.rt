@@ -4,12 +4,11 @@ ghost use Rattle.std.specs.Prelude.{◌≡◌, ◌≤◌, ◌⊎◌, [], IfSome,
 ghost use Rattle.tungstenite.specs.Content.{text, binary};
 ghost use Rattle.tungstenite.specs.Socket.{content_of, kind_of};
 ghost use Rattle.wl_wire.specs.Turns.{Turns};
-ghost use Rattle.wl_wire.specs.inner.Turns.{Answered, Steps, data_bytes, stepped_by};
+ghost use Rattle.wl_wire.specs.inner.Turns.{Answered, Steps, stepped_by};
 
 use crate::ending::{Ending, ending_of, would_block};
 use crate::speaker::{Answer, Speaker};
-use crate::wire::{Sending, Wire};
-use bytes::{ByteStr, Bytes};
+use crate::wire::{Pace, Sending, Wire};
 use std::io::{Read, Write};
 use std::sync::Wait;
 use tungstenite::Message;
@@ -17,15 +16,6 @@ use wl_types::Memory;
 
 /// The messages that are read before other connections have their turn.
 const BUDGET: u32 = 16;
-
-/// When a connection is to have its next turn.
-#[derive(Clone, Copy, Debug, PartialEq, Eq)]
-pub enum Pace {
-    /// When its stream is ready for something, or something changed.
-    Waits,
-    /// When others had theirs: there may be more to read.
-    Again,
-}
 
 /// What came of a turn.
 pub enum Turn<P> {
@@ -55,6 +45,7 @@ pub fn take_turn<R: Wait, S: Read + Write + Drop, P: Speaker>(
     ensures { Turns S.remaining S.contents P.answers P.pushes P.rests (wire.old.socket, speaker) result
         wire.new.socket }
 {
+    wire.begin_turn();
     match send_waiting(rt, wire, speaker) {
         Stepped::Went(next) => take_steps(rt, wire, next, may_push),
         Stepped::Stops(last) => Turn::Went(last, Pace::Waits),
@@ -77,7 +68,7 @@ fn take_steps<R: Wait, S: Read + Write + Drop, P: Speaker>(
     for taken in 0..BUDGET {
         match take_step(rt, wire, speaker, may_push) {
             Stepped::Went(next) => speaker = next,
-            Stepped::Stops(last) => return Turn::Went(last, Pace::Waits),
+            Stepped::Stops(last) => return Turn::Went(last, wire.pace()),
             Stepped::Ended(ending) => return Turn::Ended(ending),
         }
     }
@@ -178,14 +169,14 @@ fn take_message<R: Wait, S: Read + Write + Drop, P: Speaker>(
                 speaker.end(rt);
                 return Stepped::Ended(Ending::Closed);
             }
-            match data_of(message) {
-                Some(given) => answer(rt, wire, speaker, &given),
+            match data_of(&message) {
+                Some(given) => answer(rt, wire, speaker, given),
                 // The answer to a ping waits in the socket.
                 None => send_waiting(rt, wire, speaker),
             }
         }
         Err(error) => {
-            wire.may_read = false;
+            wire.may_read = wire.has_more();
             if would_block(&error) {
                 stop(rt, wire, speaker)
             } else {
@@ -212,31 +203,14 @@ fn stop<R: Wait, S: Read + Write + Drop, P: Speaker>(
 }
 
 /// What a message says, if it is a text or bytes.
-#[derive(Drop)]
-pub enum Data {
-    Text(ByteStr),
-    Binary(Bytes),
-}
-
-impl Data {
-    fn bytes(&self) -> &[u8]
-        ensures { result.now ≡ data_bytes self.now }
-    {
-        match self {
-            Data::Text(text) => text.as_str().as_bytes(),
-            Data::Binary(bytes) => bytes.as_slice(),
-        }
-    }
-}
-
-fn data_of(message: Message) -> Option<Data>
-    ensures given { IfSome result (λ given. (content_of message ≡ text (data_bytes given))
-        ⊎ (content_of message ≡ binary (data_bytes given))) }
-    ensures idle { IfNone result (2 ≤ kind_of message) }
+fn data_of(message: &Message) -> Option<&[u8]>
+    ensures given { IfSome result (λ given. (content_of message.now ≡ text given.now)
+        ⊎ (content_of message.now ≡ binary given.now)) }
+    ensures idle { IfNone result (2 ≤ kind_of message.now) }
 {
     match message {
-        Message::Text(text) => Some(Data::Text(text)),
-        Message::Binary(bytes) => Some(Data::Binary(bytes)),
+        Message::Text(text) => Some(text.as_str().as_bytes()),
+        Message::Binary(bytes) => Some(bytes.as_slice()),
         Message::Ping(_) | Message::Pong(_) | Message::Close(_) => None,
     }
 }
@@ -246,11 +220,11 @@ fn answer<R: Wait, S: Read + Write + Drop, P: Speaker>(
     rt: &R,
     wire: &mut Wire<S>,
     speaker: P,
-    given: &Data,
+    given: &[u8],
 ) -> Stepped<P>
-    ensures { Answered S.contents P.answers (wire.old.socket, speaker) (data_bytes given.now) result wire.new.socket }
+    ensures { Answered S.contents P.answers (wire.old.socket, speaker) given.now result wire.new.socket }
 {
-    match speaker.answer(rt, given.bytes()) {
+    match speaker.answer(rt, given) {
         Ok((next, said)) => match said {
             Answer::Text(text) => {
                 let replying = wire.put(text);

@@ -12,6 +12,15 @@ use bytes::{ByteStr, Bytes};
 use std::io::{Read, Write};
 use tungstenite::{Error, Message, NoMask, WebSocket};
 
+/// When a connection is to have its next turn.
+#[derive(Clone, Copy, Debug, PartialEq, Eq)]
+pub enum Pace {
+    /// When its stream is ready for something, or something changed.
+    Waits,
+    /// When others had theirs: there may be more to read.
+    Again,
+}
+
 /// What became of what was to leave.
 #[derive(Clone, Copy, Debug, PartialEq, Eq)]
 pub enum Sending {
@@ -141,6 +150,25 @@ impl<S: Read + Write + Drop> Wire<S> {
                 Sending::Left
             }
             Err(error) => not_sent(&error),
+        }
+    }
+
+    /// A turn begins, which reads no more than its share.
+    pub(crate) fn begin_turn(&self) {
+        self.socket.get_ref().begin_turn();
+    }
+
+    /// Whether more may be there than this turn could read.
+    pub(crate) fn has_more(&self) -> bool {
+        self.socket.get_ref().has_more()
+    }
+
+    /// When the next turn is to be, where a step of this one stopped.
+    pub(crate) fn pace(&self) -> Pace {
+        if self.may_read && !self.is_blocked {
+            Pace::Again
+        } else {
+            Pace::Waits
         }
     }
 

@@ -4,16 +4,10 @@ use Rattle.tungstenite.specs.Socket.{Socket}
 use Rattle.wl_wire.specs.Turns.{Advances, Finishes}
 use Rattle.wl_wire.specs.Wires.{Falls, Puts}
 use Rattle.wl_wire.specs.declared.counted.Counted.{Counted}
-use Rattle.wl_wire.specs.declared.turn.Data.{Data}
-use Rattle.wl_wire.specs.declared.turn.Data.TheVariants.{Text, Binary}
 use Rattle.wl_wire.specs.declared.turn.Stepped.{Stepped}
 use Rattle.wl_wire.specs.declared.turn.Stepped.TheVariants as stepped
 use Rattle.wl_wire.specs.declared.wire.Sending.{Sending}
 use Rattle.wl_wire.specs.declared.wire.Sending.TheVariants as sending
-
-abbrev pub data_bytes : Data → List ℕ
-data_bytes (Text bytes) = bytes
-data_bytes (Binary bytes) = bytes
 
 module _ {S P : Type 0} (remaining contents : S → Option (List ℕ)) (answers : P → List ℕ → List ℕ → P → Type 0)
     (pushes : P → List ℕ → P → Type 0) (rests : P → P → Type 0) where

@@ -1,6 +1,5 @@
 use Rattle.std.proofs.Common.{sym, ◌∙◌, refl}
 use Rattle.wl_wire.specs.Turns.{Parting, Reading}
-use Rattle.wl_wire.specs.inner.Turns.{data_bytes}
 use Rattle.wl_wire.proofs.Steps.{after, blocked, exchanged, idle, stays}
 use Rattle.wl_wire.proofs.turn.take_message.Goals as goal
 
@@ -11,7 +10,7 @@ returns-then-not-wire g c = stays g.S.Read.remaining g.S.Write.contents g.P.Spea
 pub returns-in-Some : goal.returns-in-Some
 returns-in-Some g c =
     exchanged g.S.Read.remaining g.S.Write.contents g.P.Speaker.answers g.P.Speaker.pushes g.P.Speaker.rests
-    c.args.wire.now.socket c.read.new.self.socket c.args.speaker (data_bytes c.in-Some.given) c.answer.result
+    c.args.wire.now.socket c.read.new.self.socket c.args.speaker c.in-Some.given.now c.answer.result
     c.answer.new.wire.socket c.requires
     (c.in-Ok.message, c.in-Ok.ensures.socket, c.in-Some.ensures.given)
     c.answer.ensures
