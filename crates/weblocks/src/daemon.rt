@@ -77,7 +77,7 @@ fn watched_tokens<'a>(
 /// none, as a line, and the status.
 fn begin_epoch<R>(rt: &R, options: &DaemonOptions<'_>) -> Result<Option<u64>, ExitCode>
 where
-    R: Files + Eprint + AllocGlobal,
+    R: Files<File = File> + Eprint + AllocGlobal,
 {
     match options.epoch {
         None => Ok(None),

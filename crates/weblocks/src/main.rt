@@ -7,9 +7,11 @@
 mod daemon;
 mod listening;
 mod network;
+mod standard;
 
 use daemon::daemon;
 use network::{NetFault, client, serve};
+use standard::hold_numbers;
 use std::alloc::{AllocError, Global};
 use std::fs::{File, Files};
 use std::io::Write;
@@ -53,7 +55,12 @@ where
         Ok(Job::Timeline) => timeline(rt),
         Ok(Job::Serve { port, clients }) => finish(rt, serve(rt, port, u64::from(clients))),
         Ok(Job::Client { port }) => finish(rt, client(rt, port)),
-        Ok(Job::Daemon(options)) => daemon(rt, &options),
+        Ok(Job::Daemon(options)) => {
+            let numbers = hold_numbers(rt);
+            let code = daemon(rt, &options);
+            drop(numbers);
+            code
+        }
         Err(UsageFault::Usage(error)) => answer_usage(rt, &error),
         Err(UsageFault::Memory) => fail(rt, "out of memory"),
     }

@@ -3,8 +3,9 @@
 ghost use Rattle.std.specs.Prelude.{◌≡◌, ◌≤◌, IfOk, MatchOption, string_bytes};
 ghost use Rattle.wl_daemon.specs.Epochs.{IsEpochAfter, Keeps, KeepsNone, Writes, WritesNone, without_lf};
 
+use crate::lock_file::{LockFault, open_lock};
 use std::alloc::{AllocError, Global};
-use std::fs::{Files, OpenFile};
+use std::fs::{File, Files, OpenFile};
 use std::io::{ErrorKind, Write};
 use std::{fs, io};
 use thiserror::Error;
@@ -89,15 +90,44 @@ fn folder_of(path: &str) -> &str {
 
 /// The epoch of a server that starts now: one behind that of this file, or the first where there is no file. The file
 /// keeps it from now on, also where the machine stops. Of an error the file knows nothing, but for one of the disk that
-/// comes once the file has its new name: then an epoch is left out.
-pub fn next_epoch<R: Files + AllocGlobal>(rt: &R, path: &str) -> Result<u64, EpochFault> {
-    let epoch = match fs::read_to_string(rt, path) {
-        Ok(text) => epoch_after(text.as_str())?,
-        Err(error) if error.kind() == ErrorKind::NotFound => 1,
-        Err(error) => return Err(fault_of(&error)),
-    };
+/// comes once the file has its new name: then an epoch is left out. Of several that start at once one waits for the
+/// other, by a lock on a file beside it, so that no two have one epoch.
+pub fn next_epoch<R>(rt: &R, path: &str) -> Result<u64, EpochFault>
+where
+    R: Files<File = File> + AllocGlobal,
+{
+    // It counts under the lock. Before that it is looked at so that beside what is refused no lock is made.
+    read_next(rt, path)?;
+    let lock = take_lock(rt, path)?;
+    let epoch = read_next(rt, path)?;
     keep(rt, path, epoch)?;
+    drop(lock);
     Ok(epoch)
+}
+
+/// The epoch behind that of this file, or the first where there is no file.
+fn read_next<R: Files + AllocGlobal>(rt: &R, path: &str) -> Result<u64, EpochFault> {
+    match fs::read_to_string(rt, path) {
+        Ok(text) => epoch_after(text.as_str()),
+        Err(error) if error.kind() == ErrorKind::NotFound => Ok(1),
+        Err(error) => Err(fault_of(&error)),
+    }
+}
+
+/// Takes the lock of this path, once nobody else has it.
+fn take_lock<R>(rt: &R, path: &str) -> Result<File, EpochFault>
+where
+    R: Files<File = File> + AllocGlobal,
+{
+    let file = match open_lock(rt, path) {
+        Ok(file) => file,
+        Err(LockFault::NotOpened(_)) => return Err(EpochFault::Unwritable),
+        Err(LockFault::Memory) => return Err(EpochFault::Memory),
+    };
+    match file.lock() {
+        Ok(()) => Ok(file),
+        Err(_) => Err(EpochFault::Unwritable),
+    }
 }
 
 fn fault_of(error: &io::Error) -> EpochFault {

@@ -13,6 +13,7 @@ mod epoch;
 mod fencing;
 mod hall;
 mod input;
+mod lock_file;
 mod locks;
 mod log_lines;
 mod log_queue;

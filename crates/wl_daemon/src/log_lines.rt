@@ -4,7 +4,7 @@ use log::{Log, debug, info, warn};
 use std::fmt;
 use std::net::{IpAddr, Ipv6Addr};
 use wl_admission::Source;
-use wl_loops::Event;
+use wl_loops::{AcceptFault, Event};
 use wl_wire::Ending;
 
 /// Where a connection is from, as a log tells it.
@@ -31,7 +31,19 @@ pub fn tell_log<L: Log>(log: &L, event: Event) {
         Event::Closed(source, ending) => tell_ending(log, source, ending),
         Event::Silent(source) => info!(log; "{}: ended: silent for too long", Sender(source)),
         Event::Moved(source, to) => debug!(log; "{}: moved to loop {to}", Sender(source)),
-        Event::CannotAccept(kind) => warn!(log; "cannot accept connections: {kind}"),
+        Event::CannotAccept(fault) => tell_hindrance(log, fault),
+    }
+}
+
+fn tell_hindrance<L: Log>(log: &L, fault: AcceptFault) {
+    match fault {
+        AcceptFault::FilesOfProcess => {
+            warn!(log; "cannot accept connections: too many open files");
+        }
+        AcceptFault::FilesOfSystem => {
+            warn!(log; "cannot accept connections: too many open files in the system");
+        }
+        AcceptFault::Other(kind) => warn!(log; "cannot accept connections: {kind}"),
     }
 }
 

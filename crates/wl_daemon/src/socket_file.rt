@@ -1,23 +1,20 @@
 //! The file of a Unix socket, and the lock that says whose it is.
 //!
-//! The lock is on a file beside the socket's, whose name has `.lock` behind it, since a socket's file can't be opened.
-//! That file stays when its server ends: if it were removed, one server could lock the old file while another makes and
-//! locks a new one.
+//! The lock is on a file beside the socket's, since a socket's file can't be opened.
 
 ghost use Rattle.std.specs.Prelude.{◌≡◌, ◌≤◌, length, None, Some, Ok, Err, OnOk};
 
+use crate::lock_file::{LockFault, open_lock};
 use mio::net::{UnixListener, UnixStream};
 use std::fs;
-use std::fs::{File, Files, OpenOptions, Permissions, TryLockError};
+use std::fs::{File, Files, Permissions, TryLockError};
 use std::io::ErrorKind;
 use std::net::Net;
-use std::os::unix::fs::{FileTypeExt, MetadataExt, OpenOptionsExt, PermissionsExt};
+use std::os::unix::fs::{FileTypeExt, MetadataExt, PermissionsExt};
 use thiserror::Error;
 
 /// Its owner and its group may connect.
 const SOCKET_MODE: u32 = 0o660;
-
-const LOCK_MODE: u32 = 0o600;
 
 /// The bytes of a socket's path at most.
 const LONGEST: usize = 107;
@@ -139,19 +136,15 @@ fn find<R: Net + Files>(rt: &R, path: &str) -> Result<Found, SocketFault> {
     }
 }
 
-/// Takes the lock of this path, and makes its file if need be.
+/// Takes the lock of this path.
 fn take_lock<R>(rt: &R, path: &str) -> Result<File, SocketFault>
 where
     R: Files<File = File> + AllocGlobal,
 {
-    let Ok(name) = format!(in rt.alloc(); "{path}.lock") else {
-        return Err(SocketFault::Memory);
-    };
-    let mut options = OpenOptions::new();
-    options.read(true).write(true).create(true).mode(LOCK_MODE);
-    let file = match options.open(rt, name.as_str()) {
+    let file = match open_lock(rt, path) {
         Ok(file) => file,
-        Err(error) => return Err(SocketFault::NoLock(error.kind())),
+        Err(LockFault::NotOpened(kind)) => return Err(SocketFault::NoLock(kind)),
+        Err(LockFault::Memory) => return Err(SocketFault::Memory),
     };
     match file.try_lock() {
         Ok(()) => Ok(file),

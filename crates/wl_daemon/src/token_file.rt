@@ -17,6 +17,9 @@ const OTHERS: u32 = 0o044;
 pub enum FileFault {
     #[error("cannot be read")]
     Unreadable,
+    /// As a pipe, which would be waited for.
+    #[error("not a regular file")]
+    NoFile,
     #[error("may be read by others than its owner")]
     Exposed,
     #[error("not UTF-8")]
@@ -96,6 +99,7 @@ impl<'a> TokenFile<'a> {
         let is_new = seen != self.seen;
         self.seen = seen;
         match found {
+            Ok(metadata) if !metadata.is_file() => Err(FileFault::NoFile),
             Ok(metadata) if is_exposed(metadata.permissions().mode()) => Err(FileFault::Exposed),
             Ok(_) => read(rt, self.path).map(Some),
             Err(_) if is_new => Err(FileFault::Unreadable),

@@ -3,7 +3,7 @@
 ghost use Rattle.std.specs.Prelude.{◌≡◌, ◌≢◌, ◌<◌, ℕ, length, IfSome, IfNone};
 ghost use Rattle.wl_loops.specs.Transports.{token_of};
 
-use crate::host::{Event, Host};
+use crate::host::{AcceptFault, Event, Host};
 use crate::shared::{Arrival, Shared, WAKER};
 use crate::transport_listener::TransportListener;
 use mio::{Registry, Token};
@@ -25,18 +25,37 @@ fn token_of(place: usize) -> usize
     FIRST.saturating_sub(place)
 }
 
+/// The system's numbers of two errors.
+const ENFILE: i32 = 23;
+
+const EMFILE: i32 = 24;
+
+fn fault_of(error: &io::Error) -> AcceptFault {
+    match error.raw_os_error() {
+        Some(EMFILE) => AcceptFault::FilesOfProcess,
+        Some(ENFILE) => AcceptFault::FilesOfSystem,
+        _ => AcceptFault::Other(error.kind()),
+    }
+}
+
 /// What takes connections in, and gives each to the loop that has the fewest.
 #[derive(Drop)]
 pub struct Acceptor {
     listeners: Vec<TransportListener>,
     // The loop whose turn it is, of those that have as few.
     next: usize,
+    // Why the last connection wasn't to be had, where it wasn't.
+    hindrance: Option<AcceptFault>,
 }
 
 impl Acceptor {
     /// Accepts from these listeners, and gives what comes to the first loop first.
     pub fn new(listeners: Vec<TransportListener>) -> Acceptor {
-        Acceptor { listeners, next: 0 }
+        Acceptor {
+            listeners,
+            next: 0,
+            hindrance: None,
+        }
     }
 
     /// Has this poll report, for each listener by a token of its own, when connections come in.
@@ -74,24 +93,29 @@ impl Acceptor {
                 return;
             };
             match listener.accept() {
-                Ok((transport, source)) => match shared.take_place(rt, source) {
-                    Ok(hold) => self.give(rt, shared, Arrival { transport, hold }),
-                    // It is closed.
-                    Err(Rejection::Memory) => shared.refuse_for_memory(source),
-                    Err(_) => shared.host.note(Event::Dropped(source)),
-                },
-                Err(error) => {
-                    let kind = error.kind();
-                    match kind {
-                        ErrorKind::ConnectionAborted | ErrorKind::Interrupted => {}
-                        ErrorKind::WouldBlock => return,
-                        _ => {
-                            shared.host.note(Event::CannotAccept(kind));
-                            return;
-                        }
+                Ok((transport, source)) => {
+                    self.hindrance = None;
+                    match shared.take_place(rt, source) {
+                        Ok(hold) => self.give(rt, shared, Arrival { transport, hold }),
+                        // It is closed.
+                        Err(Rejection::Memory) => shared.refuse_for_memory(source),
+                        Err(_) => shared.host.note(Event::Dropped(source)),
                     }
                 }
+                Err(error) => match error.kind() {
+                    ErrorKind::ConnectionAborted | ErrorKind::Interrupted => {}
+                    ErrorKind::WouldBlock => return,
+                    _ => return self.be_hindered(shared, fault_of(&error)),
+                },
             }
+        }
+    }
+
+    /// Tells why there is no connection to be had, unless that was told last.
+    fn be_hindered<H: Host>(&mut self, shared: &Shared<H>, fault: AcceptFault) {
+        if self.hindrance != Some(fault) {
+            self.hindrance = Some(fault);
+            shared.host.note(Event::CannotAccept(fault));
         }
     }
 

@@ -51,8 +51,18 @@ pub enum Event {
     Silent(Source),
     /// A connection goes to the loop of this number, where those are served that it hands over to.
     Moved(Source, usize),
-    /// The system gives no further connection for now.
-    CannotAccept(ErrorKind),
+    /// The system gives no further connection for now. Told once, until it gives one again or another reason.
+    CannotAccept(AcceptFault),
+}
+
+/// Why the system gives no further connection for now.
+#[derive(Clone, Copy, Debug, PartialEq, Eq)]
+pub enum AcceptFault {
+    /// This process has as many files open as it may have.
+    FilesOfProcess,
+    /// The system has.
+    FilesOfSystem,
+    Other(ErrorKind),
 }
 
 /// What a server has behind its event loops.

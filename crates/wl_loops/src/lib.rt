@@ -22,7 +22,7 @@ mod transport;
 mod transport_listener;
 
 pub use crate::event_loop::EventLoop;
-pub use crate::host::{Event, Host, Listener, Place, Ring};
+pub use crate::host::{AcceptFault, Event, Host, Listener, Place, Ring};
 pub use crate::lobby::Lobby;
 pub use crate::shared::{LoopSetup, Shared, setup};
 pub use crate::transport_listener::TransportListener;
