@@ -4,8 +4,9 @@
 //! - What is read, one read each: `hello` and `pushed`, a handshake without and with pushes; `origins` and `latin`, one
 //!   with two origins and one whose origin is no ASCII; `head=COUNT`, one of so many bytes; `target=TARGET`, one with
 //!   this target; `get=PART` and `tail=PART`, that in two reads; `empty`, an empty line; `ping`, `close`, `long`,
-//!   `bytes`, `unmasked`, frames that are so; `half` and `rest`, a text in two reads; `20`, so many texts; `wait`,
-//!   nothing yet; any other word, as a text. Behind them nothing comes.
+//!   `bytes`, `unmasked`, frames that are so; `half` and `rest`, a text in two reads; `20`, so many texts;
+//!   `fragments`, very many of a text that have no byte; `wait`, nothing yet; any other word, as a text. Behind them
+//!   nothing comes.
 //! - What a write takes: a number of bytes, 0 where it would wait. Behind them all is taken.
 //!
 //! The speaker answers a text by itself, has `news` to push after `mark`, and ends the connection at `leave`.
@@ -159,6 +160,9 @@ hello a wait b -> waits waits waits waits 1: a b
 hello half wait rest -> waits waits waits waits 1: half
 hello ping a -> waits waits waits waits 1: pong a
 hello 20 -> again waits waits waits 1: x x x x x x x x x x x x x x x x x x x x
+",
+    // What makes no message leaves others their turns too.
+    "hello fragments -> again again again again 1:
 ",
     // A stream that blocks: what waits leaves before the next message is read.
     "hello a b; 1 0 -> waits waits waits waits 1: a b

@@ -155,6 +155,7 @@ fn add_piece(alloc: Global, piece: &mut Vec<u8>, word: &str) -> Result<(), Alloc
             }
             Ok(())
         }
+        "fragments" => add_fragments(piece),
         _ => add_of(alloc, piece, word),
     }
 }
@@ -208,6 +209,15 @@ fn add_frame(piece: &mut Vec<u8>, kind: u8, body: &[u8]) -> Result<(), AllocErro
     piece.push(0x80 | u8::try_from(body.len()).unwrap_or(0))?;
     piece.extend_from_slice(&[0, 0, 0, 0])?;
     piece.extend_from_slice(body)
+}
+
+/// The beginning of a text that has no byte yet, and doesn't end: 240,006 bytes of frames.
+fn add_fragments(piece: &mut Vec<u8>) -> Result<(), AllocError> {
+    add_frame(piece, 0x01, b"")?;
+    for _ in 0..40_000 {
+        add_frame(piece, 0x00, b"")?;
+    }
+    Ok(())
 }
 
 /// A text of one byte more than may be.
