@@ -116,7 +116,9 @@ def write(path, text, mode=0o600):
 def tokens(program):
     with token_file("one\ntwo https://a.test http://b.test:81\n") as path:
         with Daemon(program, "--token-file", path) as daemon:
-            expect("the status without one", daemon.peer().status, 401)
+            refusal = daemon.peer()
+            expect("the status without one", refusal.status, 401)
+            expect("whether it says what is wanted", "www-authenticate: bearer\r\n" in refusal.head.lower(), True)
             for header in [bearer("x"), bearer("on"), bearer("onee"), bearer(""), "Authorization: Basic one"]:
                 expect(f"the status with {header}", daemon.peer(header).status, 401)
             expect("a header in small letters", daemon.peer("authorization: bearer one").status, 101)
@@ -201,6 +203,10 @@ def bad_token_files(program):
         with token_file(text, mode) as path:
             refused(program, ["--listen", "127.0.0.1:0", "--token-file", path], line)
     refused(program, ["--listen", "127.0.0.1:0", "--token-file", "/no/such/file"], "cannot be read")
+    with token_file("one\n") as path:
+        os.unlink(path)
+        os.mkfifo(path, 0o600)
+        refused(program, ["--listen", "127.0.0.1:0", "--token-file", path], "not a regular file")
 
 
 def beyond_the_machine(program):

@@ -1,14 +1,17 @@
 """The epoch of a daemon's fencing tokens: its options, the file that keeps it, and the subprotocol that wants it."""
 
 import os
+import subprocess
 import tempfile
-from contextlib import contextmanager
+import time
+from contextlib import ExitStack, contextmanager
 
 from daemon_admission import protocols, refused
 from daemon_server import Daemon
-from running import expect
+from running import SECONDS, expect, read_line
 
 GREATEST = 2**63 - 1
+AT_ONCE = 8
 ANYWHERE = ["--listen", "127.0.0.1:0"]
 
 
@@ -40,11 +43,24 @@ def each_start_is_one_more(program):
         with epoch_file(text) as path:
             with Daemon(program, "--epoch-file", path):
                 expect(f"what the file has after {text!r}, once the daemon listens", content(path), b"%d\n" % wanted)
-                expect("what is beside it", os.listdir(os.path.dirname(path)), ["epoch"])
+                expect("what is beside it", sorted(os.listdir(os.path.dirname(path))), ["epoch", "epoch.lock"])
     with epoch_file() as path:
         for start in range(1, 4):
             with Daemon(program, "--epoch-file", path):
                 expect("the epoch of a start", content(path), b"%d\n" % start)
+
+
+def starts_at_once(program):
+    """None fails, and no two have one epoch: each has made the file's one greater."""
+    for _ in range(5):
+        with epoch_file() as path, ExitStack() as begun:
+            words = [program, "daemon", *ANYWHERE, "--while-input", "--epoch-file", path]
+            pipes = dict(stdin=subprocess.PIPE, stdout=subprocess.PIPE, stderr=subprocess.DEVNULL)
+            children = [begun.enter_context(subprocess.Popen(words, **pipes)) for _ in range(AT_ONCE)]
+            for child in children:
+                line = read_line(child.stdout.fileno(), time.monotonic() + SECONDS)
+                expect("how it begins", line[:10], b"listening ")
+            expect("what the file has", content(path), b"%d\n" % AT_ONCE)
 
 
 def a_path_without_a_folder(program):
@@ -111,6 +127,7 @@ def the_first_offered_is_selected(program):
 def epoch_checks(program):
     for name, check in [
         ("each start's epoch is one more", each_start_is_one_more),
+        ("starts at once have an epoch each", starts_at_once),
         ("an epoch's file by a path without a folder", a_path_without_a_folder),
         ("bad epoch files stay as they are", bad_files_stay),
         ("epoch files that cannot be read or written", files_that_cannot_be),

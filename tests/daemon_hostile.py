@@ -242,6 +242,37 @@ def floods(program, polls=100_000):
             raise Wrong(f"another was answered after all of {polls} messages")
 
 
+def send_fragments(peer, is_over):
+    """Sends a text that has no byte yet, in ever more fragments."""
+    peer.sock.sendall(framed("", final=0))
+    fragments = framed("", kind=0, final=0) * 10_000
+    try:
+        while not is_over.is_set():
+            peer.sock.sendall(fragments)
+    except OSError:
+        pass
+
+
+def fragments_without_end(program):
+    """They make no message, and a peer beside those that send them is answered meanwhile."""
+    with Daemon(program, "--loops", "1") as daemon:
+        other, is_over = daemon.opened(), threading.Event()
+        senders = [threading.Thread(target=send_fragments, args=(daemon.opened(), is_over)) for _ in range(6)]
+        for sender in senders:
+            sender.start()
+        try:
+            time.sleep(0.5)
+            began = time.monotonic()
+            for _ in range(10):
+                expect("the reply", other.ask(POLL), POLLED)
+            within("ten replies", time.monotonic() - began, 0, 2)
+        finally:
+            is_over.set()
+            daemon.child.kill()
+            for sender in senders:
+                sender.join()
+
+
 def hostile_checks(program):
     for name, check in [
         ("a silent peer is pinged and ended", silent_peer_is_pinged_and_ended),
@@ -251,6 +282,7 @@ def hostile_checks(program):
         ("a peer that does not read its pushes", does_not_read_its_pushes),
         ("a peer that sends pings and does not read", pings_and_does_not_read),
         ("a peer that sends without end does not keep others waiting", floods),
+        ("fragments without end do not keep others waiting", fragments_without_end),
         ("a peer that shuts its writing side", shuts_its_writing_side),
         ("peers that reset before they are accepted", resets_before_it_is_accepted),
         ("a handshake that never ends", handshake_that_never_ends),

@@ -2,6 +2,9 @@
 
 import fcntl
 import re
+import resource
+import socket
+import time
 
 from daemon_server import Daemon
 from running import expect
@@ -56,9 +59,28 @@ def nobody_reads(program):
     expect("how it ends", lines[-1], f"{INFO} stopped")
 
 
+def no_file_is_left(program):
+    """What waits to be accepted is tried again, twice a second, and why it can't be is told once."""
+    with Daemon(program, "--loops", "1") as daemon:
+        # Once it answers, it has the files that it begins with.
+        daemon.opened().leave()
+        files = resource.prlimit(daemon.child.pid, resource.RLIMIT_NOFILE)
+        # Fewer than are open: those stay, and no other can be opened.
+        resource.prlimit(daemon.child.pid, resource.RLIMIT_NOFILE, (3, files[1]))
+        with socket.create_connection(("127.0.0.1", daemon.port)):
+            time.sleep(3)
+            resource.prlimit(daemon.child.pid, resource.RLIMIT_NOFILE, files)
+            daemon.opened().leave()
+        status, err = daemon.end()
+    told = [it for it in err.splitlines() if "cannot accept" in it]
+    expect("the status", status, 0)
+    expect("what is told", told, ["[WARN  weblocks] cannot accept connections: too many open files"])
+
+
 def log_checks(program):
     for name, check in [
         ("the lines of the log, in their order", all_lines),
         ("a log that nobody reads holds nobody up", nobody_reads),
+        ("why no connection can be accepted is told once", no_file_is_left),
     ]:
         yield name, lambda c=check: c(program)
