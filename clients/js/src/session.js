@@ -176,12 +176,11 @@ export class Session {
     this.#outbox.flush();
   }
 
-  /** Another agent serves from here on. */
+  /** Another agent serves from here on. It is active, as the window was when what goes out next was called. */
   #heedAgent() {
     const agent = this.#agents.current;
     this.#isOpaque = agent.clientId === null;
     this.#outbox.current = agent;
-    if (!this.#isActive) agent.ask(activeMessage(false), () => {});
   }
 
   /**
@@ -241,6 +240,8 @@ export class Session {
     this.#state = OPEN;
     this.#heedAgent();
     for (const call of this.#calls.keys()) this.#ask(call);
+    // (what waits was called before the window was made inactive, and so goes before)
+    if (!this.#isActive) this.#question(activeMessage(false)).catch(() => {});
     this.#onRestored();
   }
 }

@@ -3,7 +3,7 @@
 import assert from "node:assert/strict";
 import { test } from "node:test";
 import { SIGNALS_OF_AGENT } from "../src/signals.js";
-import { assertFree, hold, until, untilPending, watch } from "./support/holding.js";
+import { assertFree, assertRejects, hold, until, untilPending, watch } from "./support/holding.js";
 import { connectTo, startPushing, startRelayed, testWithEach } from "./support/servers.js";
 
 const never = () => assert.fail("its callback was called");
@@ -135,6 +135,20 @@ test("where it is aborted itself, what waited behind it is sent", async (t) => {
   assert.equal((await waiting.at(-1).settled).reason, "mine");
   await until(() => behind.state !== "pending");
   assert.equal(behind.value, "granted");
+});
+
+test("where the window is made inactive meanwhile, it is sent over the further connection all the same", async (t) => {
+  const { locks, other, holding, order, waiting } = await startStuck(t);
+  const inactive = locks.setActive(false);
+  await assertRejects(locks.request("db", never), "InvalidStateError");
+  await other.close();
+  await inactive;
+  holding.release();
+  await Promise.all(waiting.map(({ settled }) => settled));
+  assert.deepEqual(order, Array.from({ length: SIGNALS_OF_AGENT + 1 }, (_, number) => number));
+  await assertRejects(locks.query(), "InvalidStateError");
+  await locks.setActive(true);
+  await assertFree(locks);
 });
 
 test("before the last signal is gone the client goes on with a second connection, in order too", async (t) => {
