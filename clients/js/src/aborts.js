@@ -11,8 +11,11 @@ const { addEventListener, removeEventListener } = EventTarget.prototype;
 /** What is to be called for each signal, in order, and what listens. */
 const heeded = new WeakMap();
 
-/** The signal that is listened to for each of the page's. */
+/** A signal of our own for each of the page's. */
 const followers = new WeakMap();
+
+/** By the DOM these put a listener before a page's own; Node and Chromium call a signal's as they were added. */
+const OPTIONS = { capture: true };
 
 /**
  * Whether a signal is aborted, whatever the page made of its properties.
@@ -28,7 +31,7 @@ export function abortReason(signal) {
   return Reflect.apply(reasonOf, signal, []);
 }
 
-/** Has a function called when the signal is aborted. */
+/** Has a function called, once, when the signal is aborted. */
 export function heedAbort(signal, heed) {
   const entry = heeded.get(signal) ?? listen(signal);
   entry.all.add(heed);
@@ -39,7 +42,8 @@ export function ignoreAbort(signal, heed) {
   const entry = heeded.get(signal);
   if (!entry?.all.delete(heed) || entry.all.size > 0) return;
   heeded.delete(signal);
-  Reflect.apply(removeEventListener, followerOf(signal), ["abort", entry.listener, { capture: true }]);
+  const given = ["abort", entry.listener, OPTIONS];
+  for (const target of targetsOf(signal)) Reflect.apply(removeEventListener, target, given);
 }
 
 function listen(signal) {
@@ -47,11 +51,22 @@ function listen(signal) {
   const listener = () => {
     // (a page can make up an event of its own signal)
     if (!isAborted(signal)) return;
-    for (const heed of [...all]) heed();
+    const heeds = [...all];
+    for (const heed of heeds) ignoreAbort(signal, heed);
+    for (const heed of heeds) heed();
   };
   heeded.set(signal, { all, listener });
-  Reflect.apply(addEventListener, followerOf(signal), ["abort", listener, { capture: true }]);
+  for (const target of targetsOf(signal)) Reflect.apply(addEventListener, target, ["abort", listener, OPTIONS]);
   return heeded.get(signal);
+}
+
+/**
+ * What is listened to, of which the first to be heard counts: the page's signal, since an abort is to take effect
+ * before the page hears of it; and its follower, whose event comes behind that and which no page can stop. (Where both
+ * are one, it takes the listener once, as any target does.)
+ */
+function targetsOf(signal) {
+  return [signal, followerOf(signal)];
 }
 
 /** What is aborted with the page's signal: one of our own, or the page's where the platform can't make one. */

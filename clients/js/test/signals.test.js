@@ -1,6 +1,7 @@
 /** Signals: aborted before, between and later. */
 
 import assert from "node:assert/strict";
+import { getEventListeners } from "node:events";
 import { test } from "node:test";
 import { SIGNALS_OF_AGENT } from "../src/signals.js";
 import { assertFree, assertRejects, hold, sleep, until, untilPending, watch } from "./support/holding.js";
@@ -138,6 +139,30 @@ test("a page's listener on the signal is called as ever", async (t) => {
   assert.equal(heard, 1);
   holding.release();
   await holding.promise;
+});
+
+test("a signal has one listener of the client's at most, and none once no request waits with it", async (t) => {
+  const locks = await connectTo(t, await startPushing(t));
+  const listeners = (signal) => getEventListeners(signal, "abort").length;
+  const holding = await hold(locks, "db");
+  const [granted, aborted] = [new AbortController(), new AbortController()];
+  const waiting = [granted, granted, aborted, aborted].map(({ signal }) => {
+    return watch(locks.request("db", { signal }, () => listeners(signal)));
+  });
+  assert.ok(listeners(granted.signal) <= 1);
+  aborted.abort("mine");
+  assert.equal(listeners(aborted.signal), 0);
+  holding.release();
+  for (const promise of waiting) await promise.settled;
+  assert.ok(waiting[0].value <= 1, "another request waits with it");
+  assert.equal(waiting[1].value, 0);
+  assert.deepEqual(waiting.slice(2).map(({ reason }) => reason), ["mine", "mine"]);
+  const last = await hold(locks, "db", { signal: granted.signal });
+  const closed = watch(locks.request("db", { signal: granted.signal }, never));
+  await locks.close();
+  await closed.settled;
+  assert.equal(listeners(granted.signal), 0);
+  assert.equal((await watch(last.promise).settled).reason.name, "AbortError");
 });
 
 test("a request that is aborted while it waits for a signal of the agent's is never sent", async (t) => {

@@ -337,6 +337,33 @@ export const signalCases = {
     expectEqual("the order", order, ["before", "after", "aborted", "rejected"]);
   },
 
+  async "a request that was aborted no longer waits when the signal's listeners are called"({ agents }) {
+    const [own, other] = await agents(2);
+    const held = await hold(other, "heard", { mode: "shared" });
+    const controller = new AbortController();
+    const waits = await wait(own, "heard", { signal: controller.signal });
+    let free;
+    controller.signal.addEventListener("abort", () => (free = isFree(own, "heard", "shared")));
+    controller.abort("reason");
+    expectTrue("whether the lock is there for a listener", await free);
+    expectEqual("how it ends", await outcome(waits.ended), { reason: "reason" });
+    await held.release();
+  },
+
+  async "an abort rejects before what the signal's listeners begin"({ agents }) {
+    const [own, other] = await agents(2);
+    const held = await hold(other, "rejected first");
+    const controller = new AbortController();
+    const order = [];
+    const waits = await wait(own, "rejected first", { signal: controller.signal });
+    controller.signal.addEventListener("abort", () => Promise.resolve().then(() => order.push("begun")));
+    waits.ended.catch(() => order.push("rejected"));
+    controller.abort();
+    await outcome(waits.ended);
+    await held.release();
+    expectEqual("the order", order, ["rejected", "begun"]);
+  },
+
   async "a hundred requests may be aborted one after the other"({ agents }) {
     const [own, other] = await agents(2);
     const held = await hold(other, "hundred");
