@@ -142,15 +142,31 @@ def status_wants_a_token(built: Built) -> None:
     with TemporaryDirectory() as name:
         room = Path(name)
         tokens, fresh = room / "tokens", room / "fresh"
-        for file, token in ((tokens, "old"), (fresh, "new")):
+        for file, token in ((tokens, "old\n"), (fresh, "new \r\n")):
             file.touch(0o600)
-            file.write_text(f"narrow https://b.test\n{token}\n")
+            file.write_text(f"narrow https://b.test\n{token}", newline="")
         with leader_of(built, room, "--token-file", str(tokens), shown_at="0.0.0.0") as leader:
             time.sleep(REFUSED)
             expect("how the leader ended", leader.child.poll(), None)
             fresh.replace(tokens)
             time.sleep(READ_AGAIN + REFUSED)
             expect("how it ended with other tokens", leader.child.poll(), None)
+
+
+def no_token_opens_all_origins(built: Built) -> None:
+    """A status that wants a token can't be asked with any of its file, and the leader says why it ends."""
+    with TemporaryDirectory() as name:
+        room = Path(name)
+        tokens = room / "tokens"
+        tokens.touch(0o600)
+        tokens.write_text("narrow https://b.test\n")
+        with leader_of(built, room, "--token-file", str(tokens), shown_at="0.0.0.0") as leader:
+            leader.ends_within(HEALTH)
+            expect("how the leader ended", leader.child.returncode, 1)
+            assert leader.child.stderr
+            said = leader.child.stderr.read().decode().splitlines()
+            wanted = f"lead: no token of {tokens} opens all origins, as the status may want"
+            expect("whether it says why", wanted in said, True)
 
 
 def proxy_is_passed_by(built: Built) -> None:
@@ -209,6 +225,7 @@ def lead_checks(built: Built, needs: Needs) -> Checks:
         yield "a leader that loses etcd", partial(etcd_is_lost, built)
         yield "an etcd that is away for a moment", partial(etcd_is_away_for_a_moment, built)
         yield "a leader whose status wants a token", partial(status_wants_a_token, built)
+        yield "a leader of whose tokens none opens all origins", partial(no_token_opens_all_origins, built)
         yield "a leader whose environment names a proxy", partial(proxy_is_passed_by, built)
 
     yield "lead's words", wrong_words
