@@ -16,6 +16,9 @@ from .transport import CLOSE_SECONDS, FENCES, PUSHES, Options, Socket, open_sock
 Answer = Callable[[Reply], None]
 Failure = Callable[[Disconnected], None]
 
+READING_TURNS = 20
+"""So many turns of the event loop are more than a reply takes that is there, to be read and taken."""
+
 
 class Connection:
     """Sends messages in the order in which they are asked, and hands each reply to whoever asked.
@@ -47,7 +50,8 @@ class Connection:
         self._polls_wanted = False
         self._poll_timer: asyncio.TimerHandle | None = None
         self._replied = False
-        self._beat = self._loop.call_later(options.heartbeat, self._begin_beat)
+        self._grace = min(1, options.heartbeat / 4)
+        self._beat: asyncio.Handle = self._loop.call_later(options.heartbeat, self._begin_beat)
         self._reading = self._loop.create_task(self._read())
         self._closing: asyncio.Task[None] | None = None
 
@@ -161,19 +165,19 @@ class Connection:
     def _begin_beat(self) -> None:
         """Asks for a sign of life, and looks for it later, even where the asking fails."""
         self._replied = False
-        self._beat = self._loop.call_later(self._options.heartbeat, self._look_for_life)
+        self._beat = self._loop.call_later(self._options.heartbeat - self._grace, self._begin_grace)
         self.ask(POLL, lambda _reply: None)
 
-    def _look_for_life(self) -> None:
-        """A reply that came while other work kept the event loop busy is given the time to be read first."""
-        if self._replied:
-            self._begin_beat()
-        else:
-            self._beat = self._loop.call_later(min(1, self._options.heartbeat / 4), self._end_beat)
+    def _begin_grace(self) -> None:
+        """The last part of the wait: where other work kept the event loop busy before, replies are read in it."""
+        self._beat = self._loop.call_later(self._grace, self._end_beat, READING_TURNS)
 
-    def _end_beat(self) -> None:
+    def _end_beat(self, turns: int) -> None:
+        """The wait is over; what came in time, while other work kept the event loop busy, is still read."""
         if self._replied:
             self._begin_beat()
+        elif turns > 0:
+            self._beat = self._loop.call_soon(self._end_beat, turns - 1)
         else:
             self.lose(Disconnected(f"the server did not answer for {self._options.heartbeat:g} seconds"))
 
