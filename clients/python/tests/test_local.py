@@ -134,6 +134,47 @@ class Managers(unittest.IsolatedAsyncioTestCase):
                         async with two.request("db", steal=True):
                             await asyncio.sleep(60)
 
+    def open_by_line(self, world):
+        """Opens an agent of the managers' origin by a line, and answers what takes its further messages."""
+        self.assertEqual(
+            b'{"id":1,"notices":[],"ok":{"client":"client-2"}}',
+            world.answer(b'{"agent":"z","id":1,"op":"open","url":"https://a.test/"}'),
+        )
+        return lambda id, rest: world.answer(b'{"agent":"z","id":%d,%s}' % (id, rest))
+
+    async def test_a_release_by_a_line_grants_the_lock_to_a_manager_that_waits_without_a_timer(self):
+        async def hold(locks):
+            async with locks.request("db"):
+                pass
+
+        with weblocks.local() as world:
+            async with world.connect(origin=ORIGIN) as locks:
+                ask = self.open_by_line(world)
+                requested = ask(2, b'"op":"request","name":"db"')
+                self.assertEqual(
+                    b'{"id":2,"notices":[{"phase":"granted","request":1}],"ok":{"request":1}}', requested
+                )
+                waiter = asyncio.create_task(hold(locks))
+                await asyncio.sleep(0.01)
+                self.assertEqual(1, len((await locks.query()).pending))
+                released = ask(3, b'"op":"release","request":1')
+                self.assertEqual(b'{"id":3,"notices":[],"ok":{"release":"released"}}', released)
+                # A heartbeat comes after 10 seconds.
+                await asyncio.wait_for(waiter, 5)
+
+    async def test_a_steal_by_a_line_is_told_to_the_manager_that_held_the_lock_without_a_timer(self):
+        with weblocks.local() as world:
+            async with world.connect(origin=ORIGIN) as locks:
+                ask = self.open_by_line(world)
+                with self.assertRaises(weblocks.LockStolen):
+                    async with locks.request("db"):
+                        stolen = ask(2, b'"op":"request","name":"db","options":{"steal":true}')
+                        self.assertEqual(
+                            b'{"id":2,"notices":[{"phase":"granted","request":2}],"ok":{"request":2}}', stolen
+                        )
+                        await asyncio.sleep(5)
+                        self.fail("the theft was not told")
+
     async def test_options_and_refusals_are_as_with_a_server(self):
         with weblocks.local() as world:
             async with world.connect(origin=ORIGIN) as one, world.connect(origin=ORIGIN) as two:

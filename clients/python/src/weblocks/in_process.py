@@ -52,8 +52,13 @@ class Local:
             await locks.close()
 
     def answer(self, line: bytes) -> bytes:
-        """The reply to a line of a script, as `World.answer` gives it. Its label is to be no number."""
-        return self._world.answer(line)
+        """The reply to a line of a script, as `World.answer` gives it. Its label is to be no number.
+
+        The managers have heard of what it changed for them, before the call is over.
+        """
+        reply = self._world.answer(line)
+        self.tell_others(0)
+        return reply
 
     def audit(self) -> bytes:
         """What `weblocks audit` says of all that was asked so far, as `World.audit` gives it."""
@@ -80,17 +85,21 @@ class Local:
         self._sockets[self._count] = socket
         return socket
 
+    def ask(self, line: bytes) -> bytes:
+        """The reply to a manager's line, of which the others are still to be told."""
+        return self._world.answer(line)
+
     def tell_others(self, but: int) -> None:
-        """Tells all other agents what changed for them, the oldest agent first."""
+        """Tells all managers but that of this number what changed for them, the oldest first."""
         for number, socket in self._sockets.items():
-            if number != but and (told := self.answer(socket.head + _POLL)) != _NOTHING:
+            if number != but and (told := self.ask(socket.head + _POLL)) != _NOTHING:
                 socket.hear(b'{"id":null,' + told.removeprefix(_POLLED))
 
     def forget(self, number: int) -> None:
         """An agent has ended."""
         socket = self._sockets.pop(number, None)
         if socket is not None:
-            self.answer(socket.head + _CLOSE)
+            self.ask(socket.head + _CLOSE)
             self.tell_others(number)
 
 
@@ -115,7 +124,7 @@ class _Socket:
         """Has the message answered at once, and the other agents told."""
         if self._ended:
             raise ConnectionClosedOK(None, None)
-        self.hear(self._local.answer(self.head + message.encode()[1:]))
+        self.hear(self._local.ask(self.head + message.encode()[1:]))
         self._local.tell_others(self._number)
 
     async def recv(self) -> bytes:
