@@ -165,6 +165,9 @@ class Reconnecting:
             with self.assertRaises(TimeoutError):
                 async with locks.request("db", timeout=0.5):
                     self.fail("the lock was granted")
+            with self.assertRaises(weblocks.Disconnected):
+                async with locks.request("db", timeout=0):
+                    self.fail("the lock was granted")
             self.own.start()
             async with locks.request("db", timeout=SECONDS):
                 pass
@@ -258,11 +261,11 @@ class CuttingOff:
                 lock = await waiter
                 lock.check()
 
-    async def test_steals_and_if_available_raise_Disconnected_where_bytes_are_swallowed_and_are_not_asked_again(self):
+    async def test_what_does_not_wait_raises_Disconnected_where_bytes_are_swallowed_and_is_not_asked_again(self):
         with proxied(self.server.port) as proxy:
             async with self.connect(url=proxy.url, heartbeat=0.5, open_timeout=1) as locks, self.connect() as other:
                 proxy.swallows = True
-                for options in ({"steal": True}, {"if_available": True}):
+                for options in ({"steal": True}, {"if_available": True}, {"timeout": 0}):
                     with self.assertRaises(weblocks.Disconnected):
                         async with locks.request("db", **options):
                             self.fail("the lock was granted")

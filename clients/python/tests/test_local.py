@@ -181,9 +181,12 @@ class Managers(unittest.IsolatedAsyncioTestCase):
                 async with one.request("db"):
                     async with two.request("db", if_available=True) as lock:
                         self.assertIsNone(lock)
-                    with self.assertRaises(TimeoutError):
-                        async with two.request("db", timeout=0.01):
-                            pass
+                    for timeout in (0, 0.01):
+                        with self.assertRaises(TimeoutError):
+                            async with two.request("db", timeout=timeout):
+                                pass
+                async with two.request("db", timeout=0):
+                    pass
                 async with one.request("db", mode="shared"), two.request("db", mode="shared"):
                     self.assertEqual(2, len((await one.query()).held))
             with self.assertRaises(weblocks.Refused):

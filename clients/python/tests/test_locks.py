@@ -95,6 +95,32 @@ class Behaviour:
                 lock.check()
                 self.assertEqual(1, len((await locks.query()).held))
 
+    async def test_a_timeout_of_0_gets_a_lock_that_is_free(self):
+        async with self.connect() as locks:
+            for timeout in (0, 0.0, 0):
+                async with locks.request("db", timeout=timeout) as lock:
+                    self.assertEqual("db", lock.name)
+            async with locks.request("db", mode="shared", timeout=0) as lock:
+                self.assertEqual("shared", lock.mode)
+
+    async def test_a_timeout_of_0_raises_TimeoutError_where_the_lock_is_not_free_and_stands_in_nobodys_way(self):
+        async with self.connected(3) as (locks, other, third):
+            async with other.request("db", mode="shared"):
+                for _ in range(20):
+                    # A request that waited here for a moment would keep readers out.
+                    trying = asyncio.create_task(locks.request("db", timeout=0).__aenter__())
+                    async with third.request("db", mode="shared", if_available=True) as lock:
+                        self.assertIsNotNone(lock)
+                    with self.assertRaisesRegex(TimeoutError, "'db' is not free"):
+                        await trying
+                self.assertEqual([], (await locks.query()).pending)
+
+    async def test_a_timeout_of_0_with_if_available_gives_None_where_the_lock_is_not_free(self):
+        async with self.connected(2) as (locks, other):
+            async with locks.request("db", if_available=True, timeout=0) as lock:
+                async with other.request("db", if_available=True, timeout=0) as nothing:
+                    self.assertEqual(("db", None), (lock.name, nothing))
+
     async def test_if_available_gives_None_where_the_lock_is_not_free(self):
         async with self.connected(2) as (locks, other):
             async with locks.request("db", if_available=True) as lock:
@@ -163,7 +189,7 @@ class Behaviour:
 
     async def test_cancellation_before_the_request_was_answered_leaves_nothing_behind(self):
         async with self.connect() as locks:
-            for options in ({}, {"if_available": True}, {"steal": True}):
+            for options in ({}, {"if_available": True}, {"steal": True}, {"timeout": 0}):
                 task = asyncio.create_task(locks.request("db", **options).__aenter__())
                 await asyncio.sleep(0)
                 task.cancel()
@@ -217,7 +243,7 @@ class Behaviour:
     async def test_requests_after_close_raise_Closed(self):
         async with self.connect() as locks:
             pass
-        for options in ({}, {"steal": True}, {"if_available": True}):
+        for options in ({}, {"steal": True}, {"if_available": True}, {"timeout": 0}):
             with self.assertRaises(weblocks.Closed):
                 async with locks.request("db", **options):
                     pass
@@ -259,7 +285,7 @@ class Behaviour:
     async def test_at_an_opaque_origin_requests_and_queries_raise_Refused_with_SecurityError(self):
         async with self.connect(origin="data:text/plain,") as locks:
             self.assertIsNone(locks.client_id)
-            for options in ({}, {"steal": True}, {"if_available": True}):
+            for options in ({}, {"steal": True}, {"if_available": True}, {"timeout": 0}):
                 with self.assertRaises(weblocks.Refused) as caught:
                     async with locks.request("db", **options):
                         pass
@@ -284,6 +310,7 @@ class Behaviour:
                 {"steal": True, "if_available": True},
                 {"steal": True, "mode": "shared"},
                 {"steal": True, "timeout": 1},
+                {"steal": True, "timeout": 0},
                 {"if_available": True, "timeout": 1},
                 {"timeout": -1},
                 {"timeout": float("nan")},

@@ -59,6 +59,13 @@ class Behaviour:
                     self.fail("the lock was granted")
             self.assertEqual([], locks.query().pending)
 
+    def test_a_timeout_of_0_gets_a_lock_that_is_free_and_raises_TimeoutError_for_another(self):
+        with self.connect() as locks, locks.request("db", timeout=0) as lock:
+            self.assertEqual("db", lock.name)
+            with self.assertRaises(TimeoutError):
+                with locks.request("db", timeout=0):
+                    self.fail("the lock was granted")
+
     def test_if_available_gives_None_where_the_lock_is_not_free(self):
         with self.connect() as locks, locks.request("db"):
             with locks.request("db", if_available=True) as lock:

@@ -95,7 +95,7 @@ class Agent:
         request.phase = Phase.SENT
         self._unnumbered.append(request)
         self.unanswered += 1
-        message = request_message(wish.wire_name, wish.mode, request.signal, wish.steal, wish.if_available)
+        message = request_message(wish.wire_name, wish.mode, request.signal, wish.steal, wish.only_if_available)
         self._connection.ask(message, self._number)
         return True
 

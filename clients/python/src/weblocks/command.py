@@ -176,15 +176,10 @@ async def run_job(locks: LockManager, job: Job, signals: Signals) -> int:
     if job.fence and not locks.may_give_fences:
         # Before the lock is waited for, or stolen.
         raise NoFence
-    at_once = job.wait == 0 and not job.steal
-    timeout = None if at_once or job.steal else job.wait
+    timeout = None if job.steal else job.wait
     status = 0
     try:
-        async with locks.request(
-            job.name, mode=job.mode, steal=job.steal, if_available=at_once, timeout=timeout
-        ) as lock:
-            if lock is None:
-                raise TimeoutError(f"the lock {job.name!r} is not free")
+        async with locks.request(job.name, mode=job.mode, steal=job.steal, timeout=timeout) as lock:
             child = await Child.start(job.command, environment_of(job, lock))
             signals.child = child
             try:

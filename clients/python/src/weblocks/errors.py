@@ -22,8 +22,9 @@ class Error(Exception):
 class Disconnected(Error, ConnectionError):
     """There is no connection to the service: it could not be made, or it was lost before the answer came.
 
-    A steal or an `if_available` request that raises this may have been done by the service, and is undone by it since
-    the connection ended. Plain requests don't raise it while the manager reconnects: they are asked again.
+    A steal, or a request with `if_available` or `timeout=0`, that raises this may have been done by the service, and is
+    undone by it since the connection ended. Requests that may wait don't raise it while the manager reconnects: they
+    are asked again.
     """
 
 

@@ -82,17 +82,19 @@ class LockManager:
         """A block that holds a lock: `async with locks.request("db") as lock: ..`.
 
         The request is made when the block is entered, and requests reach the service in that order. `timeout` is how
-        many seconds it may wait, after which it raises TimeoutError. With `if_available` it doesn't wait: `lock` is
-        None where the lock is not free at once. With `steal` it takes the lock from whoever holds it. If the lock is
-        lost during the block, LockLost (or LockStolen) is raised at the block's next await.
+        many seconds it may wait, after which it raises TimeoutError; with 0 it gets a lock that is free, and doesn't
+        wait. With `if_available` it doesn't wait either: `lock` is None where the lock is not free at once. With
+        `steal` it takes the lock from whoever holds it. If the lock is lost during the block, LockLost (or LockStolen)
+        is raised at the block's next await.
 
         Raises TypeError and ValueError here for a name that no lock can have, and for options that exclude each other.
-        The block's entry raises Refused where the service refuses, Closed after `close`, and Disconnected for `steal`
-        and `if_available` where the connection is lost; a plain request is asked again after a reconnection.
+        The block's entry raises Refused where the service refuses, Closed after `close`, and Disconnected for `steal`,
+        `if_available` and `timeout=0` where the connection is lost; a request that may wait is asked again after a
+        reconnection.
         """
-        wish = Wish(name, wire_of_checked(name), mode, steal, if_available)
-        check_wish(wish, timeout)
-        return LockRequest(self.submit, wish, timeout)
+        wish = Wish(name, wire_of_checked(name), mode, steal, if_available, timeout)
+        check_wish(wish)
+        return LockRequest(self.submit, wish)
 
     def submit(self, wish: Wish) -> Request:
         """Makes a request at once, for the blocks of this package."""

@@ -47,14 +47,20 @@ class Wish(NamedTuple):
     mode: Mode
     steal: bool = False
     if_available: bool = False
+    timeout: float | None = None
+
+    @property
+    def only_if_available(self) -> bool:
+        """Whether it is sent with `ifAvailable`. One that may wait for no time is: no reply comes before its timer."""
+        return self.if_available or self.timeout == 0
 
     @property
     def waits(self) -> bool:
         """Whether the request may wait for its lock: then it has a signal, and outlives a lost connection."""
-        return not (self.steal or self.if_available)
+        return not (self.steal or self.only_if_available)
 
 
-def check_wish(wish: Wish, timeout: float | None) -> None:
+def check_wish(wish: Wish) -> None:
     """Raises ValueError for options that exclude each other, as the standard's do, and TypeError for no number."""
     if wish.mode not in ("exclusive", "shared"):
         raise ValueError(f"mode is 'exclusive' or 'shared', not {wish.mode!r}")
@@ -62,12 +68,15 @@ def check_wish(wish: Wish, timeout: float | None) -> None:
         raise ValueError("steal and if_available exclude each other")
     if wish.steal and wish.mode == "shared":
         raise ValueError("only an exclusive lock can be stolen: steal excludes mode='shared'")
-    if timeout is not None and not wish.waits:
-        raise ValueError("a request with steal or if_available doesn't wait, so it has no timeout")
-    if timeout is not None and not isinstance(timeout, Real):
+    timeout = wish.timeout
+    if timeout is None:
+        return
+    if not isinstance(timeout, Real):
         raise TypeError(f"timeout is a number of seconds, not {type(timeout).__name__}")
-    if timeout is not None and not timeout >= 0:
+    if not timeout >= 0:
         raise ValueError("timeout is a number of seconds, 0 or more")
+    if wish.steal or wish.if_available and timeout > 0:
+        raise ValueError("a request with steal or if_available doesn't wait, so it has no timeout")
 
 
 class Phase(Enum):
@@ -185,10 +194,9 @@ class LockRequest(Generic[LockOrNone]):
     block that ends without one of them held its lock from its first line to its last.
     """
 
-    def __init__(self, submit: Callable[[Wish], Request], wish: Wish, timeout: float | None) -> None:
+    def __init__(self, submit: Callable[[Wish], Request], wish: Wish) -> None:
         self._submit = submit
         self._wish = wish
-        self._timeout = timeout
         self._request: Request | None = None
         self._task: asyncio.Task[object] | None = None
         self._cancels_before = 0
@@ -198,7 +206,7 @@ class LockRequest(Generic[LockOrNone]):
         if self._request is not None:
             raise RuntimeError("a request serves one block: call request() again for the next")
         request = self._request = self._submit(self._wish)
-        lock = await wait_for_lock(request, self._timeout)
+        lock = await wait_for_lock(request)
         if lock is not None:
             self._task = cast("asyncio.Task[object]", asyncio.current_task())
             self._cancels_before = self._task.cancelling()
@@ -232,16 +240,20 @@ class LockRequest(Generic[LockOrNone]):
         return self._task.uncancel() <= self._cancels_before
 
 
-async def wait_for_lock(request: Request, timeout: float | None) -> Lock | None:
+async def wait_for_lock(request: Request) -> Lock | None:
     """Waits for a request's lock; if that is cancelled or takes too long, the request is given up."""
+    wish = request.wish
     timer = None
-    if timeout is not None:
-        timer = asyncio.get_running_loop().call_later(timeout, request.expire)
+    if wish.waits and wish.timeout is not None:
+        timer = asyncio.get_running_loop().call_later(wish.timeout, request.expire)
     try:
-        return await request.outcome
+        lock = await request.outcome
     except BaseException:
         request.give_up()
         raise
     finally:
         if timer is not None:
             timer.cancel()
+    if lock is None and not wish.if_available:
+        raise TimeoutError(f"the lock {wish.name!r} is not free")
+    return lock

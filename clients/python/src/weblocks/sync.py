@@ -83,11 +83,10 @@ class LockRequest(Generic[LockOrNone]):
     raises LockLost or LockStolen unless the block raised something itself.
     """
 
-    def __init__(self, thread: LoopThread, locks: manager.LockManager, wish: Wish, timeout: float | None) -> None:
+    def __init__(self, thread: LoopThread, locks: manager.LockManager, wish: Wish) -> None:
         self._thread = thread
         self._locks = locks
         self._wish = wish
-        self._timeout = timeout
         self._request: Request | None = None
 
     def __enter__(self) -> LockOrNone:
@@ -119,7 +118,7 @@ class LockRequest(Generic[LockOrNone]):
 
     async def _acquire(self) -> Lock | None:
         self._request = self._locks.submit(self._wish)
-        return await wait_for_lock(self._request, self._timeout)
+        return await wait_for_lock(self._request)
 
     def _give_up(self) -> None:
         if self._request is not None:
@@ -173,9 +172,9 @@ class LockManager:
 
         Only how a loss is told differs: no thread is interrupted, so ask `lock.lost`, or call `lock.check()`.
         """
-        wish = Wish(name, wire_of_checked(name), mode, steal, if_available)
-        check_wish(wish, timeout)
-        return LockRequest(self._thread, self._locks, wish, timeout)
+        wish = Wish(name, wire_of_checked(name), mode, steal, if_available, timeout)
+        check_wish(wish)
+        return LockRequest(self._thread, self._locks, wish)
 
     def query(self) -> Snapshot:
         """What is held and pending in the origin's bucket, as `weblocks.LockManager.query` says."""
