@@ -6,6 +6,7 @@ import signal
 import subprocess
 import time
 import unittest
+from pathlib import Path
 
 import weblocks
 import weblocks.sync
@@ -102,6 +103,46 @@ class With(CommandLineCase):
             _out, err = process.communicate(timeout=SECONDS)
         self.assertEqual(128 + signal.SIGTERM, process.returncode)
         self.assertIn("weblocks: the lock 'db' was lost: the connection was lost, while the command ran\n", err)
+
+    def end_unreleased(self, proxy, status):
+        """A `with` behind a proxy whose command has ended with that status, and whose release isn't answered."""
+        process = self.hold(f"echo $$ > $1; read line; exit {status}", url=proxy.url, stdin=subprocess.PIPE)
+        command = int((self.folder / "runs").read_text())
+        proxy.swallows = True
+        process.stdin.write("go\n")
+        process.stdin.flush()
+        # It is gone once `with` has taken note of its end.
+        self.wait_for(lambda: not Path(f"/proc/{command}").exists())
+        time.sleep(0.2)
+        self.assertIsNone(process.poll())
+        return process
+
+    def test_a_signal_while_the_release_is_waited_for_ends_the_waiting(self):
+        for number in (signal.SIGINT, signal.SIGTERM):
+            with self.subTest(number.name), proxied(self.daemon.port) as proxy:
+                process = self.end_unreleased(proxy, 0)
+                begun = time.monotonic()
+                process.send_signal(number)
+                out, err = process.communicate(timeout=SECONDS)
+                self.assertEqual((128 + number, "", ""), (process.returncode, out, err))
+                # A heartbeat would end it after 10 seconds or more.
+                self.assertLess(time.monotonic() - begun, 9)
+
+    def test_where_the_connection_is_lost_once_the_command_has_ended_the_status_is_the_commands(self):
+        for status in (0, 7):
+            with self.subTest(status), proxied(self.daemon.port) as proxy:
+                process = self.end_unreleased(proxy, status)
+                proxy.refuses = True
+                proxy.cut()
+                _out, err = process.communicate(timeout=SECONDS)
+                self.assertEqual(status, process.returncode)
+                self.assertIn("weblocks: the lock 'db' was lost: the connection was lost, while it was released\n", err)
+
+    def test_a_theft_that_is_told_with_the_release_alone_gives_status_1(self):
+        process = self.hold("echo $$ > $1; read line", url=self.server.url, stdin=subprocess.PIPE)
+        with weblocks.sync.connect(self.server.url, origin=self.origin) as locks, locks.request("db", steal=True):
+            _out, err = process.communicate("go\n", timeout=SECONDS)
+        self.assertEqual((1, "weblocks: the lock 'db' was stolen, before it was released\n"), (process.returncode, err))
 
     def test_signals_are_passed_on_to_the_command(self):
         for number in (signal.SIGHUP, signal.SIGINT, signal.SIGQUIT, signal.SIGTERM, signal.SIGUSR1, signal.SIGUSR2):

@@ -10,7 +10,7 @@ import sys
 from collections.abc import Iterator
 from dataclasses import dataclass
 
-from .errors import LockLost
+from .errors import LockLost, LockStolen
 from .manager import LockManager
 from .messages import Mode
 from .requests import Lock
@@ -171,23 +171,33 @@ async def run_job(locks: LockManager, job: Job, signals: Signals) -> int:
     """Waits for the lock, runs the command, and answers the exit status.
 
     Raises TimeoutError where the lock wasn't had in time, NoFence, and CannotRun. Where the lock is lost, the command
-    is ended.
+    is ended. One that had ended before the connection was lost keeps its status. A theft of which the release alone
+    learns may have come while it ran, as a server that is polled doesn't tell of it.
     """
     if job.fence and not locks.may_give_fences:
         # Before the lock is waited for, or stolen.
         raise NoFence
     timeout = None if job.steal else job.wait
-    status = 0
+    status, ended = 0, False
     try:
         async with locks.request(job.name, mode=job.mode, steal=job.steal, timeout=timeout) as lock:
             child = await Child.start(job.command, environment_of(job, lock))
             signals.child = child
             try:
                 status = await child.wait()
+                ended = True
             except asyncio.CancelledError:
                 status = await child.end()
                 raise
+            finally:
+                # From now on a signal interrupts the release.
+                signals.child = None
     except LockLost as error:
-        complain(f"{error}, while the command ran")
-        return status or LOST
+        if not ended:
+            complain(f"{error}, while the command ran")
+            return status or LOST
+        if isinstance(error, LockStolen):
+            complain(f"{error}, before it was released")
+            return status or LOST
+        complain(f"{error}, while it was released")
     return status
