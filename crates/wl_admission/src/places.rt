@@ -1,7 +1,8 @@
 //! How many may be connected at once.
 
 ghost use Rattle.std.specs.Prelude.{◌≡◌, ◌+◌, ℕ, true, false, OnOk, OnErr, Err};
-ghost use Rattle.wl_admission.specs.Places.{Counts, Frees, count_at, has_place, limit_for, unix_peers};
+ghost use Rattle.wl_admission.specs.Places.{Counts, Frees, IsNumberOf, IsSourceOf, count_at, has_place, limit_for};
+ghost use Rattle.wl_admission.specs.Places.{subnet_of, unix_peers};
 ghost use Rattle.wl_admission.specs.declared.rejection.Rejection.TheVariants.{NoPlace};
 
 use crate::rejection::Rejection;
@@ -9,12 +10,16 @@ use std::alloc::Global;
 use std::collections::BTreeMap;
 use std::net::IpAddr;
 
+/// How many addresses of version 6 a subnet has, all of which one host may use: behind its 64 bits come those of the
+/// interface (RFC 4291, section 2.5.1).
+const INTERFACES: u128 = 1 << 64;
+
 /// How many may be connected at once.
 #[derive(Clone, Copy, Debug, PartialEq, Eq)]
 pub struct PlaceLimits {
     /// In all.
     pub in_all: u32,
-    /// From one address.
+    /// From one address, or from all of one subnet of version 6.
     pub by_address: u32,
     /// From one address of this machine: whoever works for many others there, as a proxy, is one address.
     pub by_loopback: u32,
@@ -43,14 +48,12 @@ pub struct Source {
 
 impl Source {
     /// The source of a connection from this address.
-    pub fn of(address: IpAddr) -> Source {
+    pub fn of(address: IpAddr) -> Source
+        ensures { IsSourceOf address result }
+    {
         let address = address.to_canonical();
-        let mapped = match address {
-            IpAddr::V4(ip) => ip.to_ipv6_mapped(),
-            IpAddr::V6(ip) => ip,
-        };
         Source {
-            number: mapped.to_bits(),
+            number: number_of(address),
             is_loopback: address.is_loopback(),
         }
     }
@@ -65,6 +68,28 @@ impl Source {
             is_loopback: true,
         }
     }
+
+    /// The first address of its subnet, by which its connections are counted. The addresses before all subnets count
+    /// by themselves: those of version 4, `::1`, and that of Unix sockets.
+    fn subnet(self) -> u128
+        ensures { result ≡ subnet_of self }
+    {
+        if self.number < INTERFACES {
+            self.number
+        } else {
+            self.number - self.number % INTERFACES
+        }
+    }
+}
+
+/// An address as a number.
+fn number_of(address: IpAddr) -> u128
+    ensures { IsNumberOf address result }
+{
+    match address {
+        IpAddr::V4(ip) => ip.to_ipv6_mapped().to_bits(),
+        IpAddr::V6(ip) => ip.to_bits(),
+    }
 }
 
 /// The places that are taken.
@@ -72,8 +97,8 @@ impl Source {
 pub struct Places {
     limits: PlaceLimits,
     taken: u32,
-    // The addresses that have a place, with how many each has.
-    by_address: BTreeMap<u128, u32>,
+    // The subnets that have a place, with how many each has.
+    by_subnet: BTreeMap<u128, u32>,
 }
 
 impl Places {
@@ -86,7 +111,7 @@ impl Places {
         Places {
             limits,
             taken: 0,
-            by_address: BTreeMap::new(alloc),
+            by_subnet: BTreeMap::new(alloc),
         }
     }
 
@@ -100,17 +125,18 @@ impl Places {
     /// Takes a place for a connection from this address.
     pub fn take(&mut self, source: Source) -> Result<(), Rejection>
         ensures there { OnOk result (has_place self.old source ≡ true) }
-        ensures taken { OnOk result (Counts self.old self.new source.number (count_at self.old source.number + 1)
-            (self.old.taken + 1)) }
+        ensures taken { OnOk result (Counts self.old self.new (subnet_of source)
+            (count_at self.old (subnet_of source) + 1) (self.old.taken + 1)) }
         ensures full { result ≡ Err NoPlace → has_place self.old source ≡ false }
-        ensures refused { OnErr result (Counts self.old self.new source.number (count_at self.old source.number)
-            self.old.taken) }
+        ensures refused { OnErr result (Counts self.old self.new (subnet_of source)
+            (count_at self.old (subnet_of source)) self.old.taken) }
     {
-        let count = self.count(source.number);
+        let subnet = source.subnet();
+        let count = self.count(subnet);
         if self.taken >= self.limits.in_all || count >= self.limits.limit_for(source) {
             return Err(Rejection::NoPlace);
         }
-        if self.by_address.insert(source.number, count + 1).is_err() {
+        if self.by_subnet.insert(subnet, count + 1).is_err() {
             return Err(Rejection::Memory);
         }
         self.taken += 1;
@@ -119,25 +145,26 @@ impl Places {
 
     /// Gives the place of a connection from this address back.
     pub fn free(&mut self, source: Source)
-        ensures { Frees self.old self.new source.number }
+        ensures { Frees self.old self.new (subnet_of source) }
     {
-        let count = self.count(source.number);
+        let subnet = source.subnet();
+        let count = self.count(subnet);
         if count == 0 {
             return;
         }
         self.taken = self.taken.saturating_sub(1);
         if count == 1 {
-            self.by_address.remove(&source.number);
+            self.by_subnet.remove(&subnet);
         } else {
             // Nothing is refused at a key that is there.
-            let _ = self.by_address.insert(source.number, count - 1);
+            let _ = self.by_subnet.insert(subnet, count - 1);
         }
     }
 
-    /// How many places an address has.
+    /// How many places a subnet has.
     fn count(&self, number: u128) -> u32
         ensures { result ≡ count_at self.now number }
     {
-        self.by_address.get(&number).copied().unwrap_or(0)
+        self.by_subnet.get(&number).copied().unwrap_or(0)
     }
 }
