@@ -1,22 +1,20 @@
 -- Steps of a connection, one after another.
-use Rattle.std.proofs.Common.{◌≡◌, ◌≤◌, ◌+◌, ◌⊎◌, inl, inr, refl, sym, subst, ℕ, Bool, true, false, cond, List, [], ◌∷◌}
-use Rattle.std.proofs.Common.{◌++◌, Option, Result, Ok, Err, arith}
+use Rattle.std.proofs.Common.{◌≡◌, ◌≤◌, ◌+◌, inl, inr, refl, sym, subst, ℕ, false, cond, List, [], ◌∷◌}
+use Rattle.std.proofs.Common.{◌++◌, Option, Ok, Err, arith}
 use Rattle.std.proofs.lemmas.List.Sums.{count_by-le-length, sum_by-append}
-use Rattle.tungstenite.specs.Content.{text, binary}
 use Rattle.tungstenite.specs.Failure.{IsIo}
-use Rattle.tungstenite.specs.Socket.{Socket, content_of, has_kind, kind_of}
+use Rattle.tungstenite.specs.Socket.{Socket, has_kind, kind_of}
 use Rattle.tungstenite.specs.declared.error.Error.{Error}
 use Rattle.tungstenite.specs.declared.message.Message.{Message}
-use Rattle.wl_wire.specs.Turns.{Step, Exchange, Push, Look, Idle, Send, Last, Leaving, Reading, Telling, Pushing}
+use Rattle.wl_wire.specs.Turns.{Step, Exchange, Push, Look, Idle, Send, Last, Leaving, Pushing}
 use Rattle.wl_wire.specs.Turns.{Hearing, Answering, Advances, Ends, Finishes, Goes, GoesOn, Turns}
 use Rattle.wl_wire.specs.inner.Turns.{Answered, Steps}
 use Rattle.wl_wire.specs.Turns.{is_read}
 use Rattle.wl_wire.specs.inner.Turns.{stepped_by}
-use Rattle.wl_wire.specs.Wires.{Falls, Hears, Puts, Sends, Yields}
+use Rattle.wl_wire.specs.Wires.{Hears, Sends, Yields}
 use Rattle.wl_wire.specs.inner.Wires.{Says}
 use Rattle.wl_wire.specs.declared.counted.Counted.{Counted}
 use Rattle.wl_wire.specs.declared.ending.Ending.{Ending}
-use Rattle.wl_wire.specs.declared.wire.Pace.{Pace}
 use Rattle.wl_wire.specs.declared.turn.Turn.{Turn}
 use Rattle.wl_wire.specs.declared.turn.Turn.TheVariants as turn
 use Rattle.wl_wire.specs.declared.turn.Stepped.{Stepped}

@@ -2,6 +2,7 @@
 use Rattle.std.specs.Prelude.{ℕ, Option, None, Some}
 use Rattle.tungstenite.specs.declared.error.Error.{Error}
 use Rattle.tungstenite.specs.declared.error.Error.TheVariants as error
+use Rattle.websocket.specs.declared.error.ProtocolError.TheVariants.{ResetWithoutClosingHandshake}
 use Rattle.wl_wire.specs.declared.ending.Ending.{Ending}
 use Rattle.wl_wire.specs.declared.ending.Ending.TheVariants.{Closed, TooLong, Protocol, NotText, Forbidden, Busy, Away}
 use Rattle.wl_wire.specs.declared.ending.Ending.TheVariants.{Memory, Broken}
@@ -9,6 +10,7 @@ use Rattle.wl_wire.specs.declared.ending.Ending.TheVariants.{Memory, Broken}
 -- what an error of the WebSocket means
 abbrev pub ending_for : Error → Ending
 ending_for (error.Capacity cause) = TooLong
+ending_for (error.Protocol ResetWithoutClosingHandshake) = Broken
 ending_for (error.Protocol cause) = Protocol
 ending_for error.Utf8 = NotText
 ending_for error.OutOfMemory = Memory

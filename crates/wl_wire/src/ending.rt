@@ -8,6 +8,7 @@ ghost use Rattle.wl_wire.specs.Endings.{close_number, ending_for};
 use bytes::ByteStr;
 use std::io::ErrorKind;
 use tungstenite::{CloseCode, CloseFrame, Error};
+use websocket::error::ProtocolError;
 
 /// Why a connection ends.
 #[derive(Clone, Copy, Debug, PartialEq, Eq)]
@@ -60,6 +61,8 @@ pub fn ending_of(error: &Error) -> Ending
 {
     match error {
         Error::Capacity(_) => Ending::TooLong,
+        // No close frame came before the end, as where a program was killed.
+        Error::Protocol(ProtocolError::ResetWithoutClosingHandshake) => Ending::Broken,
         Error::Protocol(_) => Ending::Protocol,
         Error::Utf8 => Ending::NotText,
         Error::OutOfMemory => Ending::Memory,
