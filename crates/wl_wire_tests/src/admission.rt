@@ -9,7 +9,8 @@
 //! - `target TARGET`: whether a handshake with this target and no headers is admitted, or by which status it is
 //!   refused;
 //! - `open URL`: whether whoever was admitted last may open it;
-//! - `take ADDRESS` and `leave ADDRESS`: a place of three, two for an address and three for one of this machine.
+//! - `take ADDRESS` and `leave ADDRESS`: a place of three, two for an address, or a subnet of version 6, and three for
+//!   one of this machine.
 
 mod targets;
 
@@ -133,6 +134,17 @@ leave 10.0.0.2 -> 1 in all
 take ::1 -> taken, 2 in all
 take ::1 -> taken, 3 in all
 leave ::1 -> 2 in all
+",
+    // Places of subnets.
+    "take 2001:db8::1 -> taken, 1 in all
+take 2001:db8::2 -> taken, 2 in all
+take 2001:db8:0:0:ffff:ffff:ffff:ffff -> 503 too many connections
+take 2001:db8:0:1:: -> taken, 3 in all
+leave 2001:db8::3 -> 2 in all
+leave 2001:db8:0:2::1 -> 2 in all
+take 2001:db8::3 -> taken, 3 in all
+leave 2001:db8:0:1::5 -> 2 in all
+take 2001:db8:0:0:1::1 -> 503 too many connections
 ",
 ];
 
