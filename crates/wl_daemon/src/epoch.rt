@@ -13,11 +13,18 @@ use thiserror::Error;
 /// The greatest epoch.
 const MOST_EPOCH: u64 = i64::MAX as u64;
 
+/// The bytes of a file that keeps an epoch at most: longer ones aren't read, whatever they are. Zeros may stand before
+/// a number.
+const LONGEST: u64 = 4_096;
+
 /// Why a server begins with no epoch.
 #[derive(Clone, Copy, Debug, PartialEq, Eq, Drop, Error)]
 pub enum EpochFault {
     #[error("cannot be read")]
     Unreadable,
+    /// As a pipe, which would be waited for.
+    #[error("not a regular file")]
+    NoFile,
     #[error("not a number from 0 to 9223372036854775807")]
     Wrong,
     /// There is none behind it.
@@ -107,6 +114,11 @@ where
 
 /// The epoch behind that of this file, or the first where there is no file.
 fn read_next<R: Files + AllocGlobal>(rt: &R, path: &str) -> Result<u64, EpochFault> {
+    match fs::metadata(rt, path) {
+        Ok(metadata) if !metadata.is_file() => return Err(EpochFault::NoFile),
+        Ok(metadata) if metadata.len() > LONGEST => return Err(EpochFault::Wrong),
+        _ => {}
+    }
     match fs::read_to_string(rt, path) {
         Ok(text) => epoch_after(text.as_str()),
         Err(error) if error.kind() == ErrorKind::NotFound => Ok(1),

@@ -58,6 +58,8 @@ pub struct EventLoop<'a, 'b, R: Wait, H: Host> {
     start: Instant,
     // The milliseconds since the start, when the last wait ended.
     now: u64,
+    // And when the clock was looked at last.
+    looked: u64,
     // A connection that had a turn since the last wait is busy.
     is_busy: bool,
     swept: u64,
@@ -90,6 +92,7 @@ impl<'a, 'b, R: Wait + Clock, H: Host> EventLoop<'a, 'b, R, H> {
             keys: Vec::new(alloc),
             start,
             now: 0,
+            looked: 0,
             is_busy: false,
             swept: 0,
             is_leaving: false,
@@ -111,7 +114,7 @@ impl<'a, 'b, R: Wait + Clock, H: Host> EventLoop<'a, 'b, R, H> {
                 }
             }
             self.wait(&mut events)?;
-            self.look_at_clock();
+            self.begin_round();
             self.answer_beat();
             self.take_events(&events);
             self.take_newcomers();
@@ -196,21 +199,29 @@ impl<'a, 'b, R: Wait + Clock, H: Host> EventLoop<'a, 'b, R, H> {
         }
     }
 
-    fn look_at_clock(&mut self) {
-        if let Ok(now) = Instant::now(self.rt) {
-            let before = self.now;
-            self.now = millis(now.duration_since(self.start));
-            self.shared.host.tell_time(self.now);
-            self.spare_since(before);
-        }
+    /// A wait has ended, and a round of turns begins.
+    fn begin_round(&mut self) {
+        self.look_at_clock();
+        self.now = self.looked;
+        self.shared.host.tell_time(self.now);
     }
 
     /// A loop that was held up since its last look at the clock, as where its process was stopped, hasn't read yet what
-    /// peers sent meanwhile. So no more of that time is silence than what a loop waits for.
-    fn spare_since(&mut self, before: u64) {
-        let time = self.now.saturating_sub(before);
+    /// peers sent meanwhile. So no more of that time is silence than what a loop waits for. A loop with many turns to
+    /// give looks between them: else it would take the time of its own work for such a time, and a peer that vanished
+    /// would be kept the longer the more others send.
+    fn look_at_clock(&mut self) {
+        let Ok(now) = Instant::now(self.rt) else {
+            return;
+        };
+        let before = self.looked;
+        self.looked = millis(now.duration_since(self.start));
+        let time = self.looked.saturating_sub(before);
         if time > HELD_UP {
-            spare_all(&mut self.served, time - SWEEP);
+            let spared = time - SWEEP;
+            spare_all(&mut self.served, spared);
+            // Whoever is heard of in what is left of this round isn't older than who was spared.
+            self.now = self.now.saturating_add(spared);
         }
     }
 

@@ -61,6 +61,9 @@ impl<'a, 'b, R: Wait + Clock, H: Host> EventLoop<'a, 'b, R, H> {
                 self.go_ahead(keys);
             }
             self.take_turns_of(keys);
+            if keys.len() == TOGETHER {
+                self.look_at_clock();
+            }
         }
         self.keys = queue;
     }
