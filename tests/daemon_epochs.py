@@ -84,7 +84,14 @@ def bad_files_stay(program):
 def files_that_cannot_be(program):
     with epoch_file() as path:
         refused(program, [*ANYWHERE, "--epoch-file", path + "/no/such"], "weblocks: epoch file: cannot be ")
-        refused(program, [*ANYWHERE, "--epoch-file", os.path.dirname(path)], "weblocks: epoch file: cannot be read")
+        os.mkfifo(path + ".pipe")
+        for other in [os.path.dirname(path), path + ".pipe", "/dev/zero"]:
+            refused(program, [*ANYWHERE, "--epoch-file", other], "weblocks: epoch file: not a regular file")
+    with epoch_file(b"0" * 4_096) as path:
+        with Daemon(program, "--epoch-file", path):
+            expect("what the file has", content(path), b"1\n")
+    with epoch_file(b"0" * 4_097) as path:
+        refused(program, [*ANYWHERE, "--epoch-file", path], "weblocks: epoch file: not a number")
     with epoch_file(b"5\n") as path:
         # Nothing can be written beside it.
         os.mkdir(path + ".new")
