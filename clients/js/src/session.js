@@ -63,7 +63,7 @@ export class Session {
     }
   }
 
-  /** Connects, and where that fails goes on as after a loss. Calls that come before there is a connection wait. */
+  /** Connects, and where that fails goes on as after a loss: all calls wait until then, and plain ones alone longer. */
   async openLater() {
     try {
       await this.#openFirst();
