@@ -48,8 +48,9 @@ export type WebSocketClass = new (url: string, protocols?: any) => any;
 
 export type LockMode = "exclusive" | "shared";
 
-/** What a callback is given. */
-export interface Lock {
+/** What a callback is given. The class is there for `instanceof`: programs make no locks. */
+export class Lock {
+  private constructor();
   readonly name: string;
   readonly mode: LockMode;
   /**
@@ -58,9 +59,6 @@ export interface Lock {
    */
   readonly fence: string | null;
 }
-
-/** The class of locks, for `instanceof`: programs make none. */
-export const Lock: { readonly prototype: Lock };
 
 /** Options of a request (Web Locks, `LockOptions`). */
 export interface LockOptions {
@@ -101,7 +99,10 @@ export interface LockManagerEventMap {
   restored: Event;
 }
 
-export interface LockManager extends EventTarget {
+/** What `connect` gives. The class is there for `instanceof`: programs connect. */
+export class LockManager extends EventTarget {
+  private constructor();
+
   /**
    * Calls the callback while the lock is held; settles as what that returned, once the lock was released.
    *
@@ -164,6 +165,3 @@ export interface LockManager extends EventTarget {
     options?: boolean | EventListenerOptions,
   ): void;
 }
-
-/** The class of LockManagers, for `instanceof`: programs connect. */
-export const LockManager: { readonly prototype: LockManager };

@@ -10,7 +10,9 @@ export class Agent {
   #connection;
   #requests = new Map();
   #waiting = 0;
+  #unanswered = 0;
   #onLost = () => {};
+  #onIdle = () => {};
 
   /** Its signals. */
   signals = new SignalSupply((answered) => {
@@ -19,6 +21,9 @@ export class Agent {
 
   /** The service's name of it, or null where its origin is opaque. */
   clientId = null;
+
+  /** Whether it was closed, by which the service frees all that it has: there is nothing more to ask it. */
+  isClosed = false;
 
   constructor(opened, settings) {
     this.#connection = new Connection(opened, settings, {
@@ -31,11 +36,12 @@ export class Agent {
    * Connects and opens an agent, which has a signal to spare.
    *
    * @param {object} settings as `readSettings` gives them
-   * @param {(fault: Error) => void} onLost called when the connection is lost later
+   * @param {{onLost: (fault: Error) => void, onIdle: () => void}} listeners called later: `onLost` when the connection
+   *   is lost, `onIdle` each time that the agent has become idle
    * @param {AbortSignal} signal gives up
    * @returns {Promise<Agent>} rejected where there is no connection, or the service refuses the agent
    */
-  static async open(settings, onLost, signal) {
+  static async open(settings, { onLost, onIdle }, signal) {
     const opened = await openSocket(settings, signal);
     const agent = new Agent(opened, settings);
     const giveUp = () => agent.#lose(signal.reason);
@@ -43,6 +49,7 @@ export class Agent {
     try {
       await agent.#open(settings);
       agent.#onLost = onLost;
+      agent.#onIdle = onIdle;
       return agent;
     } catch (fault) {
       agent.cut();
@@ -73,12 +80,21 @@ export class Agent {
 
   /** Sends a message; `answered` is called with its reply. */
   ask(message, answered) {
-    this.#connection.ask(message, answered);
+    this.#unanswered += 1;
+    this.#connection.ask(message, (reply) => {
+      this.#unanswered -= 1;
+      answered(reply);
+      this.#tellIfIdle();
+    });
   }
 
-  /** Whether none of its requests is live. */
+  /** Whether none of its requests is live, and all is answered that it was asked: nobody waits for anything of it. */
   get isIdle() {
-    return this.#requests.size === 0 && this.#waiting === 0;
+    return this.#requests.size === 0 && this.#unanswered === 0;
+  }
+
+  #tellIfIdle() {
+    if (this.isIdle) this.#onIdle();
   }
 
   /** A request was sent, and its next change is waited for. */
@@ -101,10 +117,12 @@ export class Agent {
   /** The service has no more to tell of a request. */
   remove(number) {
     this.#requests.delete(number);
+    this.#tellIfIdle();
   }
 
   /** Ends the agent and then its connection; `ended` is called once its locks have passed on. */
   close(ended) {
+    this.isClosed = true;
     this.#onLost = ended;
     this.ask({ op: "close" }, () => {
       this.#connection.end();

@@ -25,8 +25,9 @@ export class Agents {
 
   /**
    * @param {object} settings as `readSettings` gives them
-   * @param {{onLost: (fault: Error) => void, onNews: () => void}} listeners `onLost` where one that has requests was
-   *   lost, or a successor can't be had; `onNews` where there is a signal, or a successor, that wasn't there before
+   * @param {{onLost: (fault: Error) => void, onNews: () => void}} listeners `onLost` where one was lost that is to
+   *   serve, has requests or owes a reply, or a successor can't be had; `onNews` where there is a signal, or a
+   *   successor, that wasn't there before
    */
   constructor(settings, { onLost, onNews }) {
     this.#settings = settings;
@@ -68,14 +69,8 @@ export class Agents {
     const before = this.#current;
     this.#serve(this.#next);
     this.#next = null;
-    this.retire(before);
+    if (before.isIdle) this.#retire(before);
     return true;
-  }
-
-  /** An agent that serves no new requests is closed with the last of its own. */
-  retire(agent) {
-    if (agent === this.#current || agent === this.#next || !agent.isIdle) return;
-    if (this.#all.delete(agent)) agent.close(() => {});
   }
 
   /** The name by which a client is shown: that of the first of these for all of them. */
@@ -100,6 +95,15 @@ export class Agents {
   #serve(agent) {
     this.#enter(agent);
     this.#current = agent;
+  }
+
+  /**
+   * An agent that serves no new requests is closed once it is idle. Not before: its loss is told to nobody from then
+   * on, and whoever waited for a reply of it would wait for good.
+   */
+  #retire(agent) {
+    if (agent === this.#current || agent === this.#next) return;
+    if (this.#all.delete(agent)) agent.close(() => {});
   }
 
   #enter(agent) {
@@ -141,7 +145,8 @@ export class Agents {
   /** Connects an agent and has it used, unless connecting was given up by then. */
   async #open(use) {
     const { signal } = this.#trying;
-    const agent = await Agent.open(this.#settings, (fault) => this.#lose(fault, agent), signal);
+    const listeners = { onLost: (fault) => this.#lose(fault, agent), onIdle: () => this.#retire(agent) };
+    const agent = await Agent.open(this.#settings, listeners, signal);
     if (signal.aborted) {
       agent.cut();
       throw signal.reason;

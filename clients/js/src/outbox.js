@@ -5,6 +5,8 @@
  * where it must wait, and `answered(reply)`. A message to another agent than the one before goes out once all before
  * it are answered: else the service could take it first.
  *
+ * What is for an agent that was closed meanwhile is dropped: all that it had is free, and it would never be answered.
+ *
  * What must wait holds up all behind it. But where nobody knows for how long, what has an agent passes it, a release or
  * an abort, which has its message always: the request that waits may be waiting for what that very release gives back.
  */
@@ -60,7 +62,7 @@ export class Outbox {
   #sendFirst(queue) {
     const sending = queue.peek()?.sending;
     if (sending === undefined) return false;
-    if (sending.isCancelled) return queue.shift() !== undefined;
+    if (sending.isCancelled || sending.agent?.isClosed) return queue.shift() !== undefined;
     const agent = sending.agent ?? this.#current;
     if (agent === null || (agent !== this.#last && this.#unanswered > 0)) return false;
     const message = sending.compose(agent);

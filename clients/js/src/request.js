@@ -6,7 +6,6 @@ export class LockRequest {
   #call;
   #outbox;
   #onSent;
-  #onOver;
   #number = null;
   #loan = null;
   #isWaiting = false;
@@ -20,14 +19,12 @@ export class LockRequest {
   /**
    * @param {import("./call.js").Call} call
    * @param {import("./outbox.js").Outbox} outbox
-   * @param {{onSent: () => void, onOver: () => void}} listeners `onSent` where it was sent or won't be, `onOver` where
-   *   the service has no more to tell of it
+   * @param {() => void} onSent called where it was sent or won't be
    */
-  constructor(call, outbox, { onSent, onOver }) {
+  constructor(call, outbox, onSent) {
     this.#call = call;
     this.#outbox = outbox;
     this.#onSent = onSent;
-    this.#onOver = onOver;
   }
 
   /** Its message, or null where its signal needs one of the agent's, and none is ready. */
@@ -60,7 +57,6 @@ export class LockRequest {
     if (error !== undefined) {
       this.#endWaiting();
       this.#call.end(faultOfRefusal(error));
-      this.#onOver();
       return;
     }
     this.#number = ok.request;
@@ -76,7 +72,7 @@ export class LockRequest {
     }
     if (phase === "unavailable") this.#call.tellUnavailable();
     else if (phase === "stolen") this.#call.end(stolen());
-    this.#leave();
+    this.agent.remove(this.#number);
   }
 
   /** Gives up what was asked for: the call has ended. */
@@ -84,7 +80,6 @@ export class LockRequest {
     if (this.agent === null) {
       this.isCancelled = true;
       this.#onSent();
-      this.#onOver();
       this.#outbox.flush();
     } else if (!this.#isWaiting) {
       this.release();
@@ -100,7 +95,7 @@ export class LockRequest {
     this.#send({ op: "release", request: this.#number }, ({ ok }) => {
       if (ok?.release === "released") this.#call.finish();
       else this.#call.end(stolen());
-      this.#leave();
+      this.agent.remove(this.#number);
     });
   }
 
@@ -115,11 +110,6 @@ export class LockRequest {
     this.agent.endWaiting();
     if (this.#loan !== null) this.agent.signals.takeBack(this.#loan);
     this.#outbox.flush();
-  }
-
-  #leave() {
-    this.agent.remove(this.#number);
-    this.#onOver();
   }
 }
 

@@ -63,7 +63,7 @@ export class Session {
     }
   }
 
-  /** Connects, and where that fails goes on as after a loss. Calls that come before there is a connection wait. */
+  /** Connects, and where that fails goes on as after a loss: all calls wait until then, and plain ones alone longer. */
   async openLater() {
     try {
       await this.#openFirst();
@@ -125,13 +125,8 @@ export class Session {
   #ask(call) {
     const needsSignal = call.asked.signal !== undefined;
     if (needsSignal) this.#wanting += 1;
-    const request = new LockRequest(call, this.#outbox, {
-      onSent: () => {
-        if (needsSignal) this.#provideSignals(-1);
-      },
-      onOver: () => {
-        if (request.agent !== null) this.#agents.retire(request.agent);
-      },
+    const request = new LockRequest(call, this.#outbox, () => {
+      if (needsSignal) this.#provideSignals(-1);
     });
     this.#calls.set(call, request);
     this.#outbox.push(request);

@@ -15,6 +15,7 @@ class FakeAgent {
   constructor(name, sent) {
     this.name = name;
     this.sent = sent;
+    this.isClosed = false;
   }
 
   ask(message, answered) {
@@ -133,6 +134,20 @@ test("what was forgotten is neither sent nor waited for", () => {
   outbox.current = b;
   outbox.push(sending("two"));
   assert.deepEqual(sent, ["a: one", "b: two"]);
+});
+
+test("what is for an agent that was closed is dropped, and holds nothing up", () => {
+  const sent = [];
+  const outbox = new Outbox(no, no);
+  const [a, b] = [new FakeAgent("a", sent), new FakeAgent("b", sent)];
+  outbox.current = b;
+  outbox.push(sending("one"));
+  outbox.push(sending("release", a));
+  outbox.push(sending("two"));
+  assert.deepEqual(sent, ["b: one"]);
+  a.isClosed = true;
+  b.answer();
+  assert.deepEqual(sent, ["b: one", "b: two"]);
 });
 
 test("a queue gives back what it was given, in order, whatever its length", () => {

@@ -101,6 +101,11 @@ export class Relay {
     for (const link of this.#links) link.socket.close(code, text);
   }
 
+  /** The open connection of this number, the first being 1. */
+  link(number) {
+    return [...this.#links].find((link) => link.number === number);
+  }
+
   /** Pushes notices to all clients. */
   pushToAll(notices) {
     for (const link of this.#links) link.push(notices);
@@ -139,14 +144,14 @@ export class Relay {
 
 /** One connection of a client, and the one to the server. */
 class Link {
-  #number;
   #backend;
   #server;
   #fences;
   #early = [];
+  #heldBack = null;
 
   constructor(number, socket, backend, server) {
-    this.#number = number;
+    this.number = number;
     this.socket = socket;
     this.#backend = backend;
     this.#server = server;
@@ -163,7 +168,7 @@ class Link {
 
   #take(text) {
     const message = JSON.parse(text);
-    this.#server.received.push({ link: this.#number, message });
+    this.#server.received.push({ link: this.number, message });
     if (this.#server.isDeaf) return;
     const own = this.#server.answer ?? this.#refuse(message.id);
     if (own !== null) {
@@ -190,8 +195,25 @@ class Link {
 
   #give(said) {
     const text = this.#fences?.addTo(said) ?? said;
-    if (this.#server.delay === 0) this.socket.send(text);
+    if (this.#heldBack !== null) this.#heldBack.push(text);
+    else if (this.#server.delay === 0) this.socket.send(text);
     else setTimeout(() => this.socket.send(text), this.#server.delay);
+  }
+
+  /** Keeps what is for the client, until `letGo`. */
+  holdBack() {
+    this.#heldBack = [];
+  }
+
+  letGo() {
+    const texts = this.#heldBack;
+    this.#heldBack = null;
+    for (const text of texts) this.socket.send(text);
+  }
+
+  /** Cuts the connection, of which both sides are told. */
+  cut() {
+    this.socket.terminate();
   }
 
   /** Tells the client what it didn't ask for. */

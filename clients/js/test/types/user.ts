@@ -41,6 +41,15 @@ await locks.request("db", (lock) => {
   const lost: AbortSignal = locks.lostSignal(lock);
   lost.throwIfAborted();
 });
+
+const thing: unknown = locks;
+const manager: LockManager | null = thing instanceof LockManager ? thing : null;
+const given: Lock | null = await locks.request("db", (lock: unknown) => (lock instanceof Lock ? lock : null));
+const unlocked: string = await locks.request("db", { ifAvailable: true }, (lock) => {
+  return lock instanceof Lock ? lock.name : "none";
+});
+const reason: DOMException | null = thing instanceof LostEvent ? thing.reason : null;
+const standIn: Lock = { name: "db", mode: "shared", fence: null };
 await locks.setActive(false);
 await locks.close();
 
@@ -55,7 +64,8 @@ const port: number = started.port;
 await started.kill();
 await started.stop();
 
-export { again, agent, fence, got, infos, installedByPort, mode, name, nothing, paged, platform, port, stolen, why };
+export { again, agent, fence, given, got, infos, installedByPort, manager, mode, name, nothing, paged, platform, port };
+export { reason, standIn, stolen, unlocked, why };
 
 // @ts-expect-error
 await connect({ origin: "https://a.test" });
@@ -71,6 +81,16 @@ await locks.request("db", { mode: "odd" }, () => {});
 await locks.request("db", { ifAvailable: true }, (lock) => lock.name);
 // @ts-expect-error
 new LockManager();
+// @ts-expect-error
+new Lock();
+// @ts-expect-error
+Lock();
+// @ts-expect-error
+class OwnManager extends LockManager {}
+// @ts-expect-error
+if (thing instanceof LockManager) thing.name;
+// @ts-expect-error
+if (thing instanceof Lock) thing.query();
 // @ts-expect-error
 await connect({ url: "ws://127.0.0.1:8080", fences: "yes" });
 // @ts-expect-error
