@@ -22,15 +22,16 @@ class CommandLineCase(BothServersCase):
         self.origin = new_origin()
         self.folder = Path(self.enterContext(tempfile.TemporaryDirectory()))
 
-    def start(self, *words, url=None, origin=None, environment=None, **options):
-        """Starts the command line with the service's place in its environment."""
+    def start(self, *words, url=None, origin=None, environment=None, before=None, **options):
+        """Starts the command line with the service's place in its environment, and behind a program if one is given."""
         service = {"WEBLOCKS_URL": url or self.daemon.url, "WEBLOCKS_ORIGIN": origin or self.origin}
         path = {"PYTHONPATH": str(PACKAGE / "src")}
         options.setdefault("stdout", subprocess.PIPE)
         options.setdefault("stderr", subprocess.PIPE)
         options.setdefault("preexec_fn", reset_signals)
+        run = ["-c", f"{before}\nimport sys\nfrom weblocks.__main__ import main\nsys.exit(main())"]
         process = subprocess.Popen(
-            [sys.executable, "-m", "weblocks", *words],
+            [sys.executable, *(["-m", "weblocks"] if before is None else run), *words],
             env={**ENVIRONMENT, **path, **(service if environment is None else environment)},
             text=True,
             **options,

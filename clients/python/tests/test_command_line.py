@@ -168,6 +168,25 @@ class With(CommandLineCase):
                 self.assertEqual((128 + number, "", ""), (process.returncode, out, err))
                 self.wait_for(lambda: locks.query().pending == [])
 
+    def test_each_further_signal_interrupts_what_the_first_did_not_end(self):
+        # A library may swallow a cancellation, or wait for an end of its own.
+        wait_on = """
+import asyncio, contextlib
+import weblocks.__main__ as line
+async def wait(_given, _signals):
+    for number in range(3):
+        with contextlib.suppress(asyncio.CancelledError if number < 2 else ()):
+            open(f"waits{number}", "w").close()
+            await asyncio.sleep(1000)
+line.run = wait
+"""
+        process = self.start("query", before=wait_on, cwd=self.folder)
+        for times, number in enumerate((signal.SIGTERM, signal.SIGINT, signal.SIGINT)):
+            self.wait_for((self.folder / f"waits{times}").exists)
+            process.send_signal(number)
+        _out, err = process.communicate(timeout=SECONDS)
+        self.assertEqual((128 + signal.SIGTERM, ""), (process.returncode, err))
+
     def test_a_signal_that_is_ignored_when_it_starts_stays_so(self):
         script = "kill -HUP $$; echo ran"
         with self.connect() as locks:

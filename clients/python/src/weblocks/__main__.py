@@ -4,7 +4,6 @@ from __future__ import annotations
 
 import argparse
 import asyncio
-import contextlib
 import logging
 import os
 import signal
@@ -167,13 +166,10 @@ async def run_interruptibly(given: argparse.Namespace) -> int:
     """Does the job; a signal that comes while no command runs ends it."""
     signals = Signals()
     with signals.taken():
-        job = asyncio.create_task(run(given, signals))
-        await asyncio.wait([job, signals.interrupted], return_when=asyncio.FIRST_COMPLETED)
-        if not job.done():
-            job.cancel()
-            with contextlib.suppress(asyncio.CancelledError):
-                return await job
-            return BY_SIGNAL + signals.interrupted.result()
+        job = signals.waiting = asyncio.create_task(run(given, signals))
+        await asyncio.wait([job])
+        if job.cancelled() and signals.first is not None:
+            return BY_SIGNAL + signals.first
         return job.result()
 
 

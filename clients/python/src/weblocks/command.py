@@ -67,7 +67,10 @@ class Signals:
 
     def __init__(self) -> None:
         self.child: Child | None = None
-        self.interrupted: asyncio.Future[int] = asyncio.get_running_loop().create_future()
+        self.waiting: asyncio.Task[int] | None = None
+        """Who is cancelled by a signal while no command runs; by each, as what ends by the first may wait too."""
+        self.first: int | None = None
+        """The signal that ended the waiting."""
 
     @contextlib.contextmanager
     def taken(self) -> Iterator[None]:
@@ -85,8 +88,9 @@ class Signals:
     def _take(self, number: int) -> None:
         if self.child is not None:
             self.child.pass_on(number)
-        elif number in ENDS_WAITING and not self.interrupted.done():
-            self.interrupted.set_result(number)
+        elif number in ENDS_WAITING and self.waiting is not None and not self.waiting.done():
+            self.first = self.first or number
+            self.waiting.cancel()
 
 
 class Child:
