@@ -1,6 +1,7 @@
 """What the tests of the command line stand on."""
 
 import contextlib
+import ctypes
 import fcntl
 import os
 import signal
@@ -15,6 +16,7 @@ import weblocks.sync
 from support import PACKAGE, SECONDS, BothServersCase, new_origin
 
 ENVIRONMENT = {name: value for name, value in os.environ.items() if not name.startswith("WEBLOCKS_")}
+SET_CHILD_SUBREAPER = 36
 
 
 class CommandLineCase(BothServersCase):
@@ -94,6 +96,12 @@ def ignore_hangups():
     """As `nohup` does."""
     reset_signals()
     signal.signal(signal.SIGHUP, signal.SIG_IGN)
+
+
+def adopt_orphans():
+    """As the init of a container does (prctl(2))."""
+    reset_signals()
+    ctypes.CDLL(None).prctl(SET_CHILD_SUBREAPER, 1, 0, 0, 0)
 
 
 def take_terminal(terminal):

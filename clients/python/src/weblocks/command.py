@@ -20,6 +20,7 @@ NOT_RUNNABLE = 126
 NOT_FOUND = 127
 BY_SIGNAL = 128
 KILL_SECONDS = 10.0
+LOOK_SECONDS = 0.05
 FENCE = "WEBLOCKS_FENCE"
 
 PASSED_ON = (signal.SIGHUP, signal.SIGINT, signal.SIGQUIT, signal.SIGTERM, signal.SIGUSR1, signal.SIGUSR2)
@@ -129,22 +130,50 @@ class Child:
             self._send(number)
 
     async def end(self) -> int:
-        """Ends it: TERM, and KILL after 10 seconds."""
-        self._send(signal.SIGTERM)
+        """Ends it, with all of its group: TERM, and KILL after 10 seconds. One that may not be ended is waited for."""
         waiting = asyncio.create_task(self.wait())
-        await asyncio.wait([waiting], timeout=KILL_SECONDS)
-        if not waiting.done():
-            complain(f"the command did not end in {KILL_SECONDS:g} seconds: killing it")
-            self._send(signal.SIGKILL)
+        if self._send(signal.SIGTERM):
+            until = asyncio.get_running_loop().time() + KILL_SECONDS
+            await asyncio.wait([waiting], timeout=KILL_SECONDS)
+            while self._is_there() and asyncio.get_running_loop().time() < until:
+                await asyncio.sleep(LOOK_SECONDS)
+            if self._is_there():
+                what = "what the command started" if waiting.done() else "the command"
+                complain(f"{what} did not end in {KILL_SECONDS:g} seconds: killing it")
+                self._send(signal.SIGKILL, what)
         return await waiting
 
-    def _send(self, number: int) -> None:
+    def _is_there(self) -> bool:
+        """Whether it runs, or something of its group does, by which that keeps its number."""
         if self._process.returncode is None:
-            with contextlib.suppress(ProcessLookupError):
-                if self._own_group:
-                    os.killpg(self._process.pid, number)
-                else:
-                    os.kill(self._process.pid, number)
+            return True
+        if not self._own_group:
+            return False
+        with contextlib.suppress(ChildProcessError):
+            # Where this program is the init of a container, it is the one to take note of what ended there.
+            while os.waitpid(-self._process.pid, os.WNOHANG)[0]:
+                pass
+        try:
+            os.killpg(self._process.pid, 0)
+        except ProcessLookupError:
+            return False
+        except PermissionError:
+            pass
+        return True
+
+    def _send(self, number: int, what: str = "the command") -> bool:
+        """Sends the signal, and answers True, unless nothing of it may be signalled, which is told."""
+        try:
+            if self._own_group:
+                os.killpg(self._process.pid, number)
+            elif self._process.returncode is None:
+                os.kill(self._process.pid, number)
+        except ProcessLookupError:
+            pass
+        except PermissionError:
+            complain(f"{what} may not be signalled, and runs on: it gets no {signal.Signals(number).name}")
+            return False
+        return True
 
 
 def in_foreground() -> bool:
