@@ -4,6 +4,7 @@ import os
 import pty
 import signal
 import subprocess
+import sys
 import time
 import unittest
 from pathlib import Path
@@ -39,6 +40,18 @@ class With(CommandLineCase):
         process = self.start("with", "db", "--", "sh", "-c", "cat; echo error >&2", stdin=subprocess.PIPE)
         self.assertEqual(("text", "error\n"), process.communicate("text", timeout=SECONDS))
         self.assertEqual(0, process.returncode)
+
+    def test_the_command_has_the_descriptors_that_with_was_given_and_no_others(self):
+        reading, writing = os.pipe()
+        self.addCleanup(os.close, reading)
+        with open(writing, "w") as text:
+            text.write("hi")
+        # What lists the folder has it open meanwhile.
+        look = "here = '/proc/self/fd/'; print({n for n in os.listdir(here) if os.path.lexists(here + n)} - set('012'))"
+        command = (sys.executable, "-c", f"import os; print(os.read({reading}, 9)); {look}")
+        streams = {"stdin": subprocess.DEVNULL, "pass_fds": [reading]}
+        ended = self.run_whole("with", "db", "--", *command, **streams)
+        self.assertEqual((0, f"b'hi'\n{{'{reading}'}}\n", ""), ended)
 
     def test_words_after_the_first_two_hyphens_are_the_commands(self):
         status, out, _err = self.run_whole("with", "db", "--", "printf", "%s\n", "--wait", "--", "-x")

@@ -76,6 +76,8 @@ def read_words(words: list[str], command: list[str] | None) -> argparse.Namespac
         job.error("name the command behind --")
     elif given.shared and given.steal:
         job.error("--steal and --shared exclude each other: only an exclusive lock can be stolen")
+    elif given.steal and given.wait is not None:
+        job.error("--steal and --wait exclude each other: who steals a lock doesn't wait for it")
     if given.origin is None:
         job.error("name the origin by --origin or WEBLOCKS_ORIGIN, such as https://a.test")
     given.command = command

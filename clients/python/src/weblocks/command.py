@@ -110,8 +110,9 @@ class Child:
         """Raises CannotRun."""
         own_group = not in_foreground()
         try:
+            # It has what this program was started with, as a shell's <(..) wants it; Python's own is closed by `exec`.
             process = await asyncio.create_subprocess_exec(
-                *command, env=environment, process_group=0 if own_group else None
+                *command, env=environment, process_group=0 if own_group else None, close_fds=False
             )
         except FileNotFoundError as error:
             raise CannotRun(f"{command[0]}: there is no such command", NOT_FOUND) from error
@@ -210,10 +211,9 @@ async def run_job(locks: LockManager, job: Job, signals: Signals) -> int:
     if job.fence and not locks.may_give_fences:
         # Before the lock is waited for, or stolen.
         raise NoFence
-    timeout = None if job.steal else job.wait
     status, ended = 0, False
     try:
-        async with locks.request(job.name, mode=job.mode, steal=job.steal, timeout=timeout) as lock:
+        async with locks.request(job.name, mode=job.mode, steal=job.steal, timeout=job.wait) as lock:
             child = await Child.start(job.command, environment_of(job, lock))
             signals.child = child
             try:
