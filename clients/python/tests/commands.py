@@ -1,6 +1,7 @@
 """What the tests of the command line stand on."""
 
 import contextlib
+import ctypes
 import fcntl
 import os
 import signal
@@ -15,6 +16,7 @@ import weblocks.sync
 from support import PACKAGE, SECONDS, BothServersCase, new_origin
 
 ENVIRONMENT = {name: value for name, value in os.environ.items() if not name.startswith("WEBLOCKS_")}
+SET_CHILD_SUBREAPER = 36
 
 
 class CommandLineCase(BothServersCase):
@@ -22,15 +24,16 @@ class CommandLineCase(BothServersCase):
         self.origin = new_origin()
         self.folder = Path(self.enterContext(tempfile.TemporaryDirectory()))
 
-    def start(self, *words, url=None, origin=None, environment=None, **options):
-        """Starts the command line with the service's place in its environment."""
+    def start(self, *words, url=None, origin=None, environment=None, before=None, **options):
+        """Starts the command line with the service's place in its environment, and behind a program if one is given."""
         service = {"WEBLOCKS_URL": url or self.daemon.url, "WEBLOCKS_ORIGIN": origin or self.origin}
         path = {"PYTHONPATH": str(PACKAGE / "src")}
         options.setdefault("stdout", subprocess.PIPE)
         options.setdefault("stderr", subprocess.PIPE)
         options.setdefault("preexec_fn", reset_signals)
+        run = ["-c", f"{before}\nimport sys\nfrom weblocks.__main__ import main\nsys.exit(main())"]
         process = subprocess.Popen(
-            [sys.executable, "-m", "weblocks", *words],
+            [sys.executable, *(["-m", "weblocks"] if before is None else run), *words],
             env={**ENVIRONMENT, **path, **(service if environment is None else environment)},
             text=True,
             **options,
@@ -93,6 +96,12 @@ def ignore_hangups():
     """As `nohup` does."""
     reset_signals()
     signal.signal(signal.SIGHUP, signal.SIG_IGN)
+
+
+def adopt_orphans():
+    """As the init of a container does (prctl(2))."""
+    reset_signals()
+    ctypes.CDLL(None).prctl(SET_CHILD_SUBREAPER, 1, 0, 0, 0)
 
 
 def take_terminal(terminal):

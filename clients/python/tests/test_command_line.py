@@ -4,13 +4,14 @@ import os
 import pty
 import signal
 import subprocess
+import sys
 import time
 import unittest
 from pathlib import Path
 
 import weblocks
 import weblocks.sync
-from commands import CommandLineCase, ignore_hangups, read_all, runs, take_terminal
+from commands import CommandLineCase, adopt_orphans, ignore_hangups, read_all, runs, take_terminal
 from support import SECONDS, Daemon, free_port, proxied
 
 
@@ -39,6 +40,18 @@ class With(CommandLineCase):
         process = self.start("with", "db", "--", "sh", "-c", "cat; echo error >&2", stdin=subprocess.PIPE)
         self.assertEqual(("text", "error\n"), process.communicate("text", timeout=SECONDS))
         self.assertEqual(0, process.returncode)
+
+    def test_the_command_has_the_descriptors_that_with_was_given_and_no_others(self):
+        reading, writing = os.pipe()
+        self.addCleanup(os.close, reading)
+        with open(writing, "w") as text:
+            text.write("hi")
+        # What lists the folder has it open meanwhile.
+        look = "here = '/proc/self/fd/'; print({n for n in os.listdir(here) if os.path.lexists(here + n)} - set('012'))"
+        command = (sys.executable, "-c", f"import os; print(os.read({reading}, 9)); {look}")
+        streams = {"stdin": subprocess.DEVNULL, "pass_fds": [reading]}
+        ended = self.run_whole("with", "db", "--", *command, **streams)
+        self.assertEqual((0, f"b'hi'\n{{'{reading}'}}\n", ""), ended)
 
     def test_words_after_the_first_two_hyphens_are_the_commands(self):
         status, out, _err = self.run_whole("with", "db", "--", "printf", "%s\n", "--wait", "--", "-x")
@@ -88,6 +101,46 @@ class With(CommandLineCase):
         self.assertGreater(time.monotonic() - begun, 9)
         self.assertEqual(128 + signal.SIGKILL, process.returncode)
         self.assertIn("weblocks: the command did not end in 10 seconds: killing it\n", err)
+
+    # A child that says in a file that it is as it is to be, and a command that starts it and ends by TERM at once.
+    STUBBORN = "sh -c 'trap \"\" TERM; echo $$ > child; while :; do sleep 0.2; done'"
+    STARTER = " > /dev/null 2>&1 & while ! test -s child; do sleep 0.05; done; echo $$ > $1; wait"
+
+    def test_what_an_ended_command_started_gets_KILL_where_it_does_not_end_by_TERM(self):
+        process = self.hold(self.STUBBORN + self.STARTER, cwd=self.folder)
+        child = int((self.folder / "child").read_text())
+        with self.connect() as locks, locks.request("db", steal=True):
+            begun = time.monotonic()
+            _out, err = process.communicate(timeout=SECONDS)
+        self.assertGreater(time.monotonic() - begun, 9)
+        self.wait_for(lambda: not runs(child))
+        self.assertEqual(128 + signal.SIGTERM, process.returncode)
+        said = "weblocks: what the command started did not end in 10 seconds: killing it\n"
+        self.assertEqual(f"{said}weblocks: the lock 'db' was stolen, while the command ran\n", err)
+
+    def test_where_with_adopts_what_a_command_left_it_does_not_take_ended_processes_for_running_ones(self):
+        child = "sh -c 'echo $$ > child; exec sleep 300'"
+        process = self.hold(child + self.STARTER, cwd=self.folder, preexec_fn=adopt_orphans)
+        with self.connect() as locks, locks.request("db", steal=True):
+            begun = time.monotonic()
+            _out, err = process.communicate(timeout=SECONDS)
+        self.assertLess(time.monotonic() - begun, 9)
+        self.assertEqual("weblocks: the lock 'db' was stolen, while the command ran\n", err)
+
+    def test_a_command_that_may_not_be_signalled_is_told_and_waited_for(self):
+        refuse = "import os\ndef refuse(*_words): raise PermissionError(1, 'not permitted')\nos.killpg = refuse"
+        for line, status in (("exit 3", 3), ("exit 0", 1)):
+            with self.subTest(line):
+                process = self.hold(f"echo $$ > $1; read line; {line}", before=refuse, stdin=subprocess.PIPE)
+                said = "weblocks: the command may not be signalled, and runs on: it gets no SIG%s\n"
+                process.send_signal(signal.SIGHUP)
+                self.assertEqual(said % "HUP", process.stderr.readline())
+                with self.connect() as locks, locks.request("db", steal=True):
+                    self.assertEqual(said % "TERM", process.stderr.readline())
+                    self.assertIsNone(process.poll())
+                    _out, err = process.communicate("go\n", timeout=SECONDS)
+                self.assertEqual("weblocks: the lock 'db' was stolen, while the command ran\n", err)
+                self.assertEqual(status, process.returncode)
 
     def test_a_command_that_ends_well_though_the_lock_was_lost_gives_status_1(self):
         process = self.hold("trap 'exit 0' TERM; echo $$ > $1; sleep 300 & wait")
@@ -167,6 +220,25 @@ class With(CommandLineCase):
                 out, err = process.communicate(timeout=SECONDS)
                 self.assertEqual((128 + number, "", ""), (process.returncode, out, err))
                 self.wait_for(lambda: locks.query().pending == [])
+
+    def test_each_further_signal_interrupts_what_the_first_did_not_end(self):
+        # A library may swallow a cancellation, or wait for an end of its own.
+        wait_on = """
+import asyncio, contextlib
+import weblocks.__main__ as line
+async def wait(_given, _signals):
+    for number in range(3):
+        with contextlib.suppress(asyncio.CancelledError if number < 2 else ()):
+            open(f"waits{number}", "w").close()
+            await asyncio.sleep(1000)
+line.run = wait
+"""
+        process = self.start("query", before=wait_on, cwd=self.folder)
+        for times, number in enumerate((signal.SIGTERM, signal.SIGINT, signal.SIGINT)):
+            self.wait_for((self.folder / f"waits{times}").exists)
+            process.send_signal(number)
+        _out, err = process.communicate(timeout=SECONDS)
+        self.assertEqual((128 + signal.SIGTERM, ""), (process.returncode, err))
 
     def test_a_signal_that_is_ignored_when_it_starts_stays_so(self):
         script = "kill -HUP $$; echo ran"

@@ -46,9 +46,8 @@ class Handshakes(ServedCase):
 
     async def test_a_server_that_does_not_answer_the_handshake_raises_Disconnected_after_the_timeout(self):
         async def ignore(reader, writer):
-            while await reader.read(1000):
-                pass
-            writer.close()
+            with contextlib.closing(writer):
+                await reader.read()
 
         server = await asyncio.start_server(ignore, "127.0.0.1", free_port())
         self.addCleanup(server.close)

@@ -6,6 +6,7 @@ import re
 import subprocess
 import sys
 import tempfile
+import time
 import unittest
 from pathlib import Path
 from unittest import mock
@@ -215,6 +216,29 @@ class Managers(unittest.IsolatedAsyncioTestCase):
                     await holder
                 async with two.request("db", if_available=True) as lock:
                     self.assertIsNotNone(lock)
+
+    def test_an_event_loop_that_ends_while_a_task_holds_a_lock_ends_at_once_and_the_lock_is_free(self):
+        async def hold(world, held):
+            async with world.connect(origin=ORIGIN) as locks, locks.request("db"):
+                held.set()
+                await asyncio.sleep(60)
+
+        async def leave(world, holders):
+            held = asyncio.Event()
+            holders.append(asyncio.create_task(hold(world, held)))
+            await held.wait()
+
+        async def look(world):
+            async with world.connect(origin=ORIGIN) as locks, locks.request("db", if_available=True) as lock:
+                self.assertIsNotNone(lock)
+
+        begun, holders = time.monotonic(), []
+        with weblocks.local() as world, self.assertNoLogs("weblocks"):
+            asyncio.run(leave(world, holders))
+            # A reply that nobody reads was waited for until the heartbeats were over, after 10 seconds or more.
+            self.assertLess(time.monotonic() - begun, 9)
+            self.assertTrue(holders[0].cancelled())
+            asyncio.run(look(world))
 
     async def test_worlds_and_origins_are_apart(self):
         with weblocks.local() as world, weblocks.local() as other:

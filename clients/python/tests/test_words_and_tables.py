@@ -74,6 +74,8 @@ class Words(CommandLineCase):
             ("there is no --token, since", ("with", "db", "--token=secret", "--", "true")),
             ("the following arguments are required: NAME", ("with", "--", "true")),
             ("--steal and --shared exclude each other", ("with", "db", "--steal", "--shared", "--", "true")),
+            ("--steal and --wait exclude each other", ("with", "db", "--steal", "--wait", "5", "--", "true")),
+            ("--steal and --wait exclude each other", ("with", "db", "--steal", "--wait", "0", "--", "true")),
             ("invalid seconds value: 'soon'", ("with", "db", "--wait", "soon", "--", "true")),
             ("invalid seconds value: '-1'", ("with", "db", "--wait=-1", "--", "true")),
             ("query runs no command", ("query", "--", "true")),

@@ -4,7 +4,6 @@ from __future__ import annotations
 
 import argparse
 import asyncio
-import contextlib
 import logging
 import os
 import signal
@@ -77,6 +76,8 @@ def read_words(words: list[str], command: list[str] | None) -> argparse.Namespac
         job.error("name the command behind --")
     elif given.shared and given.steal:
         job.error("--steal and --shared exclude each other: only an exclusive lock can be stolen")
+    elif given.steal and given.wait is not None:
+        job.error("--steal and --wait exclude each other: who steals a lock doesn't wait for it")
     if given.origin is None:
         job.error("name the origin by --origin or WEBLOCKS_ORIGIN, such as https://a.test")
     given.command = command
@@ -167,13 +168,10 @@ async def run_interruptibly(given: argparse.Namespace) -> int:
     """Does the job; a signal that comes while no command runs ends it."""
     signals = Signals()
     with signals.taken():
-        job = asyncio.create_task(run(given, signals))
-        await asyncio.wait([job, signals.interrupted], return_when=asyncio.FIRST_COMPLETED)
-        if not job.done():
-            job.cancel()
-            with contextlib.suppress(asyncio.CancelledError):
-                return await job
-            return BY_SIGNAL + signals.interrupted.result()
+        job = signals.waiting = asyncio.create_task(run(given, signals))
+        await asyncio.wait([job])
+        if job.cancelled() and signals.first is not None:
+            return BY_SIGNAL + signals.first
         return job.result()
 
 

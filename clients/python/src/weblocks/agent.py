@@ -49,7 +49,24 @@ class Agent:
 
     @classmethod
     async def open(cls, options: Options, owner: Owner) -> Agent:
-        """Connects and opens; raises Disconnected, Forbidden, or Refused by the service."""
+        """Connects and opens, within `open_timeout` seconds; raises Disconnected, Forbidden, or Refused by the service.
+
+        A task of its own does it: so whoever calls isn't kept by what the library still does once the time is over, and
+        a cancellation counts whatever the library makes of it.
+        """
+        opening = asyncio.create_task(cls._open(options, owner))
+        try:
+            await asyncio.wait([opening], timeout=options.open_timeout)
+        except BaseException:
+            _abandon(opening)
+            raise
+        if not opening.done():
+            _abandon(opening)
+            raise Disconnected(f"the server at {options.url} did not answer in {options.open_timeout:g} seconds")
+        return opening.result()
+
+    @classmethod
+    async def _open(cls, options: Options, owner: Owner) -> Agent:
         agent = cls(owner)
         agent._connection = await Connection.open(options, agent._hear, agent._end)
         try:
@@ -60,7 +77,7 @@ class Agent:
             agent.client = client if isinstance(client, str) else None
             agent.ready(0)
         except BaseException:
-            agent._connection.lose(Disconnected("the connection was not opened"))
+            agent.abort()
             raise
         return agent
 
@@ -134,6 +151,10 @@ class Agent:
         for request in self._live():
             held = request.phase is Phase.HELD
             request.end(LockLost(f"the lock {request.wish.name!r} was lost: {reason}") if held else reason)
+
+    def abort(self) -> None:
+        """Ends one that nobody has yet, without a word to the server."""
+        self._connection.lose(Disconnected("the connection was not opened"))
 
     async def close(self) -> None:
         """Ends the agent: what it has is free when this returns, if the server still answers."""
@@ -227,6 +248,23 @@ class Agent:
             else:
                 request.end(Disconnected(f"the lock {request.wish.name!r} may have been had: {reason}"))
         self._owner.agent_lost(self, waiting, reason)
+
+
+_abandoned: set[asyncio.Task[Agent]] = set()
+"""Openings that nobody waits for any more. The event loop alone wouldn't keep them from being collected."""
+
+
+def _abandon(opening: asyncio.Task[Agent]) -> None:
+    """Cancels an opening, and ends what comes of it all the same."""
+
+    def end(opened: asyncio.Task[Agent]) -> None:
+        _abandoned.discard(opened)
+        if not opened.cancelled() and opened.exception() is None:
+            opened.result().abort()
+
+    _abandoned.add(opening)
+    opening.cancel()
+    opening.add_done_callback(end)
 
 
 def _number_of(reply: Reply, member: str) -> int:

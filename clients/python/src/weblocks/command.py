@@ -20,6 +20,7 @@ NOT_RUNNABLE = 126
 NOT_FOUND = 127
 BY_SIGNAL = 128
 KILL_SECONDS = 10.0
+LOOK_SECONDS = 0.05
 FENCE = "WEBLOCKS_FENCE"
 
 PASSED_ON = (signal.SIGHUP, signal.SIGINT, signal.SIGQUIT, signal.SIGTERM, signal.SIGUSR1, signal.SIGUSR2)
@@ -67,7 +68,10 @@ class Signals:
 
     def __init__(self) -> None:
         self.child: Child | None = None
-        self.interrupted: asyncio.Future[int] = asyncio.get_running_loop().create_future()
+        self.waiting: asyncio.Task[int] | None = None
+        """Who is cancelled by a signal while no command runs; by each, as what ends by the first may wait too."""
+        self.first: int | None = None
+        """The signal that ended the waiting."""
 
     @contextlib.contextmanager
     def taken(self) -> Iterator[None]:
@@ -85,8 +89,9 @@ class Signals:
     def _take(self, number: int) -> None:
         if self.child is not None:
             self.child.pass_on(number)
-        elif number in ENDS_WAITING and not self.interrupted.done():
-            self.interrupted.set_result(number)
+        elif number in ENDS_WAITING and self.waiting is not None and not self.waiting.done():
+            self.first = self.first or number
+            self.waiting.cancel()
 
 
 class Child:
@@ -105,8 +110,9 @@ class Child:
         """Raises CannotRun."""
         own_group = not in_foreground()
         try:
+            # It has what this program was started with, as a shell's <(..) wants it; Python's own is closed by `exec`.
             process = await asyncio.create_subprocess_exec(
-                *command, env=environment, process_group=0 if own_group else None
+                *command, env=environment, process_group=0 if own_group else None, close_fds=False
             )
         except FileNotFoundError as error:
             raise CannotRun(f"{command[0]}: there is no such command", NOT_FOUND) from error
@@ -125,22 +131,50 @@ class Child:
             self._send(number)
 
     async def end(self) -> int:
-        """Ends it: TERM, and KILL after 10 seconds."""
-        self._send(signal.SIGTERM)
+        """Ends it, with all of its group: TERM, and KILL after 10 seconds. One that may not be ended is waited for."""
         waiting = asyncio.create_task(self.wait())
-        await asyncio.wait([waiting], timeout=KILL_SECONDS)
-        if not waiting.done():
-            complain(f"the command did not end in {KILL_SECONDS:g} seconds: killing it")
-            self._send(signal.SIGKILL)
+        if self._send(signal.SIGTERM):
+            until = asyncio.get_running_loop().time() + KILL_SECONDS
+            await asyncio.wait([waiting], timeout=KILL_SECONDS)
+            while self._is_there() and asyncio.get_running_loop().time() < until:
+                await asyncio.sleep(LOOK_SECONDS)
+            if self._is_there():
+                what = "what the command started" if waiting.done() else "the command"
+                complain(f"{what} did not end in {KILL_SECONDS:g} seconds: killing it")
+                self._send(signal.SIGKILL, what)
         return await waiting
 
-    def _send(self, number: int) -> None:
+    def _is_there(self) -> bool:
+        """Whether it runs, or something of its group does, by which that keeps its number."""
         if self._process.returncode is None:
-            with contextlib.suppress(ProcessLookupError):
-                if self._own_group:
-                    os.killpg(self._process.pid, number)
-                else:
-                    os.kill(self._process.pid, number)
+            return True
+        if not self._own_group:
+            return False
+        with contextlib.suppress(ChildProcessError):
+            # Where this program is the init of a container, it is the one to take note of what ended there.
+            while os.waitpid(-self._process.pid, os.WNOHANG)[0]:
+                pass
+        try:
+            os.killpg(self._process.pid, 0)
+        except ProcessLookupError:
+            return False
+        except PermissionError:
+            pass
+        return True
+
+    def _send(self, number: int, what: str = "the command") -> bool:
+        """Sends the signal, and answers True, unless nothing of it may be signalled, which is told."""
+        try:
+            if self._own_group:
+                os.killpg(self._process.pid, number)
+            elif self._process.returncode is None:
+                os.kill(self._process.pid, number)
+        except ProcessLookupError:
+            pass
+        except PermissionError:
+            complain(f"{what} may not be signalled, and runs on: it gets no {signal.Signals(number).name}")
+            return False
+        return True
 
 
 def in_foreground() -> bool:
@@ -177,10 +211,9 @@ async def run_job(locks: LockManager, job: Job, signals: Signals) -> int:
     if job.fence and not locks.may_give_fences:
         # Before the lock is waited for, or stolen.
         raise NoFence
-    timeout = None if job.steal else job.wait
     status, ended = 0, False
     try:
-        async with locks.request(job.name, mode=job.mode, steal=job.steal, timeout=timeout) as lock:
+        async with locks.request(job.name, mode=job.mode, steal=job.steal, timeout=job.wait) as lock:
             child = await Child.start(job.command, environment_of(job, lock))
             signals.child = child
             try:

@@ -20,6 +20,13 @@ READING_TURNS = 20
 """So many turns of the event loop are more than a reply takes that is there, to be read and taken."""
 
 
+class LoopEnded(Disconnected):
+    """All tasks of the event loop were cancelled, as at its end: nobody reads, and no further connection is tried."""
+
+    def __init__(self) -> None:
+        super().__init__("the tasks of the event loop were cancelled, as at its end")
+
+
 class Connection:
     """Sends messages in the order in which they are asked, and hands each reply to whoever asked.
 
@@ -130,6 +137,10 @@ class Connection:
             self.lose(_explain_close(error))
         except BadReply as error:
             self.lose(Disconnected(f"the server sent what is no reply: {error}"))
+        except asyncio.CancelledError:
+            # If it isn't by `lose`, the tasks that hold locks end too, and would wait for replies that nobody reads.
+            self.lose(LoopEnded())
+            raise
 
     async def _write(self) -> None:
         """Sends what is to be sent. One at a time does so, so the order of messages is that of the calls of `ask`."""

@@ -8,6 +8,7 @@ import random
 from collections import OrderedDict
 
 from .agent import Agent
+from .connection import LoopEnded
 from .errors import Closed, Disconnected, Error, Forbidden, Refused
 from .messages import Reason
 from .queries import Query
@@ -167,7 +168,7 @@ class Dispatcher:
                 item.end(reason)
         if self._ended is not None:
             return
-        if isinstance(reason, Forbidden) or not self._options.reconnect:
+        if isinstance(reason, (Forbidden, LoopEnded)) or not self._options.reconnect:
             self._end(reason)
             return
         logger.warning("%s: trying again", reason)

@@ -152,7 +152,7 @@ async def connect(
     is lost. That should be at most a third of the server's `--idle`, which is 30 seconds. A server without pushes is
     asked what changed each `poll_interval` seconds while a request waits. `reconnect=False` makes a lost connection the
     end of the manager. With `fences` each lock has a fencing token as `lock.fence`, if the server gives them.
-    `open_timeout` is how many seconds a connection may take to be made.
+    `open_timeout` is how many seconds a connection may take to be made, until the service has answered.
 
     Raises ValueError for a bad URL or option, Disconnected where no server answers, Forbidden where it refuses the
     token or the target, and Refused for a bad origin or bucket.

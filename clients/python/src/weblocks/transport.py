@@ -2,7 +2,6 @@
 
 from __future__ import annotations
 
-import asyncio
 import importlib
 import os
 import re
@@ -89,9 +88,9 @@ class Options:
 async def open_socket(options: Options) -> Socket:
     """Connects, and offers pushes, with fencing tokens if they are wanted; the chosen subprotocol says what there is.
 
-    A server that refuses a handshake with subprotocols, and may do so because of them, is tried without. Raises
-    ValueError for a bad URL, Forbidden where the token or the target is refused, and Disconnected where no server
-    answers.
+    A server that refuses a handshake with subprotocols, and may do so because of them, is tried without. Whoever calls
+    sets a bound to how long that takes. Raises ValueError for a bad URL, Forbidden where the token or the target is
+    refused, and Disconnected where no server answers.
     """
     if options.opener is not None:
         return await options.opener(options)
@@ -100,11 +99,11 @@ async def open_socket(options: Options) -> Socket:
     except InvalidHandshake as error:
         if _has_other_reason(error):
             raise _explain(options, error) from error
-    except (InvalidURI, EOFError, OSError, asyncio.TimeoutError) as error:
+    except (InvalidURI, EOFError, OSError) as error:
         raise _explain(options, error) from error
     try:
         return await _connect(options, None)
-    except (InvalidHandshake, InvalidURI, EOFError, OSError, asyncio.TimeoutError) as error:
+    except (InvalidHandshake, InvalidURI, EOFError, OSError) as error:
         raise _explain(options, error) from error
 
 
@@ -133,13 +132,15 @@ async def _connect(options: Options, subprotocols: list[str] | None) -> Socket:
         words[_headers_word] = {"Authorization": f"Bearer {options.token}"}
     if options.ssl is not None:
         words["ssl"] = options.ssl
-    # The heartbeat of a connection stands in for the library's pings: only replies show that the service answers.
+    # The heartbeat of a connection stands in for the library's pings: only replies show that the service answers. The
+    # older interface's own timeout is asyncio.wait_for's, which on Python 3.11 loses a cancellation that comes as the
+    # handshake ends; and neither's is for more than one handshake.
     socket: Socket = await _opening(options)(
         subprotocols=subprotocols,
         compression=None,
         max_size=None,
         ping_interval=None,
-        open_timeout=options.open_timeout,
+        open_timeout=None,
         close_timeout=CLOSE_SECONDS,
         **words,
     )
@@ -202,8 +203,6 @@ def _explain(options: Options, error: Exception) -> Exception:
         return Disconnected(f"{server} has no room for a further client, or reaches no daemon (HTTP status {status})")
     if status is not None:
         return Disconnected(f"{server} does not speak WebSocket here (HTTP status {status})")
-    if isinstance(error, asyncio.TimeoutError):
-        return Disconnected(f"{server} did not answer in {options.open_timeout:g} seconds")
     if _is_cut(error):
         return Disconnected(f"{server} ended the connection before it answered")
     if isinstance(error, InvalidHandshake):
