@@ -4,7 +4,7 @@ use Rattle.std.specs.Prelude.{if◌then◌else◌}
 use Rattle.std.specs.List.{ends_with}
 use Rattle.std.specs.Str.Parse.{IsNumeral, digits_value}
 use Rattle.wl_daemon.specs.declared.epoch.EpochFault.{EpochFault}
-use Rattle.wl_daemon.specs.declared.epoch.EpochFault.TheVariants.{Unreadable, Wrong, Last, Unwritable, Memory}
+use Rattle.wl_daemon.specs.declared.epoch.EpochFault.TheVariants.{Unreadable, NoFile, Wrong, Last, Unwritable, Memory}
 
 -- a text without the LF that may stand at its end
 abbrev pub without_lf : List ℕ → List ℕ
@@ -30,5 +30,6 @@ IsEpochAfter text (Ok epoch) = (kept : ℕ) × Keeps text kept × (kept < 922337
 IsEpochAfter text (Err Last) = Keeps text 9223372036854775807
 IsEpochAfter text (Err Wrong) = KeepsNone text
 IsEpochAfter text (Err Unreadable) = ⊥
+IsEpochAfter text (Err NoFile) = ⊥
 IsEpochAfter text (Err Unwritable) = ⊥
 IsEpochAfter text (Err Memory) = ⊥
