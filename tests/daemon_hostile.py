@@ -11,6 +11,7 @@ import time
 from daemon_pushes import POLL, POLLED, asked, push, release, released, request
 from daemon_server import MEGABYTE, PING, PONG, PUSH, Daemon, framed, handshake, until_true, within
 from running import Wrong, expect
+from status_server import Shown
 
 # The bytes of a handshake at most.
 LONGEST_HANDSHAKE = 16384
@@ -78,13 +79,28 @@ def peer_that_does_not_read(program):
             within("its end", time.monotonic() - began, 0, 16)
 
 
+def peer_that_reads_slowly(program):
+    """That it takes what waits for it is a sign of life, though nothing else comes from it for seven times `--idle`."""
+    with Daemon(program, "--idle", "2") as daemon:
+        peer = daemon.opened(room=65536)
+        for n in range(200):
+            peer.ask(request(n, "n" * 1000 + str(n)))
+        # All of them are read at once, and their replies are more than the system keeps.
+        queries = range(70)
+        peer.sock.sendall(b"".join(framed('{"id":%d,"op":"query"}' % n) for n in queries))
+        for n in queries:
+            time.sleep(0.2)
+            expect("the id", json.loads(peer.get())["id"], n)
+
+
 def handshake_that_never_ends(program):
-    with Daemon(program, "--idle", "60") as daemon:
+    with Shown(program, "--idle", "60") as daemon:
         with socket.create_connection(("127.0.0.1", daemon.port), 30) as peer:
             peer.sendall(b"GET / HTTP/1.1\r\n")
             began = time.monotonic()
             expect("what comes", peer.recv(100), b"")
             within("its end", time.monotonic() - began, 10, 11)
+        expect_told(daemon, "late", ["ended: no handshake in time"])
 
 
 def handshake_byte_by_byte(program):
@@ -102,7 +118,7 @@ def handshake_byte_by_byte(program):
 
 
 def handshake_that_is_too_long(program):
-    with Daemon(program) as daemon:
+    with Shown(program) as daemon:
         with socket.create_connection(("127.0.0.1", daemon.port), 20) as peer:
             try:
                 peer.sendall(b"GET / HTTP/1.1\r\nX: " + b"x" * 40000)
@@ -110,16 +126,38 @@ def handshake_that_is_too_long(program):
                     raise Wrong("it was answered")
             except ConnectionError:
                 pass
+        expect_told(daemon, "no-handshake", ["refused: no WebSocket handshake"])
 
 
 def handshake_that_is_none(program):
-    with Daemon(program) as daemon:
+    with Shown(program) as daemon:
         with socket.create_connection(("127.0.0.1", daemon.port), 20) as peer:
             peer.sendall(b"\x16\x03\x01\x02\x00\x01\r\n\r\n")
             peer.shutdown(socket.SHUT_WR)
             while peer.recv(1000):
                 pass
         expect("another peer's status", daemon.peer().status, 101)
+        expect_told(daemon, "no-handshake", ["refused: no WebSocket handshake"])
+
+
+def leaves_before_its_handshake(program):
+    """As what only looks whether the port is open: the log has no line of it."""
+    with Shown(program) as daemon:
+        for sent in (b"", b"GET / HT"):
+            with socket.create_connection(("127.0.0.1", daemon.port), 20) as peer:
+                peer.sendall(sent)
+                peer.shutdown(socket.SHUT_WR)
+                expect("what comes", peer.recv(100), b"")
+        expect_told(daemon, "no-handshake", [])
+
+
+def expect_told(daemon, reason, lines):
+    """The refusals that the status counts for a reason are as many as the log has lines of connections, and these."""
+    counted = 'weblocks_handshakes_refused_total{reason="%s"} %d' % (reason, len(lines))
+    expect("what is counted", counted in daemon.get("/metrics").body.decode().splitlines(), True)
+    _, err = daemon.end()
+    told = [it.partition(" 127.0.0.1: ")[2] for it in err.splitlines() if " 127.0.0.1: " in it]
+    expect("what is told", told, lines)
 
 
 def longest_handshake(program):
@@ -279,6 +317,7 @@ def hostile_checks(program):
         ("a peer that answers pings stays", peer_that_answers_pings_stays),
         ("a daemon that was stopped", stopped_daemon),
         ("a peer that does not read", peer_that_does_not_read),
+        ("a peer that reads slowly", peer_that_reads_slowly),
         ("a peer that does not read its pushes", does_not_read_its_pushes),
         ("a peer that sends pings and does not read", pings_and_does_not_read),
         ("a peer that sends without end does not keep others waiting", floods),
@@ -290,5 +329,6 @@ def hostile_checks(program):
         ("a handshake that is too long", handshake_that_is_too_long),
         ("the longest handshake", longest_handshake),
         ("a handshake that is none", handshake_that_is_none),
+        ("a peer that leaves before its handshake", leaves_before_its_handshake),
     ]:
         yield name, lambda c=check: c(program)

@@ -19,8 +19,10 @@ pub struct Limits {
     pub handshake: u64,
     /// The silence after which a peer is pinged.
     pub ping_after: u64,
-    /// The silence after which a connection ends.
+    /// The silence after which a connection ends whose peer was pinged.
     pub end_after: u64,
+    /// The time that its peer has at least to answer the ping.
+    pub answer: u64,
     /// The time for which a connection that is closing is still read from.
     pub closing: u64,
     /// The bytes that are read from a connection that is closing.
@@ -29,15 +31,16 @@ pub struct Limits {
 
 impl Limits {
     /// The limits of a server that pings a peer after so many seconds of silence, and ends its connection after twice
-    /// as many.
+    /// as many, but no sooner behind the ping than after half as many.
     pub fn for_idle(seconds: u32) -> Limits
         ensures { result ≡ limits_for seconds }
     {
-        let idle = u64::from(seconds) * 1_000;
+        let seconds = u64::from(seconds);
         Limits {
             handshake: HANDSHAKE,
-            ping_after: idle,
-            end_after: idle * 2,
+            ping_after: seconds * 1_000,
+            end_after: seconds * 2_000,
+            answer: seconds * 500,
             closing: CLOSING,
             closing_bytes: CLOSING_BYTES,
         }

@@ -16,11 +16,11 @@ pub enum Liveness {
     },
     /// Messages may come and go.
     Open {
-        /// When bytes last came. Bytes that were sent are no sign of life: the system takes them for a peer that is
-        /// gone.
+        /// When bytes last came, or the peer took what there had been no room for. Else bytes that were sent are no sign
+        /// of life: the system takes them for a peer that is gone.
         heard: u64,
-        /// Whether a ping was sent since.
-        is_pinged: bool,
+        /// When its peer was pinged since, if it was.
+        pinged: Option<u64>,
     },
     /// All was sent that will be; what still comes is read and dropped, so that what was sent isn't lost by a reset.
     Closing {
@@ -52,11 +52,11 @@ impl Liveness {
     {
         *self = Liveness::Open {
             heard: now,
-            is_pinged: false,
+            pinged: None,
         };
     }
 
-    /// Bytes came. That counts for an open connection alone.
+    /// Bytes came, or another sign of life. That counts for an open connection alone.
     pub fn hear(&mut self, now: u64)
         ensures { self.new ≡ heard self.old now }
     {
@@ -66,11 +66,11 @@ impl Liveness {
     }
 
     /// A ping was sent.
-    pub fn ping(&mut self)
-        ensures { self.new ≡ after_ping self.old }
+    pub fn ping(&mut self, now: u64)
+        ensures { self.new ≡ after_ping self.old now }
     {
-        if let Liveness::Open { is_pinged, .. } = self {
-            *is_pinged = true;
+        if let Liveness::Open { pinged, .. } = self {
+            *pinged = Some(now);
         }
     }
 
@@ -107,9 +107,9 @@ impl Liveness {
             Liveness::Handshake { since } => Liveness::Handshake {
                 since: since.saturating_add(time),
             },
-            Liveness::Open { heard, is_pinged } => Liveness::Open {
+            Liveness::Open { heard, pinged } => Liveness::Open {
                 heard: heard.saturating_add(time),
-                is_pinged,
+                pinged: pinged.map(|at| at.saturating_add(time)),
             },
             Liveness::Closing { since, dropped } => Liveness::Closing {
                 since: since.saturating_add(time),
@@ -118,20 +118,21 @@ impl Liveness {
         };
     }
 
-    /// What is due now.
+    /// What is due, as far as all is known that came up to now. Whoever reads what came by turns, which may take long,
+    /// gives the time at which they began, and to `ping` the time at which the ping leaves.
     pub fn due(&self, now: u64, limits: &Limits) -> Due
         ensures { result ≡ due_of self.now now limits.now }
     {
         match *self {
             Liveness::Handshake { since } => end_if(now.saturating_sub(since) >= limits.handshake),
-            Liveness::Open { heard, is_pinged } => {
+            Liveness::Open { heard, pinged } => {
                 let silence = now.saturating_sub(heard);
-                if silence >= limits.end_after {
-                    Due::End
-                } else if !is_pinged && silence >= limits.ping_after {
-                    Due::Ping
-                } else {
-                    Due::Nothing
+                match pinged {
+                    None if silence >= limits.ping_after => Due::Ping,
+                    None => Due::Nothing,
+                    Some(at) => end_if(
+                        silence >= limits.end_after && now.saturating_sub(at) >= limits.answer,
+                    ),
                 }
             }
             Liveness::Closing { since, dropped } => end_if(

@@ -8,21 +8,21 @@ use Rattle.wl_liveness.specs.declared.liveness.Due.TheVariants.{Nothing, Ping, E
 use Rattle.wl_liveness.specs.declared.liveness.Liveness.{Liveness}
 
 module _ {C : Type 0} (liveness_of : C → Liveness) where
-  -- What is due is done. A connection whose peer can't be pinged ends, and one for which nothing is due is left as it
-  -- was.
-  abbrev pub Does : Due → C → Option C → Type 0
-  Does End old new = new ≡ None
-  Does Ping old new = IfSome new (λ one. liveness_of one ≡ after_ping (liveness_of old))
-  Does Nothing old new = new ≡ Some old
+  -- What is due is done, pings at the time that they are sent. A connection whose peer can't be pinged ends, and one for
+  -- which nothing is due is left as it was.
+  abbrev pub Does : Due → ℕ → C → Option C → Type 0
+  Does End sent old new = new ≡ None
+  Does Ping sent old new = IfSome new (λ one. liveness_of one ≡ after_ping (liveness_of old) sent)
+  Does Nothing sent old new = new ≡ Some old
 
   -- what is due for the connection of a key is done, and there is no other
-  abbrev pub Watched : ℕ → Limits → Option C → Option C → Type 0
-  Watched now limits None new = new ≡ None
-  Watched now limits (Some old) new = Does (due_of (liveness_of old) now limits) old new
+  abbrev pub Watched : ℕ → ℕ → Limits → Option C → Option C → Type 0
+  Watched now sent limits None new = new ≡ None
+  Watched now sent limits (Some old) new = Does (due_of (liveness_of old) now limits) sent old new
 
   -- at each key
-  abbrev pub EachWatched : ℕ → Limits → Slab C → Slab C → Type 0
-  EachWatched now limits old new = (key : ℕ) → Watched now limits (get old key) (get new key)
+  abbrev pub EachWatched : ℕ → ℕ → Limits → Slab C → Slab C → Type 0
+  EachWatched now sent limits old new = (key : ℕ) → Watched now sent limits (get old key) (get new key)
 
   -- the time counts for nothing at the connection of a key, if there is one, and there is no other
   abbrev pub Spared : ℕ → Option C → Option C → Type 0

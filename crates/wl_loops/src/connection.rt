@@ -205,6 +205,10 @@ impl<'a, R: Wait, H: Host> Connection<'a, R, H> {
                 self.host.note(Event::Refused(self.source, rejection));
                 Next::Ended
             }
+            Greeted::NoHandshake => {
+                self.host.note(Event::NoHandshake(self.source));
+                Next::Ended
+            }
             Greeted::Failed => Next::Ended,
         }
     }
@@ -240,6 +244,9 @@ impl<'a, R: Wait, H: Host> Connection<'a, R, H> {
         } else {
             talk.go_on(self.rt, &mut self.may_push)
         };
+        if talk.wire.stream().take_drained() {
+            self.liveness.hear(now);
+        }
         let came = talk.wire.byte_count();
         self.is_busy = came != self.came && now.saturating_sub(self.heard) <= BUSY;
         if came != self.came {
@@ -285,31 +292,34 @@ impl<'a, R: Wait, H: Host> Connection<'a, R, H> {
         self.liveness.spare(time);
     }
 
-    /// Pings a peer that is silent, and answers whether the connection is over.
-    pub fn watch(&mut self, now: u64, limits: &Limits) -> bool
+    /// Pings a peer that is silent, and answers whether the connection is over. All that came up to `now` is known, and
+    /// a ping leaves at `sent`.
+    pub fn watch(&mut self, now: u64, sent: u64, limits: &Limits) -> bool
         ensures over { due_of self.old.liveness now limits.now ≡ End → result ≡ true }
         ensures pinged { due_of self.old.liveness now limits.now ≡ Ping
-            → self.new.liveness ≡ after_ping self.old.liveness }
+            → self.new.liveness ≡ after_ping self.old.liveness sent }
         ensures kept { due_of self.old.liveness now limits.now ≡ Nothing → result ≡ false }
         ensures same { due_of self.old.liveness now limits.now ≡ Nothing → self.new ≡ self.old }
     {
         match self.liveness.due(now, limits) {
             Due::Nothing => false,
             Due::End => {
-                self.tell_silence();
+                self.tell_end();
                 true
             }
             Due::Ping => {
-                self.liveness.ping();
+                self.liveness.ping(sent);
                 self.stage.ping()
             }
         }
     }
 
-    /// Tells of a peer that was silent for too long. One of a connection that is closing was told of before.
-    fn tell_silence(&self) {
-        if !matches!(self.stage, Stage::Closing(_)) {
-            self.host.note(Event::Silent(self.source));
+    /// Tells of a connection whose time is over. One that is closing was told of before.
+    fn tell_end(&self) {
+        match self.stage {
+            Stage::Greeting(_) => self.host.note(Event::Late(self.source)),
+            Stage::Open(_) => self.host.note(Event::Silent(self.source)),
+            Stage::Closing(_) | Stage::Ended => {}
         }
     }
 

@@ -1,4 +1,4 @@
-//! A stream that may be corked.
+//! A stream that may be corked, and tells whether its peer reads on.
 
 ghost use Rattle.std.specs.Prelude.{◌≡◌};
 
@@ -11,8 +11,12 @@ use std::sync::atomic::{AtomicBool, Ordering};
 #[derive(Drop)]
 pub struct Corkable<S> {
     stream: S,
-    // Changed behind a `&`, which leaves what a socket over this stream is known to be.
+    // These are changed behind a `&`, which leaves what a socket over this stream is known to be.
     is_corked: AtomicBool,
+    // It took nothing more when it was written to last.
+    is_full: AtomicBool,
+    // It took something since, and that wasn't asked.
+    has_drained: AtomicBool,
 }
 
 impl<S> Corkable<S> {
@@ -23,6 +27,8 @@ impl<S> Corkable<S> {
         Corkable {
             stream,
             is_corked: AtomicBool::new(false),
+            is_full: AtomicBool::new(false),
+            has_drained: AtomicBool::new(false),
         }
     }
 
@@ -34,6 +40,29 @@ impl<S> Corkable<S> {
     /// From now on writes go to the stream again.
     pub fn uncork(&self) {
         self.is_corked.store(false, Ordering::SeqCst);
+    }
+
+    /// Whether the stream took something, since this was last asked, that it had no room for before. There is room again
+    /// only where the peer's system has taken what was sent, so that is a sign of life.
+    pub fn take_drained(&self) -> bool {
+        self.has_drained.load(Ordering::SeqCst) && self.has_drained.swap(false, Ordering::SeqCst)
+    }
+
+    /// Takes note of what came of a write.
+    fn hear_of(&self, written: &io::Result<usize>) {
+        match written {
+            Ok(_) => {
+                if self.is_full.load(Ordering::SeqCst) {
+                    self.is_full.store(false, Ordering::SeqCst);
+                    self.has_drained.store(true, Ordering::SeqCst);
+                }
+            }
+            Err(error) => {
+                if error.kind() == ErrorKind::WouldBlock {
+                    self.is_full.store(true, Ordering::SeqCst);
+                }
+            }
+        }
     }
 
     /// The stream, for what is asked of it beside reading and writing.
@@ -66,7 +95,9 @@ impl<S: Write> Write for Corkable<S> {
         if self.is_corked.load(Ordering::SeqCst) {
             return Err(io::Error::from(ErrorKind::WouldBlock));
         }
-        self.stream.write(buf)
+        let written = self.stream.write(buf);
+        self.hear_of(&written);
+        written
     }
 
     fn flush(&mut self) -> io::Result<()> {

@@ -1,10 +1,11 @@
 //! A loop, and the connections that it serves.
 
-ghost use Rattle.std.specs.Prelude.{◌≡◌, ◌-◌, ◌<◌, ◌≤◌};
+ghost use Rattle.std.specs.Prelude.{◌≡◌, ◌-◌, ◌<◌, ◌≤◌, ℕ};
 ghost use Rattle.wl_loops.specs.Sweeps.{EachWatched};
 
 mod moves;
 mod turns;
+mod waits;
 
 use crate::accepting::Acceptor;
 use crate::connection::{Connection, Next};
@@ -17,24 +18,22 @@ use crate::transport_listener::TransportListener;
 use mio::event::Event;
 use mio::{Events, Poll, Token};
 use slab::Slab;
-use std::io::ErrorKind;
+use std::io;
 use std::sync::Wait;
 use std::time::{Clock, Duration, Instant};
-use std::{io, mem};
 use wl_wire::Greeting;
 
 /// The events of one wait at most.
 const EVENTS: usize = 1_024;
+
+/// The waits of one round at most.
+const WAITS: usize = 64;
 
 /// The milliseconds between two looks at all connections.
 const SWEEP: u64 = 500;
 
 /// The milliseconds between two looks at the clock beyond which a loop was held up: it waits for `SWEEP` at most.
 const HELD_UP: u64 = 2_000;
-
-/// How often a loop that has a busy connection looks for events before it waits for them, where all others wait: for
-/// some 20 µs.
-const LOOKS: usize = 40;
 
 /// The streams, or the connections of other loops, that are taken in at once at most.
 const MOST_NEWCOMERS: usize = 65_536;
@@ -116,7 +115,7 @@ impl<'a, 'b, R: Wait + Clock, H: Host> EventLoop<'a, 'b, R, H> {
             self.wait(&mut events)?;
             self.begin_round();
             self.answer_beat();
-            self.take_events(&events);
+            self.take_events(&mut events)?;
             self.take_newcomers();
             // What is marked by now is mostly changes from other loops, and behind these turns what they changed here.
             self.take_marked(true);
@@ -128,75 +127,6 @@ impl<'a, 'b, R: Wait + Clock, H: Host> EventLoop<'a, 'b, R, H> {
             self.shared.wake_marked(self.number);
         }
         Ok(())
-    }
-
-    /// Waits until a stream is ready, or somebody wakes the loop, or it is time to look at all connections. Where a
-    /// connection is to have a turn it doesn't wait.
-    fn wait(&mut self, events: &mut Events) -> io::Result<()> {
-        if mem::replace(&mut self.is_busy, false) && self.finds_events(events)? {
-            return Ok(());
-        }
-        let timeout = self.fall_asleep();
-        self.shared.count_waiting();
-        let waited = self.poll_for(events, timeout);
-        self.shared.count_awake();
-        if let Some(inbox) = self.shared.inboxes.get(self.number) {
-            inbox.set_asleep(false);
-        }
-        waited
-    }
-
-    /// Whether a loop that has a busy connection finds events without a wait for them (busy polling). A thread that
-    /// waits is woken later than one that looks finds what came, and a peer that sends again at once sends nearly as
-    /// soon. While another loop is awake it doesn't look, so no more than one processor is ever used for that; and what
-    /// others gave it ends it.
-    fn finds_events(&mut self, events: &mut Events) -> io::Result<bool> {
-        for _ in 0..LOOKS {
-            if self.has_work() || !self.shared.others_wait() {
-                return Ok(false);
-            }
-            self.poll_for(events, Duration::ZERO)?;
-            if !events.is_empty() {
-                return Ok(true);
-            }
-        }
-        Ok(false)
-    }
-
-    /// Whether a connection is to have a turn, or something was given to this loop.
-    fn has_work(&self) -> bool {
-        if !self.queue.is_empty() || self.shared.is_rung(self.number) {
-            return true;
-        }
-        match self.shared.inboxes.get(self.number) {
-            Some(inbox) => inbox.has_newcomers(),
-            None => false,
-        }
-    }
-
-    /// Takes the events that there are, or else those that come within a time.
-    fn poll_for(&mut self, events: &mut Events, timeout: Duration) -> io::Result<()> {
-        match self.poll.poll(events, Some(timeout)) {
-            Err(error) if error.kind() != ErrorKind::Interrupted => Err(error),
-            _ => Ok(()),
-        }
-    }
-
-    /// Says that this loop sleeps, if it has nothing to do, and answers for how long it may.
-    fn fall_asleep(&self) -> Duration {
-        if !self.queue.is_empty() {
-            return Duration::ZERO;
-        }
-        let Some(inbox) = self.shared.inboxes.get(self.number) else {
-            return Duration::from_millis(SWEEP);
-        };
-        inbox.set_asleep(true);
-        // The last look, which `Inbox` speaks of.
-        if self.has_work() {
-            Duration::ZERO
-        } else {
-            Duration::from_millis(SWEEP)
-        }
     }
 
     /// A wait has ended, and a round of turns begins.
@@ -211,17 +141,22 @@ impl<'a, 'b, R: Wait + Clock, H: Host> EventLoop<'a, 'b, R, H> {
     /// give looks between them: else it would take the time of its own work for such a time, and a peer that vanished
     /// would be kept the longer the more others send.
     fn look_at_clock(&mut self) {
-        let Ok(now) = Instant::now(self.rt) else {
-            return;
-        };
         let before = self.looked;
-        self.looked = millis(now.duration_since(self.start));
+        self.looked = self.read_clock();
         let time = self.looked.saturating_sub(before);
         if time > HELD_UP {
             let spared = time - SWEEP;
             spare_all(&mut self.served, spared);
             // Whoever is heard of in what is left of this round isn't older than who was spared.
             self.now = self.now.saturating_add(spared);
+        }
+    }
+
+    /// The milliseconds since the start, or those of the last look where the system has no clock.
+    fn read_clock(&self) -> u64 {
+        match Instant::now(self.rt) {
+            Ok(now) => millis(now.duration_since(self.start)),
+            Err(_) => self.looked,
         }
     }
 
@@ -232,8 +167,20 @@ impl<'a, 'b, R: Wait + Clock, H: Host> EventLoop<'a, 'b, R, H> {
         }
     }
 
-    /// Takes note of what is ready.
-    fn take_events(&mut self, events: &Events) {
+    /// Takes note of all that is ready: where a wait told of as much as it can, there may be more.
+    fn take_events(&mut self, events: &mut Events) -> io::Result<()> {
+        for _ in 0..WAITS {
+            self.note_events(events);
+            if events.iter().count() < EVENTS {
+                return Ok(());
+            }
+            self.poll_for(events, Duration::ZERO)?;
+        }
+        Ok(())
+    }
+
+    /// Takes note of what these tell.
+    fn note_events(&mut self, events: &Events) {
         for event in events {
             match event.token().0 {
                 // What it was woken for stands elsewhere.
@@ -344,22 +291,25 @@ impl<'a, 'b, R: Wait + Clock, H: Host> EventLoop<'a, 'b, R, H> {
         }
     }
 
-    /// Looks at all connections, if it is time to: silent peers are pinged, and those that are over end.
+    /// Looks at all connections, if it is time to: silent peers are pinged, and those that are over end. What came up
+    /// to the last wait was read in the turns since, which may have taken long: so a ping leaves later than that.
     fn sweep_in_time(&mut self)
-        ensures late { 500 ≤ self.old.now - self.old.swept → EachWatched (λ one. one.connection.liveness) self.old.now
-            (H.held_to self.old.shared.now.host) self.old.served self.new.served }
+        ensures late { 500 ≤ self.old.now - self.old.swept → (sent : ℕ) × EachWatched (λ one. one.connection.liveness)
+            self.old.now sent (H.held_to self.old.shared.now.host) self.old.served self.new.served }
         ensures soon { self.old.now - self.old.swept < 500 → self.new.served ≡ self.old.served }
     {
         if self.now.saturating_sub(self.swept) < SWEEP {
             return;
         }
         self.swept = self.now;
+        let sent = self.read_clock();
         watch_all(
             self.rt,
             self.shared,
             self.number,
             &mut self.served,
             self.now,
+            sent,
         );
         self.accept_all();
         // Those for which there was no memory are looked at once more.

@@ -47,7 +47,11 @@ pub enum Event {
     Dropped(Source),
     /// A connection is closed by the server, or was broken.
     Closed(Source, Ending),
-    /// A connection ended because nothing came for too long.
+    /// A connection ended because what came was no handshake, or too long for one.
+    NoHandshake(Source),
+    /// A connection ended because its handshake took too long.
+    Late(Source),
+    /// An open connection ended because nothing came for too long.
     Silent(Source),
     /// A connection goes to the loop of this number, where those are served that it hands over to.
     Moved(Source, usize),

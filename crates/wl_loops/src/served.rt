@@ -18,19 +18,21 @@ pub(crate) struct Served<'a, R: Wait, H: Host> {
     pub hold: Hold,
 }
 
-/// Looks at all connections: silent peers are pinged, and those that are over end and give their places back.
+/// Looks at all connections: silent peers are pinged, and those that are over end and give their places back. All that
+/// came up to `now` is known, and pings leave at `sent`.
 pub(crate) fn watch_all<'a, R: Wait, H: Host>(
     rt: &R,
     shared: &Shared<H>,
     event_loop: usize,
     served: &mut Slab<Served<'a, R, H>>,
     now: u64,
+    sent: u64,
 )
-    ensures { EachWatched (λ one. one.connection.liveness) now (H.held_to shared.now.host) served.old served.new }
+    ensures { EachWatched (λ one. one.connection.liveness) now sent (H.held_to shared.now.host) served.old served.new }
 {
     let limits = *shared.host.limits();
     for key in 0..served.capacity() {
-        if let Some(hold) = watch_one(served, key, now, &limits) {
+        if let Some(hold) = watch_one(served, key, now, sent, &limits) {
             shared.leave(rt, event_loop, hold);
         }
     }
@@ -41,14 +43,15 @@ fn watch_one<'a, R: Wait, H: Host>(
     served: &mut Slab<Served<'a, R, H>>,
     key: usize,
     now: u64,
+    sent: u64,
     limits: &Limits,
 ) -> Option<Hold>
-    ensures watched { Watched (λ one. one.connection.liveness) now limits.now (get served.old key)
+    ensures watched { Watched (λ one. one.connection.liveness) now sent limits.now (get served.old key)
         (get served.new key) }
     ensures others { (other : ℕ) → other ≢ key → get served.new other ≡ get served.old other }
 {
     let is_over = match served.get_mut(key) {
-        Some(one) => one.connection.watch(now, limits),
+        Some(one) => one.connection.watch(now, sent, limits),
         None => false,
     };
     if !is_over {
