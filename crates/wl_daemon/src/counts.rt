@@ -6,8 +6,8 @@ use std::sync::atomic::{AtomicU64, Ordering};
 use wl_admission::Rejection;
 use wl_types::Memory;
 
-/// The reasons for which a handshake is refused, and last that of a connection that was dropped without a word.
-pub const REASONS: [&str; 10] = [
+/// The reasons for which a handshake is refused, and last those for which a connection ends before there was one.
+pub const REASONS: [&str; 12] = [
     "bad-header",
     "bad-target",
     "several-origins",
@@ -18,6 +18,8 @@ pub const REASONS: [&str; 10] = [
     "no-place",
     "memory",
     "dropped",
+    "no-handshake",
+    "late",
 ];
 
 /// The place of a rejection among the reasons.
@@ -35,8 +37,14 @@ fn place_of(rejection: Rejection) -> usize {
     }
 }
 
-/// The place of those that were dropped.
+/// The place of those that were dropped without a word.
 const DROPPED: usize = 9;
+
+/// That of those from which something else came.
+const NO_HANDSHAKE: usize = 10;
+
+/// That of those from which none came in time.
+const LATE: usize = 11;
 
 /// A number that only grows. Whoever adds is mostly one thread, so that its cache line stays where it is.
 #[derive(Drop)]
@@ -119,6 +127,16 @@ impl Refused {
     /// A connection was closed without an answer.
     pub fn drop_one(&self) {
         self.by_reason.add(DROPPED);
+    }
+
+    /// What came over a connection was no handshake.
+    pub fn hear_none(&self) {
+        self.by_reason.add(NO_HANDSHAKE);
+    }
+
+    /// No handshake came in time.
+    pub fn wait_in_vain(&self) {
+        self.by_reason.add(LATE);
     }
 }
 

@@ -50,6 +50,8 @@ impl<'a, L: Log> Host for Hall<'a, L> {
         match event {
             Event::Refused(_, rejection) => self.refused.refuse(rejection),
             Event::Dropped(_) => self.refused.drop_one(),
+            Event::NoHandshake(_) => self.refused.hear_none(),
+            Event::Late(_) => self.refused.wait_in_vain(),
             _ => {}
         }
         tell_log(self.log, event);

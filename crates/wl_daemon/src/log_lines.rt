@@ -29,6 +29,10 @@ pub fn tell_log<L: Log>(log: &L, event: Event) {
         }
         Event::Dropped(source) => info!(log; "{}: dropped: no place", Sender(source)),
         Event::Closed(source, ending) => tell_ending(log, source, ending),
+        Event::NoHandshake(source) => {
+            info!(log; "{}: refused: no WebSocket handshake", Sender(source));
+        }
+        Event::Late(source) => info!(log; "{}: ended: no handshake in time", Sender(source)),
         Event::Silent(source) => info!(log; "{}: ended: silent for too long", Sender(source)),
         Event::Moved(source, to) => debug!(log; "{}: moved to loop {to}", Sender(source)),
         Event::CannotAccept(fault) => tell_hindrance(log, fault),

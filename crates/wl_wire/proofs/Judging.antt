@@ -1,5 +1,6 @@
 -- What comes of a handshake, by what comes of its headers' values.
-use Rattle.std.proofs.Common.{◌≡◌, ℕ, List, [], Option, None, Some, IfSome, codes, option_map, subst, Result, Ok, Err, refl}
+use Rattle.std.proofs.Common.{◌≡◌, ℕ, List, [], codes, refl, subst}
+use Rattle.std.proofs.Common.{Option, None, Some, IfSome, option_map, Result, Ok, Err}
 use Rattle.http_header.specs.FieldValue.{FieldValue}
 use Rattle.http_header.specs.HeaderMap.{Entries}
 use Rattle.wl_admission.specs.Handshakes.{Answers, terms_for, terms_of}
@@ -32,8 +33,8 @@ module _ (rules : Rules) (target : List ℕ) (headers : Entries FieldValue) wher
       in
       let with_origins = subst (λ os. terms os authorizations subprotocols) o answers in
       let with_tokens = subst (λ ts. terms (values_of headers (codes "origin")) ts subprotocols) a with_origins in
-      own result (subst (λ ss. terms (values_of headers (codes "origin")) (values_of headers (codes "authorization")) ss)
-      s with_tokens)
+      own result (subst (λ ss. terms (values_of headers (codes "origin"))
+      (values_of headers (codes "authorization")) ss) s with_tokens)
 
 -- whatever the rules, a handshake may be refused for want of memory
 pub refused_for_memory : {X : Type 0} (rules_at : X → Rules) (headers : Entries FieldValue) (there : Option X)

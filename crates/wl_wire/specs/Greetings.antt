@@ -30,12 +30,14 @@ terms_in rules target headers =
 -- that comes of it, unless one of these headers is no text, or memory ran out
 abbrev pub Judges : Rules → List ℕ → Entries FieldValue → Result Admitted Rejection → Type 0
 Judges rules target headers (Ok admitted) = terms_in rules target headers ≡ Ok (terms_for admitted)
-Judges rules target headers (Err reason) = reason ≢ BadHeader → reason ≢ Memory → terms_in rules target headers ≡ Err reason
+Judges rules target headers (Err reason) = reason ≢ BadHeader → reason ≢ Memory
+    → terms_in rules target headers ≡ Err reason
 
 -- an answer's headers, once it says which subprotocol is selected: RFC 6455, section 4.2.2
 abbrev pub selecting : Option Subprotocol → Entries FieldValue → Entries FieldValue
 selecting None headers = headers
-selecting (Some subprotocol) headers = insert headers (codes "sec-websocket-protocol") (plain_value (name_of subprotocol))
+selecting (Some subprotocol) headers =
+    insert headers (codes "sec-websocket-protocol") (plain_value (name_of subprotocol))
 
 -- A handshake with these headers is admitted by its target, and the answer, which had these headers before, says which
 -- subprotocol is selected.

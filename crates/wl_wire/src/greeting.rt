@@ -8,11 +8,11 @@ use crate::greeter::Greeter;
 use crate::targeted::Targeted;
 use crate::wire::Wire;
 use std::alloc::{AllocError, Global};
-use std::io::{Read, Write};
+use std::io::{ErrorKind, Read, Write};
 use std::sync::{Arc, OnceLock};
 use tungstenite::handshake::HandshakeError;
 use tungstenite::handshake::server::{ServerHandshake, start};
-use tungstenite::{MidHandshake, NoMask, Role, WebSocket, WebSocketConfig};
+use tungstenite::{Error, MidHandshake, NoMask, Role, WebSocket, WebSocketConfig};
 use wl_admission::{Admitted, Rejection, Rules};
 
 /// The bytes of a handshake at most.
@@ -44,7 +44,9 @@ pub enum Greeted<S: Read + Write + Drop> {
     Open(Wire<S>, Admitted),
     /// It was refused, and the peer was told so.
     Refused(Rejection),
-    /// It was none, or the stream failed.
+    /// What came was no handshake, or too long for one. The peer wasn't told.
+    NoHandshake,
+    /// The stream failed or ended before it was done, or there was no memory for it.
     Failed,
 }
 
@@ -102,11 +104,22 @@ impl<S: Read + Write + Drop> Greeting<S> {
                 handshake,
                 verdict,
             }),
-            Err(HandshakeError::Failure(_)) => match verdict_of(verdict) {
+            Err(HandshakeError::Failure(error)) => match verdict_of(verdict) {
                 Some(Err(rejection)) => Greeted::Refused(rejection),
+                None if is_no_handshake(&error) => Greeted::NoHandshake,
                 _ => Greeted::Failed,
             },
         }
+    }
+}
+
+/// Whether a handshake that no verdict was given on failed by what its peer sent. `Counted` has a read fail that would
+/// go beyond its limit.
+fn is_no_handshake(error: &Error) -> bool {
+    match error {
+        Error::Io(error) => error.kind() == ErrorKind::FileTooLarge,
+        Error::HandshakeIncomplete | Error::OutOfMemory => false,
+        _ => true,
     }
 }
 

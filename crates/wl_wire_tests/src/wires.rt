@@ -90,6 +90,7 @@ fn show_greeted(greeted: &Greeted<Script>) -> &'static str {
         Greeted::Open(_, admitted) if admitted.is_pushed() => PUSHED,
         Greeted::Open(_, _) => OPEN,
         Greeted::Refused(rejection) => rejection.text(),
+        Greeted::NoHandshake => "no handshake",
         Greeted::Failed => "failed",
     }
 }
@@ -139,9 +140,9 @@ const LISTS: &[&str] = &[
     // Handshakes.
     "wait -> waits
 hello wait -> waits waits waits waits 1:
-x -> failed
+x -> no handshake
 head=16384 a -> waits waits waits waits 1: a
-head=16385 a -> failed
+head=16385 a -> no handshake
 origins -> more than one Origin header
 latin -> a header that is no text
 target=/?origin=http%3A%2F%2Fb.test a -> waits waits waits waits 1: a
