@@ -90,7 +90,7 @@ def allowed_origins(program):
 
 
 def all_origins_allowed(program):
-    with Daemon(program, "--allow-origin", "*") as daemon:
+    with Daemon(program, "--allow-origin", "https://b.test", "--allow-origin", "*") as daemon:
         for page in ["https://b.test", "null"]:
             expect(f"whether {page} may", may(daemon, "https://a.test/", origin(page)), True)
 
@@ -111,6 +111,15 @@ def write(path, text, mode=0o600):
         file.write(text if isinstance(text, bytes) else text.encode())
     os.chmod(path + ".new", mode)
     os.replace(path + ".new", path)
+
+
+def rewrite(path, text):
+    """Other bytes in the same file, of which its size and its time tell nothing."""
+    before = os.stat(path)
+    with open(path, "r+") as file:
+        file.write(text)
+    os.utime(path, ns=(before.st_atime_ns, before.st_mtime_ns))
+    expect("its size", os.stat(path).st_size, before.st_size)
 
 
 def tokens(program):
@@ -147,15 +156,17 @@ def tokens_are_read_again(program):
             until_true("the new token is one", lambda: daemon.peer(bearer("two")).status == 101, 12)
             expect("the old one", daemon.peer(bearer("one")).status, 401)
             expect("who came in by it stays", there.ask(open_of("https://a.test/")), OPENED)
+            rewrite(path, "six\n")
+            until_true("one in its place is one", lambda: daemon.peer(bearer("six")).status == 101, 12)
             write(path, "three\n(no token)\n")
             time.sleep(7)
-            expect("after a bad line the token stays", daemon.peer(bearer("two")).status, 101)
+            expect("after a bad line the token stays", daemon.peer(bearer("six")).status, 101)
             write(path, "four\n", 0o644)
             time.sleep(7)
-            expect("where others may read it the token stays", daemon.peer(bearer("two")).status, 101)
+            expect("where others may read it the token stays", daemon.peer(bearer("six")).status, 101)
             os.remove(path)
             time.sleep(7)
-            expect("without the file the token stays", daemon.peer(bearer("two")).status, 101)
+            expect("without the file the token stays", daemon.peer(bearer("six")).status, 101)
             _, log = daemon.end()
             for line in ["read again", "line 2: not a token", "others", "cannot be read"]:
                 expect(f"whether the log says {line!r}", line in log, True)
@@ -229,7 +240,9 @@ def another_version_of_ip(program):
 
 def bad_origins(program):
     for value in ["nonsense", "data:,x", "null"]:
-        refused(program, ["--listen", "127.0.0.1:0", "--allow-origin", value], f"not an origin: {value}")
+        for all_of_them in ([], ["--allow-origin", "*"]):
+            words = ["--listen", "127.0.0.1:0", *all_of_them, "--allow-origin", value]
+            refused(program, words, f"not an origin: {value}")
 
 
 def port_is_taken(program):

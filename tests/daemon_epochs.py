@@ -87,6 +87,12 @@ def files_that_cannot_be(program):
         os.mkfifo(path + ".pipe")
         for other in [os.path.dirname(path), path + ".pipe", "/dev/zero"]:
             refused(program, [*ANYWHERE, "--epoch-file", other], "weblocks: epoch file: not a regular file")
+    with epoch_file(b"5\n") as path:
+        # A new file would take the link's place, and not that of what it leads to.
+        os.symlink(path, path + ".link")
+        refused(program, [*ANYWHERE, "--epoch-file", path + ".link"], "weblocks: epoch file: not a regular file")
+        expect("whether the link is there", os.path.islink(path + ".link"), True)
+        expect("the file", content(path), b"5\n")
     with epoch_file(b"0" * 4_096) as path:
         with Daemon(program, "--epoch-file", path):
             expect("what the file has", content(path), b"1\n")

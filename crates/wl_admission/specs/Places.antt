@@ -1,6 +1,7 @@
 -- How many may be connected at once (own). What a subnet of IPv6 is, and which of its addresses stands for one of IPv4,
 -- are RFC 4291's (sections 2.5.1 and 2.5.5.2).
-use Rattle.std.specs.Prelude.{◌≡◌, ◌≢◌, ◌↔◌, IsTrue, ℕ, ◌-◌, ◌%◌, ◌^◌, nat_lt, ◌&&◌, Bool, true, unwrap_or, if◌then◌else◌}
+use Rattle.std.specs.Prelude.{◌≡◌, ◌≢◌, ◌↔◌, IsTrue, Bool, true, ◌&&◌, if◌then◌else◌, unwrap_or}
+use Rattle.std.specs.Prelude.{ℕ, ◌-◌, ◌%◌, ◌^◌, nat_lt}
 use Rattle.std.specs.BTreeMap.{get}
 use Rattle.std.specs.Int.{w128, from_be_bytes}
 use Rattle.std.specs.Net.Addr.{IsLoopbackV4, IsLoopbackV6, MatchIp, embedded_segments, ipv6_bits, octets_of}
@@ -25,8 +26,8 @@ IsSourceOf address source = (ip : IpAddr) × IsCanonical address ip × IsNumberO
 abbrev pub unix_peers : Source
 unix_peers = record { number = 0; is_loopback = true }
 
--- The first address of a source's subnet, which has the same first 64 bits. The addresses that begin with 64 zeros stand
--- for themselves: those of IPv4, and those of this machine.
+-- The first address of a source's subnet, which has the same first 64 bits. The addresses that begin with 64 zeros
+-- stand for themselves: those of IPv4, and those of this machine.
 abbrev pub subnet_of : Source → ℕ
 subnet_of source = if nat_lt source.number (2 ^ 64) then source.number else source.number - source.number % 2 ^ 64
 

@@ -1,15 +1,15 @@
 //! Who may come in, by the words of the command line.
 
-ghost use Rattle.std.specs.Prelude.{◌≡◌, ◌||◌, false, is_some, Err, None, Some, map, IfOk, OnOk};
+ghost use Rattle.std.specs.Prelude.{◌≡◌, ◌||◌, false, is_some, Err, None, Some, filter, map, IfOk, OnOk};
 ghost use Rattle.std.specs.List.{All, list_any};
 ghost use Rattle.wl_admission.specs.Loopback.{IsOfThisMachine};
 ghost use Rattle.wl_admission.specs.Scopes.{reach_of};
 ghost use Rattle.wl_admission.specs.Tokens.{origins_of};
 ghost use Rattle.wl_daemon.specs.declared.entry.EntryFault.TheVariants.{BadOrigin};
-ghost use Rattle.wl_daemon.specs.Entry.{is_star, places_for, trusted_reach};
+ghost use Rattle.wl_daemon.specs.Entry.{is_named, is_star, places_for, trusted_reach};
 
 use crate::token_file::{FileFault, TokenFile};
-use std::alloc::Global;
+use std::alloc::{AllocError, Global};
 use std::fs::Files;
 use std::net::SocketAddr;
 use thiserror::Error;
@@ -51,18 +51,33 @@ pub fn places_for(connections: u32, per_address: Option<u32>) -> PlaceLimits
     }
 }
 
-/// The scope of pages of these origins: `*` stands for all.
+/// The scope of pages of these origins: `*` stands for all. What stands beside it has to be an origin too.
 pub fn trusted_scope<'a>(alloc: Global, origins: &[&'a str]) -> Result<Scope, EntryFault<'a>>
     ensures made { IfOk result (λ scope. trusted_reach (map (λ o. o.now) origins.now) ≡ Some (reach_of scope)) }
     ensures bad { (text : _) → result ≡ Err (BadOrigin text) → trusted_reach (map (λ o. o.now) origins.now) ≡ None }
 {
-    if are_all(origins) {
-        return Ok(Scope::All);
+    let Ok(named) = named_in(alloc, origins) else {
+        return Err(EntryFault::Memory);
+    };
+    let keys = keys_of(alloc, named.as_slice())?;
+    Ok(if are_all(origins) {
+        Scope::All
+    } else {
+        Scope::Only(keys)
+    })
+}
+
+/// Those of these texts that name an origin.
+fn named_in<'a>(alloc: Global, texts: &[&'a str]) -> Result<Vec<&'a str>, AllocError>
+    ensures { IfOk result (λ named. map (λ t. t.now) named.items ≡ filter is_named (map (λ t. t.now) texts.now)) }
+{
+    let mut named = Vec::new(alloc);
+    for text in texts {
+        if *text != "*" {
+            named.push(*text)?;
+        }
     }
-    match keys_of(alloc, origins) {
-        Ok(keys) => Ok(Scope::Only(keys)),
-        Err(fault) => Err(fault),
-    }
+    Ok(named)
 }
 
 /// Whether one of these texts stands for all origins.

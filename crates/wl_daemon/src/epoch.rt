@@ -22,7 +22,7 @@ const LONGEST: u64 = 4_096;
 pub enum EpochFault {
     #[error("cannot be read")]
     Unreadable,
-    /// As a pipe, which would be waited for.
+    /// As a pipe, which would be waited for, or a symbolic link, in whose place a file would be put.
     #[error("not a regular file")]
     NoFile,
     #[error("not a number from 0 to 9223372036854775807")]
@@ -114,7 +114,7 @@ where
 
 /// The epoch behind that of this file, or the first where there is no file.
 fn read_next<R: Files + AllocGlobal>(rt: &R, path: &str) -> Result<u64, EpochFault> {
-    match fs::metadata(rt, path) {
+    match fs::symlink_metadata(rt, path) {
         Ok(metadata) if !metadata.is_file() => return Err(EpochFault::NoFile),
         Ok(metadata) if metadata.len() > LONGEST => return Err(EpochFault::Wrong),
         _ => {}

@@ -42,6 +42,8 @@ impl FileFault {
 struct Mark {
     node: u64,
     size: u64,
+    // When its bytes or its mode last changed, as the system knows it (ctime): a copy that keeps the time of the original,
+    // or a rewrite that sets it back, changes this all the same.
     seconds: i64,
     nanoseconds: i64,
     mode: u32,
@@ -59,8 +61,8 @@ fn mark_of(metadata: &Metadata) -> Mark {
     Mark {
         node: metadata.ino(),
         size: metadata.len(),
-        seconds: metadata.mtime(),
-        nanoseconds: metadata.mtime_nsec(),
+        seconds: metadata.ctime(),
+        nanoseconds: metadata.ctime_nsec(),
         mode: metadata.permissions().mode(),
     }
 }
