@@ -11,6 +11,7 @@ from running import Wrong, expect
 from status_server import Answer, Shown, expect_status, read_all
 
 READING = 10
+PLACES = 16
 PTRACE_DETACH, PTRACE_SEIZE, PTRACE_INTERRUPT = 17, 0x4206, 0x4207
 ANY_THREAD = 0x40000000
 
@@ -66,17 +67,41 @@ def endless_stream(program):
 
 
 def many_clients(program):
-    """Silent connections take all places for 10 seconds, and then others are answered. The daemon itself goes on."""
+    """Connections that ask for nothing have all places, and lose them to others: these don't wait for 10 seconds."""
     with Shown(program) as daemon:
-        silent = [daemon.connect() for _ in range(20)]
+        silent = [daemon.connect() for _ in range(40)]
         expect("a reply", daemon.peer().ask(open_of("https://a.test/")), OPENED)
         begun = time.monotonic()
-        with daemon.connect(5 * READING) as sock:
-            sock.sendall(f"GET /health HTTP/1.1\r\nHost: {daemon.local()}\r\nConnection: close\r\n\r\n".encode())
-            expect("the status", Answer(read_all(sock)).status, 200)
-        expect("whether it came in time", time.monotonic() - begun < 2 * READING + SLACK, True)
+        for _ in range(3):
+            expect_status(daemon, 200)
+        expect("whether they came in time", time.monotonic() - begun < READING - 2, True)
         for sock in silent:
             sock.close()
+
+
+def many_viewers(program):
+    """As many as there are places ask now and then, as the page does, and have a place between their questions: others
+    are answered beside them, and who has lost its place connects again, as browsers do."""
+    with Shown(program) as daemon:
+        request = f"GET /locks HTTP/1.1\r\nHost: {daemon.local()}\r\n\r\n".encode()
+        viewers = [daemon.connect() for _ in range(PLACES)]
+        begun, lost = time.monotonic(), 0
+        for _ in range(4):
+            for place, viewer in enumerate(viewers):
+                try:
+                    viewer.sendall(request)
+                    came = viewer.recv(65536)
+                except ConnectionError:
+                    came = b""
+                if not came:
+                    lost += 1
+                    viewers[place] = daemon.connect()
+            expect_status(daemon, 200)
+            time.sleep(0.5)
+        expect("whether others had places of theirs", lost > 0, True)
+        expect("whether all went on", time.monotonic() - begun < READING - 2, True)
+        for viewer in viewers:
+            viewer.close()
 
 
 def one_connection(program):
@@ -156,6 +181,7 @@ def status_client_checks(program):
         ("a head without an end", endless_head),
         ("a client that sends without an end", endless_stream),
         ("silent clients of the status", many_clients),
+        ("viewers of the status", many_viewers),
         ("requests on one connection", one_connection),
         ("broken requests", broken_requests),
         ("a daemon ends with clients of its status", end_with_clients),

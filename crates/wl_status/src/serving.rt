@@ -17,7 +17,8 @@ use std::sync::Wait;
 use std::sync::atomic::{AtomicBool, Ordering};
 use std::time::{Clock, Duration, Instant};
 
-/// The connections at once. Further ones wait until one of these ends.
+/// The connections at once. A further one has the place of the one of which a request is awaited the longest, or waits
+/// while there is none.
 const MOST: usize = 16;
 
 /// The milliseconds between two looks at all connections.
@@ -112,14 +113,14 @@ impl StatusServer {
                 return Ok(());
             }
             let now = millis(Instant::now(rt)?.duration_since(start));
-            self.accept(rt, &mut visitors, now);
+            let may_be_more = self.accept(rt, &mut visitors, now);
             let mut answerer = Answerer {
                 alloc,
                 rt,
                 admission: &self.admission,
                 overview,
             };
-            is_busy = take_turns(&mut visitors, &mut answerer, now);
+            is_busy = take_turns(&mut visitors, &mut answerer, now) || may_be_more;
         }
         Ok(())
     }
@@ -138,20 +139,25 @@ impl StatusServer {
         }
     }
 
-    /// Takes in who waits, as far as there are places. Where memory or file descriptors run out, it goes on at the next
-    /// look.
-    fn accept<R>(&self, rt: &R, visitors: &mut Vec<Option<Visitor>>, now: u64)
+    /// Takes in who waits, as far as there are places, and answers whether more may wait. Nobody loses its place before
+    /// it had a turn: so these are no more than there are places. Where memory or file descriptors run out, it goes on at
+    /// the next look.
+    fn accept<R>(&self, rt: &R, visitors: &mut Vec<Option<Visitor>>, now: u64) -> bool
     where
         R: RandomSource + AllocGlobal,
     {
-        for (place, seat) in visitors.iter_mut().enumerate() {
-            if seat.is_none() {
-                match self.visitor(rt, place, now) {
-                    Ok(visitor) => *seat = Some(visitor),
-                    Err(_) => return,
-                }
+        for _ in 0..MOST {
+            let Some(place) = place_for_next(visitors, now) else {
+                return false;
+            };
+            let Ok(visitor) = self.visitor(rt, place, now) else {
+                return false;
+            };
+            if let Some(seat) = visitors.get_mut(place) {
+                *seat = Some(visitor);
             }
         }
+        true
     }
 
     /// Accepts a connection for this place.
@@ -175,6 +181,25 @@ fn empty_places(alloc: Global) -> Result<Vec<Option<Visitor>>, AllocError> {
         places.push(None)?;
     }
     Ok(places)
+}
+
+/// The place of whoever comes next, if there is one for it.
+fn place_for_next(visitors: &[Option<Visitor>], now: u64) -> Option<usize> {
+    let mut found = None;
+    let mut longest = u64::MAX;
+    for (place, seat) in visitors.iter().enumerate() {
+        let since = match seat {
+            None => return Some(place),
+            Some(visitor) => visitor.is_idle_since(now),
+        };
+        if let Some(since) = since {
+            if since < longest {
+                longest = since;
+                found = Some(place);
+            }
+        }
+    }
+    found
 }
 
 /// Each connection has a turn. Answers whether there is more to do at once.

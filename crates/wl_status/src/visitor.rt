@@ -10,6 +10,9 @@ use std::net::Shutdown;
 /// The milliseconds in which a request has to come, from when the connection began or the answer before it had left.
 const READING: u64 = 10_000;
 
+/// The milliseconds without a request after which it may be let go for another.
+const PATIENCE: u64 = 100;
+
 /// The milliseconds in which an answer has to leave.
 const WRITING: u64 = 30_000;
 
@@ -63,6 +66,13 @@ impl Visitor {
             deadline: now.saturating_add(READING),
             is_leaving: false,
         }
+    }
+
+    /// Since when it has been waited for a request, where that is long enough for another to have its place.
+    pub fn is_idle_since(&self, now: u64) -> Option<u64> {
+        let since = self.deadline.saturating_sub(READING);
+        let is_awaited = !self.is_leaving && !self.http.wants_write();
+        (is_awaited && now.saturating_sub(since) >= PATIENCE).then_some(since)
     }
 
     /// Goes on until the stream blocks, or others are to have a turn.
