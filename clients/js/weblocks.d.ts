@@ -25,7 +25,7 @@ export interface ConnectOptions {
   bucket?: string | undefined;
   /** What the server knows its clients by, where it wants that. */
   token?: string | undefined;
-  /** Milliseconds between two signs of life, and how long one may stay out: 10,000 unless given. */
+  /** Milliseconds between two signs of life, and how long one, or a handshake, may stay out: 10,000 unless given. */
   heartbeat?: number | undefined;
   /** Milliseconds between two polls while requests wait, where the server doesn't push: 50 unless given. */
   poll?: number | undefined;
@@ -92,9 +92,21 @@ export class LostEvent extends Event {
   readonly reason: DOMException;
 }
 
+/** An event `"stalled"`. */
+export class StalledEvent extends Event {
+  private constructor();
+  /** Why there is no further connection: what `connect` would reject with. */
+  readonly reason: Error;
+}
+
 export interface LockManagerEventMap {
   /** The connection was lost, and with it the locks that were held. */
   lost: LostEvent;
+  /**
+   * A try for a further connection failed, which requests with signals need. They wait for the next one, but reject
+   * with the event's reason where that is a SecurityError.
+   */
+  stalled: StalledEvent;
   /** There is a connection again, and what waited waits there. */
   restored: Event;
 }

@@ -4,7 +4,7 @@ import { makeManager } from "./src/manager.js";
 import { readSettings } from "./src/settings.js";
 
 export { Lock } from "./src/lock.js";
-export { LockManager, LostEvent } from "./src/manager.js";
+export { LockManager, LostEvent, StalledEvent } from "./src/manager.js";
 
 /**
  * Connects as an agent to a server, or to a worker of the page's origin, and gives its LockManager.

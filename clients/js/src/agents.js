@@ -13,11 +13,16 @@ const SIGNALS_IN_RESERVE = 64;
 export class Agents {
   #settings;
   #onLost;
+  #onStalled;
   #onNews;
   #all = new Set();
   #current = null;
   #next = null;
   #isOpeningNext = false;
+  /** Why the last try for a successor failed, while there will be more. */
+  #fault = null;
+  /** Whether the last one was refused for good: then one is opened only where there is need. */
+  #isRefused = false;
   /** The service's names of them, in the order in which they came. */
   #clientIds = new Set();
   /** What gives up the tries to connect that are under way. */
@@ -25,13 +30,15 @@ export class Agents {
 
   /**
    * @param {object} settings as `readSettings` gives them
-   * @param {{onLost: (fault: Error) => void, onNews: () => void}} listeners `onLost` where one was lost that is to
-   *   serve, has requests or owes a reply, or a successor can't be had; `onNews` where there is a signal, or a
-   *   successor, that wasn't there before
+   * @param {{onLost: (fault: Error) => void, onStalled: (fault: Error) => void, onNews: () => void}} listeners `onLost`
+   *   where one was lost that is to serve, has requests or owes a reply; `onStalled` where a try for a successor
+   *   failed, and others follow unless the fault is final; `onNews` where there is a signal, or a successor, that
+   *   wasn't there before
    */
-  constructor(settings, { onLost, onNews }) {
+  constructor(settings, { onLost, onStalled, onNews }) {
     this.#settings = settings;
     this.#onLost = onLost;
+    this.#onStalled = onStalled;
     this.#onNews = onNews;
   }
 
@@ -48,14 +55,14 @@ export class Agents {
   /** Connects another after a loss, in time, however many tries it takes. Rejected where there is no sense in more. */
   async openAgain() {
     await wait(delayAfter(0), this.#trying.signal);
-    await this.#openInTime((agent) => this.#serve(agent), 1);
+    await this.#openInTime((agent) => this.#serve(agent), 1, () => {});
   }
 
   /** Sees that so many signals are ready or asked for, and that there is a successor where few are left. */
   provideSignals(count) {
     if (this.#current === null) return;
     this.#current.signals.provide(count, this.#onNews);
-    if (this.#current.signals.left <= SIGNALS_IN_RESERVE) this.#openNext();
+    if (this.#current.signals.left <= SIGNALS_IN_RESERVE && !this.#isRefused) this.#openNext();
   }
 
   /** Whether the present agent has no signals left: a request with one waits for a successor, or another's signal. */
@@ -63,9 +70,18 @@ export class Agents {
     return this.#current.signals.left === 0;
   }
 
-  /** Has the successor serve, if the present agent is used up and there is one. Whether that is so. */
+  /** Why a request with a signal waits though a successor was tried for, or null. */
+  get shortage() {
+    return this.isUsedUp ? this.#fault : null;
+  }
+
+  /** Has the successor serve, if the present agent is used up: whether there is one. Else it is tried for. */
   moveOn() {
-    if (!this.isUsedUp || this.#next === null) return false;
+    if (!this.isUsedUp) return false;
+    if (this.#next === null) {
+      this.#openNext();
+      return false;
+    }
     const before = this.#current;
     this.#serve(this.#next);
     this.#next = null;
@@ -116,27 +132,45 @@ export class Agents {
     const { signal } = this.#trying;
     this.#isOpeningNext = true;
     try {
-      await this.#openInTime((agent) => this.#keepNext(agent));
+      await this.#openInTime((agent) => this.#keepNext(agent), 0, (fault) => this.#stall(fault));
     } catch (fault) {
-      if (!signal.aborted) this.#onLost(fault);
+      if (!signal.aborted) this.#refuse(fault);
       return;
     }
     this.#onNews();
   }
 
-  #keepNext(agent) {
+  #stall(fault) {
+    this.#fault = fault;
+    this.#onStalled(fault);
+  }
+
+  #refuse(fault) {
+    this.#endTries();
+    this.#isRefused = true;
+    this.#onStalled(fault);
+  }
+
+  #endTries() {
     this.#isOpeningNext = false;
+    this.#isRefused = false;
+    this.#fault = null;
+  }
+
+  #keepNext(agent) {
+    this.#endTries();
     this.#enter(agent);
     this.#next = agent;
   }
 
-  async #openInTime(use, triesBefore = 0) {
+  async #openInTime(use, triesBefore, failed) {
     const { signal } = this.#trying;
     for (let tries = triesBefore; ; tries += 1) {
       try {
         return await this.#open(use);
       } catch (fault) {
         if (signal.aborted || isFinal(fault)) throw fault;
+        failed(fault);
       }
       await wait(delayAfter(tries), signal);
     }
@@ -172,6 +206,6 @@ export class Agents {
     this.#clientIds.clear();
     this.#current = null;
     this.#next = null;
-    this.#isOpeningNext = false;
+    this.#endTries();
   }
 }

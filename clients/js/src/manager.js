@@ -16,18 +16,31 @@ const MAKING = Symbol("making");
  */
 export let makeManager;
 
-/** An event `"lost"`, with why. */
-export class LostEvent extends Event {
+/** An event that says why it came to that. */
+class ReasonedEvent extends Event {
   #reason;
 
-  constructor(reason) {
-    super("lost");
+  constructor(type, reason) {
+    super(type);
     this.#reason = reason;
   }
 
-  /** What the promises of the locks that were held are rejected with. */
   get reason() {
     return this.#reason;
+  }
+}
+
+/** An event `"lost"`, whose `reason` is what the promises of the locks that were held are rejected with. */
+export class LostEvent extends ReasonedEvent {
+  constructor(reason) {
+    super("lost", reason);
+  }
+}
+
+/** An event `"stalled"`, whose `reason` is why a further connection couldn't be had. */
+export class StalledEvent extends ReasonedEvent {
+  constructor(reason) {
+    super("stalled", reason);
   }
 }
 
@@ -40,6 +53,7 @@ export class LockManager extends EventTarget {
     super();
     this.#session = new Session(settings, {
       onLost: (fault) => this.dispatchEvent(new LostEvent(fault)),
+      onStalled: (fault) => this.dispatchEvent(new StalledEvent(fault)),
       onRestored: () => this.dispatchEvent(new Event("restored")),
     });
   }

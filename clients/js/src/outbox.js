@@ -9,6 +9,10 @@
  *
  * What must wait holds up all behind it. But where nobody knows for how long, what has an agent passes it, a release or
  * an abort, which has its message always: the request that waits may be waiting for what that very release gives back.
+ *
+ * Where a try has failed for what it waits for, it is put off, and all passes it but what its order matters to. So a
+ * sending without an agent has `isBehind(names)`, whether it must stay behind requests of these names that were put
+ * off, and `putOff(fault)`, which gives its own name, null where it is no request, or cancels it.
  */
 
 import { Queue } from "./queue.js";
@@ -18,24 +22,32 @@ export class Outbox {
   #bound = new Queue();
   #unbound = new Queue();
   #places = 0;
+  /** What was put off, in its order, the names of its requests, and whether it may be otherwise by now. */
+  #putOff = new Queue();
+  #namesPutOff = new Set();
+  #isStale = false;
   #current = null;
   #last = null;
   #unanswered = 0;
   #unstick;
   #isStuck;
+  #shortage;
 
   /**
    * @param {() => boolean} unstick called where a sending must wait; whether it is to be tried again at once
    * @param {() => boolean} isStuck called where it isn't; whether nobody knows when it will be
+   * @param {() => Error | null} shortage why the last try failed for what it waits for, if one did
    */
-  constructor(unstick, isStuck) {
+  constructor(unstick, isStuck, shortage) {
     this.#unstick = unstick;
     this.#isStuck = isStuck;
+    this.#shortage = shortage;
   }
 
   /** The agent that serves new requests, or null while there is none. */
   set current(agent) {
     this.#current = agent;
+    this.#isStale = this.#putOff.size > 0;
   }
 
   /** Adds a sending, and sends what can be. */
@@ -48,7 +60,29 @@ export class Outbox {
 
   /** Sends what can be. */
   flush() {
-    while (this.#sendFirst(this.#nextQueue()));
+    do {
+      if (this.#isStale) this.#recall();
+    } while (this.#sendFirst(this.#nextQueue()));
+  }
+
+  /** Sends what can be, also of what was put off: that may be much, and so once for all that changes at a time. */
+  lookAgain() {
+    if (this.#putOff.size === 0) {
+      this.flush();
+      return;
+    }
+    this.#isStale = true;
+    queueMicrotask(() => this.flush());
+  }
+
+  /** What was put off has its place in the order again. */
+  #recall() {
+    const all = this.#putOff;
+    while (this.#unbound.size > 0) all.push(this.#unbound.shift());
+    this.#unbound = all;
+    this.#putOff = new Queue();
+    this.#namesPutOff.clear();
+    this.#isStale = false;
   }
 
   /** The queue whose first sending was asked for before the other's. */
@@ -65,11 +99,32 @@ export class Outbox {
     if (sending.isCancelled || sending.agent?.isClosed) return queue.shift() !== undefined;
     const agent = sending.agent ?? this.#current;
     if (agent === null || (agent !== this.#last && this.#unanswered > 0)) return false;
-    const message = sending.compose(agent);
-    if (message === null) return this.#unstick() || (this.#isStuck() && this.#sendFirst(this.#bound));
+    const message = this.#isBehind(sending) ? null : sending.compose(agent);
+    if (message === null) return this.#putOffFirst() || this.#unstick() || this.#letPass();
     queue.shift();
     this.#send(message, agent, sending);
     return true;
+  }
+
+  #isBehind(sending) {
+    return sending.agent === null && this.#putOff.size > 0 && sending.isBehind(this.#namesPutOff);
+  }
+
+  /** Puts off the first sending without an agent, if there is a fault for which it must wait. Whether that is so. */
+  #putOffFirst() {
+    const fault = this.#shortage();
+    if (fault === null) return false;
+    const entry = this.#unbound.shift();
+    const name = entry.sending.putOff(fault);
+    if (entry.sending.isCancelled) return true;
+    this.#putOff.push(entry);
+    if (name !== null) this.#namesPutOff.add(name);
+    return true;
+  }
+
+  /** Whether what has an agent passes what must wait. */
+  #letPass() {
+    return this.#isStuck() && this.#sendFirst(this.#bound);
   }
 
   #send(message, agent, sending) {
@@ -86,6 +141,8 @@ export class Outbox {
   reset() {
     this.#bound = new Queue();
     this.#unbound = new Queue();
+    this.#putOff = new Queue();
+    this.#namesPutOff.clear();
     this.#current = null;
     this.#last = null;
     this.#unanswered = 0;

@@ -1,6 +1,6 @@
 /** A request as the service has it: sent for a call, over the connection of one agent. */
 
-import { abortError, faultOfRefusal } from "./faults.js";
+import { abortError, faultOfRefusal, networkError } from "./faults.js";
 
 export class LockRequest {
   #call;
@@ -25,6 +25,28 @@ export class LockRequest {
     this.#call = call;
     this.#outbox = outbox;
     this.#onSent = onSent;
+  }
+
+  /** Whether it must stay behind requests of these names. */
+  isBehind(names) {
+    return names.has(this.#call.asked.wireName);
+  }
+
+  /** It is to wait for nobody knows how long, which a plain one does and another doesn't. Gives its name. */
+  putOff(fault) {
+    if (!this.#call.isPlain) {
+      this.isCancelled = true;
+      this.#call.end(networkError(`A request before it waits for a further connection: ${fault.message}`));
+    }
+    return this.#call.asked.wireName;
+  }
+
+  /** Ends its call where it wasn't sent, and needs a signal of this agent, which has no more to lend. */
+  refuse(agent, fault) {
+    const { signal } = this.#call.asked;
+    if (this.agent !== null || signal === undefined || agent.signals.isLent(signal)) return;
+    this.#cancel();
+    this.#call.end(fault);
   }
 
   /** Its message, or null where its signal needs one of the agent's, and none is ready. */
@@ -78,9 +100,8 @@ export class LockRequest {
   /** Gives up what was asked for: the call has ended. */
   giveUp() {
     if (this.agent === null) {
-      this.isCancelled = true;
-      this.#onSent();
-      this.#outbox.flush();
+      this.#cancel();
+      this.#outbox.lookAgain();
     } else if (!this.#isWaiting) {
       this.release();
     } else if (this.#loan !== null && !this.#loan.isAborted) {
@@ -99,6 +120,11 @@ export class LockRequest {
     });
   }
 
+  #cancel() {
+    this.isCancelled = true;
+    this.#onSent();
+  }
+
   #send(message, answered) {
     this.#outbox.push({ agent: this.agent, isCancelled: false, compose: () => message, answered });
   }
@@ -108,8 +134,9 @@ export class LockRequest {
     if (!this.#isWaiting) return;
     this.#isWaiting = false;
     this.agent.endWaiting();
-    if (this.#loan !== null) this.agent.signals.takeBack(this.#loan);
-    this.#outbox.flush();
+    if (this.#loan === null) return;
+    this.agent.signals.takeBack(this.#loan);
+    this.#outbox.lookAgain();
   }
 }
 

@@ -16,12 +16,13 @@ const CLOSED = "closed";
 export class Session {
   #settings;
   #onLost;
+  #onStalled;
   #onRestored;
   #state = CONNECTING;
   #isActive = true;
   #isOpaque;
   #agents;
-  #outbox = new Outbox(() => this.#goOn(), () => this.#agents.isUsedUp);
+  #outbox = new Outbox(() => this.#goOn(), () => this.#agents.isUsedUp, () => this.#agents.shortage);
 
   /** The calls that haven't ended, in their order, each with its request; null while the connection is lost. */
   #calls = new Map();
@@ -40,16 +41,18 @@ export class Session {
 
   /**
    * @param {object} settings as `readSettings` gives them
-   * @param {{onLost: (fault: Error) => void, onRestored: () => void}} listeners
+   * @param {{onLost: (fault: Error) => void, onStalled: (fault: Error) => void, onRestored: () => void}} listeners
    */
-  constructor(settings, { onLost, onRestored }) {
+  constructor(settings, { onLost, onStalled, onRestored }) {
     this.#settings = settings;
     this.#onLost = onLost;
+    this.#onStalled = onStalled;
     this.#onRestored = onRestored;
     this.#isOpaque = isOpaque(settings);
     this.#agents = new Agents(settings, {
       onLost: (fault) => this.#lose(fault, isFinal(fault) || !settings.reconnect),
-      onNews: () => this.#outbox.flush(),
+      onStalled: (fault) => this.#stall(fault),
+      onNews: () => this.#outbox.lookAgain(),
     });
   }
 
@@ -132,6 +135,10 @@ export class Session {
     this.#outbox.push(request);
   }
 
+  /**
+   * Asks the service. A query passes requests that were put off. What says whether the window is active stays behind
+   * them, since it doesn't concern them; to its caller it is done then, as it is while the connection is lost.
+   */
   #question(message) {
     if (this.#state === LOST) return Promise.reject(lostError());
     return new Promise((resolve, reject) => {
@@ -141,7 +148,12 @@ export class Session {
         if (error === undefined) resolve(ok);
         else reject(faultOfRefusal(error));
       };
-      this.#outbox.push({ agent: null, isCancelled: false, compose: () => message, answered });
+      const isBehind = () => message.op !== "query";
+      const putOff = () => {
+        resolve();
+        return null;
+      };
+      this.#outbox.push({ agent: null, isCancelled: false, isBehind, putOff, compose: () => message, answered });
     });
   }
 
@@ -161,6 +173,19 @@ export class Session {
     if (!this.#agents.moveOn()) return false;
     this.#heedAgent();
     return true;
+  }
+
+  /**
+   * A further connection can't be had now. Where it is refused for good, what needs one is ended: what is called later
+   * may have another tried for.
+   */
+  #stall(fault) {
+    if (isFinal(fault) && this.#agents.isUsedUp) {
+      const { current } = this.#agents;
+      for (const request of [...this.#calls.values()]) request.refuse(current, fault);
+    }
+    this.#outbox.lookAgain();
+    this.#onStalled(fault);
   }
 
   async #openFirst() {

@@ -42,6 +42,11 @@ export class SignalSupply {
     }
   }
 
+  /** Whether the page's signal has one of the service's now. */
+  isLent(signal) {
+    return this.#lent.has(signal);
+  }
+
   /** Lends the service's signal that stands for the page's, or null where none is ready. */
   lend(signal) {
     const lent = this.#lent.get(signal);

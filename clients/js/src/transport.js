@@ -17,6 +17,9 @@ const BEARER = "weblocks.bearer.";
 /** How the package `ws` tells of a server that answers a handshake by another status than is wanted. */
 const STATUS = / response: (\d{3})$/;
 
+/** A word that Node's classes of sockets have where a server took the handshake, and selected no subprotocol. */
+const UNSELECTED = /protocol/;
+
 /** The status of a handshake that isn't taken as it is, as of an origin that isn't the server's. */
 const REFUSED = "400";
 
@@ -34,6 +37,13 @@ const NOTHING_SAID = "its handshake failed (a page isn't told why: nobody may li
 
 /** A handshake that fails whatever it offers: nobody answers, or the server can't serve now. */
 class Unserved extends DOMException {
+  constructor(message) {
+    super(message, "NetworkError");
+  }
+}
+
+/** A handshake of which the class of sockets doesn't tell why it failed, as a browser's: maybe for a moment alone. */
+class Unexplained extends DOMException {
   constructor(message) {
     super(message, "NetworkError");
   }
@@ -61,14 +71,40 @@ async function openWebSocket(settings, signal) {
   const Socket = await chooseSocket(settings);
   const { url, token, heartbeat } = settings;
   try {
-    const socket = await shakeHands(() => makeSocket(Socket, url, offeredBy(settings)), heartbeat, signal);
-    const fences = socket.protocol === FENCE;
-    return { socket, pushes: fences || socket.protocol === PUSH, fences };
+    return await openOffering(Socket, settings, signal);
   } catch (fault) {
     if (signal.aborted || isSettled(fault) || (token !== undefined && !isNode())) throw fault;
     const socket = await shakeHands(() => openPlain(Socket, url, token), heartbeat, signal);
-    return { socket, pushes: false, fences: false };
+    if (fault instanceof Unexplained) return offerAgain(socket, Socket, settings, signal);
+    return polled(socket);
   }
+}
+
+async function openOffering(Socket, settings, signal) {
+  const create = () => makeSocket(Socket, settings.url, offeredBy(settings));
+  const socket = await shakeHands(create, settings.heartbeat, signal);
+  const fences = socket.protocol === FENCE;
+  return { socket, pushes: fences || socket.protocol === PUSH, fences };
+}
+
+/**
+ * A server that took a plain handshake may push all the same, and have had no place for the first one, say: it would be
+ * polled, and give no fencing tokens, for as long as the connection lasts. So it is asked once more.
+ */
+async function offerAgain(plain, Socket, settings, signal) {
+  try {
+    const opened = await openOffering(Socket, settings, signal);
+    cutSocket(plain);
+    return opened;
+  } catch (fault) {
+    if (!signal.aborted) return polled(plain);
+    cutSocket(plain);
+    throw fault;
+  }
+}
+
+function polled(socket) {
+  return { socket, pushes: false, fences: false };
 }
 
 /** Whether a second handshake would fail as the first one did. */
@@ -166,12 +202,13 @@ function faultOfHandshake({ message: said, error }, url) {
   const status = STATUS.exec(text)?.[1];
   if (status === REFUSED) return securityError(`The server refused the handshake for ${url}: ${text}`);
   const message = `No connection to the server: ${MEANINGS[status] ?? text}`;
-  return status?.startsWith(UNABLE) ? new Unserved(message) : networkError(message);
+  if (status?.startsWith(UNABLE)) return new Unserved(message);
+  return status === undefined && !UNSELECTED.test(text) ? new Unexplained(message) : networkError(message);
 }
 
 function faultOfEnd(code, reason) {
   const told = reason ? `: ${reason}` : "";
-  return networkError(`The server closed the connection (close code ${code})${told}`);
+  return new Unexplained(`The server closed the connection (close code ${code})${told}`);
 }
 
 /** A socket of `ws` throws what it has no listener of errors for. */

@@ -43,6 +43,35 @@ test("where that handshake fails, a second one offers no subprotocol, and the se
   assert.equal(await locks.request("db", () => 1), 1);
 });
 
+/** Says nothing of why a handshake failed, as a browser's class of sockets. */
+class Mute extends WebSocket {
+  get onerror() {
+    return super.onerror;
+  }
+
+  set onerror(heed) {
+    super.onerror = () => heed({});
+  }
+}
+
+test("where the sockets don't say why it fails, a third one offers them again: what refuses for a moment isn't polled",
+  async (t) => {
+    const server = await startRelayed(t, { fences: new Fences(1) });
+    server.statuses = [503];
+    const locks = await connectTo(t, server, { WebSocket: Mute, fences: true });
+    assert.notEqual(await locks.request("db", (lock) => lock.fence), null);
+    const offered = ["weblocks.fence", "weblocks.push"];
+    assert.deepEqual(server.offers.map(({ protocols }) => protocols), [offered, [], offered]);
+    await until(() => server.open === 1);
+  });
+
+test("where the third one fails too, the server is polled", async (t) => {
+  const server = await startRelayed(t, { selects: false });
+  const locks = await connectTo(t, server, { WebSocket: Mute, poll: 5 });
+  assert.deepEqual(server.offers.map(({ protocols }) => protocols), [["weblocks.push"], [], ["weblocks.push"]]);
+  assert.equal(await locks.request("db", () => 1), 1);
+});
+
 test("what a handshake meant is read from the selected subprotocol: where none is, the server is polled", async (t) => {
   const server = await startPolled(t);
   class Lenient extends WebSocket {

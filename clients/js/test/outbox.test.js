@@ -7,6 +7,7 @@ import { Queue } from "../src/queue.js";
 import { SIGNALS_OF_AGENT, SignalSupply } from "../src/signals.js";
 
 const no = () => false;
+const none = () => null;
 
 /** An agent that answers when it is told to. */
 class FakeAgent {
@@ -35,7 +36,7 @@ function sending(message, agent = null) {
 
 test("messages of one agent go out without waiting for replies", () => {
   const sent = [];
-  const outbox = new Outbox(no, no);
+  const outbox = new Outbox(no, no, none);
   outbox.push(sending("early"));
   assert.deepEqual(sent, [], "there is no agent yet");
   outbox.current = new FakeAgent("a", sent);
@@ -46,7 +47,7 @@ test("messages of one agent go out without waiting for replies", () => {
 
 test("a message to another agent waits until all before it are answered, and those behind it wait too", () => {
   const sent = [];
-  const outbox = new Outbox(no, no);
+  const outbox = new Outbox(no, no, none);
   const [a, b] = [new FakeAgent("a", sent), new FakeAgent("b", sent)];
   outbox.current = a;
   outbox.push(sending("one"));
@@ -68,7 +69,7 @@ test("a message to another agent waits until all before it are answered, and tho
 
 test("what must wait holds up what is behind it, and what is cancelled doesn't", () => {
   const sent = [];
-  const outbox = new Outbox(no, no);
+  const outbox = new Outbox(no, no, none);
   outbox.current = new FakeAgent("a", sent);
   let message = null;
   const waiting = { ...sending(""), compose: () => message };
@@ -85,7 +86,7 @@ test("what must wait holds up what is behind it, and what is cancelled doesn't",
 test("what has an agent passes what must wait for nobody knows how long, and else nothing", () => {
   const sent = [];
   let isStuck = false;
-  const outbox = new Outbox(no, () => isStuck);
+  const outbox = new Outbox(no, () => isStuck, none);
   const agent = new FakeAgent("a", sent);
   outbox.current = agent;
   let message = null;
@@ -106,7 +107,7 @@ test("what has an agent passes what must wait for nobody knows how long, and els
 
 test("what passes to another agent goes out once all before it are answered, and so does what it passed", () => {
   const sent = [];
-  const outbox = new Outbox(no, () => true);
+  const outbox = new Outbox(no, () => true, none);
   const [a, b] = [new FakeAgent("a", sent), new FakeAgent("b", sent)];
   outbox.current = b;
   outbox.push(sending("one"));
@@ -123,9 +124,75 @@ test("what passes to another agent goes out once all before it are answered, and
   assert.deepEqual(sent.slice(2), ["b: waited"]);
 });
 
+/** A request of a name, which can be sent where `signals` has one for it. */
+function requestOf(name, signals, { isPlain = true } = {}) {
+  const request = sending(name);
+  const compose = () => (signals.length > 0 ? `${name} ${signals.pop()}` : null);
+  const putOff = () => {
+    request.isCancelled = !isPlain;
+    return name;
+  };
+  return Object.assign(request, { compose, putOff, isBehind: (names) => names.has(name) });
+}
+
+const READY = { length: 1, pop: () => "plain" };
+
+test("what waits in vain is put off: requests of its name stay behind it, and all else passes", async () => {
+  const sent = [];
+  let fault = null;
+  const outbox = new Outbox(no, () => true, () => fault);
+  outbox.current = new FakeAgent("a", sent);
+  const signals = [];
+  const impatient = requestOf("x", READY, { isPlain: false });
+  const first = requestOf("x", signals);
+  const activity = { ...sending("inactive"), isBehind: () => true, putOff: () => null };
+  const query = { ...sending("query"), isBehind: no };
+  for (const it of [first, requestOf("x", READY), impatient, activity, requestOf("y", signals), query]) outbox.push(it);
+  assert.deepEqual(sent, [], "no try has failed");
+  fault = new Error("none");
+  outbox.lookAgain();
+  assert.deepEqual(sent.splice(0), ["a: query"]);
+  assert.equal(impatient.isCancelled, true);
+  for (const name of ["x", "y", "z"]) outbox.push(requestOf(name, READY));
+  assert.deepEqual(sent.splice(0), ["a: z plain"]);
+  first.isCancelled = true;
+  outbox.lookAgain();
+  await null;
+  assert.deepEqual(sent.splice(0), ["a: x plain", "a: inactive", "a: x plain"]);
+  signals.push("signal");
+  outbox.lookAgain();
+  outbox.push(requestOf("y", READY));
+  assert.deepEqual(sent, ["a: y signal", "a: y plain", "a: y plain"], "before what is pushed behind");
+});
+
+test("what was put off goes with the next agent in its order, and with what was pushed behind it", () => {
+  const sent = [];
+  const signals = [];
+  const [a, b] = [new FakeAgent("a", sent), new FakeAgent("b", sent)];
+  let fault = new Error("none");
+  let hasNext = false;
+  const unstick = () => {
+    if (!hasNext) return false;
+    signals.push("one", "two");
+    outbox.current = b;
+    hasNext = false;
+    return true;
+  };
+  const outbox = new Outbox(unstick, no, () => fault);
+  outbox.current = a;
+  for (const it of [requestOf("x", signals), requestOf("x", READY), requestOf("y", READY)]) outbox.push(it);
+  assert.deepEqual(sent.splice(0), ["a: y plain"]);
+  hasNext = true;
+  fault = null;
+  outbox.push(requestOf("x", signals));
+  assert.deepEqual(sent, [], "what went before isn't answered");
+  a.answer();
+  assert.deepEqual(sent, ["b: x two", "b: x plain", "b: x one"]);
+});
+
 test("what was forgotten is neither sent nor waited for", () => {
   const sent = [];
-  const outbox = new Outbox(no, no);
+  const outbox = new Outbox(no, no, none);
   const [a, b] = [new FakeAgent("a", sent), new FakeAgent("b", sent)];
   outbox.current = a;
   outbox.push(sending("one"));
@@ -138,7 +205,7 @@ test("what was forgotten is neither sent nor waited for", () => {
 
 test("what is for an agent that was closed is dropped, and holds nothing up", () => {
   const sent = [];
-  const outbox = new Outbox(no, no);
+  const outbox = new Outbox(no, no, none);
   const [a, b] = [new FakeAgent("a", sent), new FakeAgent("b", sent)];
   outbox.current = b;
   outbox.push(sending("one"));

@@ -29,7 +29,7 @@ test("the types are those of the package, and a strict user's program is well ty
 
 test("the modules export what their types say", async () => {
   const exported = {
-    "weblocks.js": ["Lock", "LockManager", "LostEvent", "connect"],
+    "weblocks.js": ["Lock", "LockManager", "LostEvent", "StalledEvent", "connect"],
     "polyfill.js": ["install"],
     "testing.js": ["startServer", "useServer"],
   };

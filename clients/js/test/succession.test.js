@@ -2,11 +2,10 @@
 
 import assert from "node:assert/strict";
 import { test } from "node:test";
-import { SIGNALS_OF_AGENT } from "../src/signals.js";
-import { assertFree, hold, sleep, until, untilPending, watch } from "./support/holding.js";
+import { assertFree, hold, sleep, until, watch } from "./support/holding.js";
 import { connectTo, startRelayed } from "./support/servers.js";
+import { useUpSignals } from "./support/used_up.js";
 
-const never = () => assert.fail("its callback was called");
 const granted = () => "granted";
 
 /** The numbers of the relay's connections, in the order in which they come. */
@@ -28,14 +27,7 @@ const SOON = 100;
 async function startUsedUp(t) {
   const server = await startRelayed(t);
   const [locks, other] = [await connectTo(t, server), await connectTo(t, server)];
-  const holding = await hold(other, "used up");
-  const controllers = Array.from({ length: SIGNALS_OF_AGENT }, () => new AbortController());
-  const promises = controllers.map(({ signal }) => watch(locks.request("used up", { signal }, never)));
-  await untilPending(other, SIGNALS_OF_AGENT);
-  for (const controller of controllers) controller.abort("mine");
-  await Promise.all(promises.map(({ settled }) => settled));
-  holding.release();
-  await holding.promise;
+  await useUpSignals(locks, other);
   await until(() => opsOver(server, FURTHER).includes("signal"));
   await sleep(SOON);
   const lost = [];

@@ -1,6 +1,6 @@
 // A user's program, as tsc checks it. Each line below an @ts-expect-error must be wrong.
 
-import { connect, Lock, LockManager, LostEvent } from "weblocks";
+import { connect, Lock, LockManager, LostEvent, StalledEvent } from "weblocks";
 import type { LockInfo, LockMode } from "weblocks";
 import { install } from "weblocks/polyfill";
 import { startServer, useServer } from "weblocks/testing";
@@ -36,6 +36,7 @@ const infos: LockInfo[] = [...held, ...pending];
 const why: Error = await locks.closed;
 
 locks.addEventListener("lost", (event) => console.log(event.reason.name, event instanceof LostEvent));
+locks.addEventListener("stalled", (event) => console.log(event.reason.name, event instanceof StalledEvent));
 locks.addEventListener("restored", (event: Event) => console.log(event.type));
 await locks.request("db", (lock) => {
   const lost: AbortSignal = locks.lostSignal(lock);
