@@ -36,6 +36,18 @@ class With(CommandLineCase):
         self.assertEqual((69, ""), (status, out))
         self.assertIn(nowhere, err)
 
+    def test_an_empty_variable_counts_as_none(self):
+        empty = {"WEBLOCKS_URL": "", "WEBLOCKS_BUCKET": "", "WEBLOCKS_TOKEN": ""}
+        here = f"import weblocks.__main__ as line\nline.DEFAULT_URL = {self.daemon.url!r}"
+        with self.connect() as locks, locks.request("db"):
+            environment = {**empty, "WEBLOCKS_ORIGIN": self.origin}
+            ended = self.run_whole("with", "db", "--wait", "0", "--", "echo", environment=environment, before=here)
+            self.assertEqual((75, "", "weblocks: the lock 'db' is not free\n"), ended)
+        environment = {**empty, "WEBLOCKS_ORIGIN": ""}
+        status, out, err = self.run_whole("query", environment=environment, before=here)
+        self.assertEqual((2, ""), (status, out))
+        self.assertIn("name the origin by --origin or WEBLOCKS_ORIGIN", err)
+
     def test_the_command_has_the_standard_streams(self):
         process = self.start("with", "db", "--", "sh", "-c", "cat; echo error >&2", stdin=subprocess.PIPE)
         self.assertEqual(("text", "error\n"), process.communicate("text", timeout=SECONDS))

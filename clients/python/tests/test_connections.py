@@ -102,6 +102,15 @@ class Handshakes(ServedCase):
         url = f"{self.url}/?{query_of(self.origin)}"
         self.assertEqual([(url, {"Authorization": "Bearer right"}, ["weblocks.push"])], calls)
 
+    async def test_an_origin_or_a_bucket_with_a_lone_surrogate_raises_ValueError_before_anything_is_sent(self):
+        nowhere = f"ws://127.0.0.1:{free_port()}"
+        for words in ({"origin": "https://a.test/\ud800"}, {"bucket": "\udd12\ud83d"}):
+            with self.subTest(words), self.assertRaisesRegex(ValueError, f"{[*words][0]} '.*' has a lone surrogate"):
+                async with self.connect(url=nowhere, **words):
+                    pass
+        async with self.connect(origin="https://a.test/\ud83d\udd12") as locks, locks.request("db"):
+            pass
+
     async def refuse(self, header, status):
         """A server that refuses handshakes with that header, and hands the others on to the program."""
         async def process_request(_path, headers):

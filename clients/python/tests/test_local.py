@@ -1,6 +1,7 @@
 """A world in this process: its lines, its managers, and that its library is found."""
 
 import asyncio
+import gc
 import os
 import re
 import subprocess
@@ -134,6 +135,21 @@ class Managers(unittest.IsolatedAsyncioTestCase):
                     async with one.request("db"):
                         async with two.request("db", steal=True):
                             await asyncio.sleep(60)
+
+    async def test_a_manager_that_can_not_be_opened_raises_why_and_nothing_else_is_told(self):
+        told = []
+        asyncio.get_running_loop().set_exception_handler(lambda _loop, context: told.append(context["message"]))
+        closed, world = weblocks.local(), self.enterContext(weblocks.local())
+        closed.close()
+        with self.assertRaisesRegex(weblocks.Disconnected, "the world was closed"):
+            async with closed.connect(origin=ORIGIN):
+                self.fail("it was opened")
+        with self.assertRaisesRegex(ValueError, "at most 65536 bytes"):
+            async with world.connect(origin=ORIGIN + "/" + "a" * 65536):
+                self.fail("it was opened")
+        # What nobody took of a future is told once the future is gone.
+        gc.collect()
+        self.assertEqual([], told)
 
     def open_by_line(self, world):
         """Opens an agent of the managers' origin by a line, and answers what takes its further messages."""

@@ -117,20 +117,25 @@ def add_service(job: argparse.ArgumentParser) -> None:
     """The words that say where the service is and as whom it is asked."""
     job.add_argument(
         "--url",
-        default=os.environ.get("WEBLOCKS_URL", DEFAULT_URL),
+        default=variable("WEBLOCKS_URL") or DEFAULT_URL,
         help=f"a URL, or unix: and the path of a socket; or WEBLOCKS_URL, or {DEFAULT_URL}",
     )
     job.add_argument(
         "--origin",
-        default=os.environ.get("WEBLOCKS_ORIGIN"),
+        default=variable("WEBLOCKS_ORIGIN"),
         help="or WEBLOCKS_ORIGIN: programs that name the same one share locks",
     )
     job.add_argument(
-        "--bucket", default=os.environ.get("WEBLOCKS_BUCKET", "default"), help="or WEBLOCKS_BUCKET, or default"
+        "--bucket", default=variable("WEBLOCKS_BUCKET") or "default", help="or WEBLOCKS_BUCKET, or default"
     )
     job.add_argument("--token-file", type=Path, metavar="FILE", help="a file with the token, or WEBLOCKS_TOKEN")
     # (without it argparse takes the word for the one above, and the token for a file that it names)
     job.add_argument("--token", nargs="?", action=NoToken, help=argparse.SUPPRESS)
+
+
+def variable(name: str) -> str | None:
+    """What the environment says; an empty variable counts as none, as a file of settings may leave it."""
+    return os.environ.get(name) or None
 
 
 class NoToken(argparse.Action):
@@ -154,7 +159,7 @@ def seconds(text: str) -> float:
 def read_token(parser: argparse.ArgumentParser, file: Path | None) -> str | None:
     """The token of the file, or else of the environment; none may be wanted."""
     if file is None:
-        return os.environ.get("WEBLOCKS_TOKEN") or None
+        return variable("WEBLOCKS_TOKEN")
     try:
         words = file.read_text().split()
     except (OSError, UnicodeDecodeError) as error:

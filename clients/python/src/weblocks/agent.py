@@ -21,7 +21,7 @@ from .messages import (
     request_message,
 )
 from .requests import Phase, Request
-from .signals import RESERVE, Signals
+from .signals import LIMIT, RESERVE, Signals
 from .transport import Options
 
 
@@ -42,7 +42,11 @@ class Agent:
         self._signals = Signals()
         self._requests: dict[int, Request] = {}
         self._unnumbered: deque[Request] = deque()
+        self._abandoned: set[Request] = set()
+        """Those that were given up and have no signal: they keep their places until their turn."""
         self._waiting = 0
+        self.successor_failure: Error | None = None
+        """Why no agent could be opened to come after this one, if one was tried: then this one goes on alone."""
         self.client: str | None = None
         self.unanswered = 0
         """How many messages whose order counts are on their way. Whoever takes such a reply counts it off."""
@@ -93,8 +97,8 @@ class Agent:
 
     @property
     def idle(self) -> bool:
-        """Whether nothing of it is live or on its way."""
-        return not (self._requests or self.unanswered)
+        """Whether nothing of it is live or on its way, but for what is abandoned, which ends with it."""
+        return not self.unanswered and len(self._requests) == len(self._abandoned)
 
     @property
     def nearly_used(self) -> bool:
@@ -102,12 +106,23 @@ class Agent:
         return self.client is not None and self._signals.left <= RESERVE
 
     def send(self, request: Request) -> bool:
-        """Sends a request, unless it must wait for a signal of its own."""
+        """Sends a request, unless it must wait for a signal of its own.
+
+        Where no signal is left and no further agent can be had, it goes without one. Kept back, it would wait even for
+        a lock that is free, and what comes behind it would wait too, or overtake it. Given up, it keeps its place in
+        the queue until its turn, and is released as soon as it is granted. Others wait behind it meanwhile, and the
+        service's room for live requests is everybody's: so once LIMIT of them are left behind, a further one fails by
+        the reason why there is no further agent.
+        """
         wish = request.wish
         if wish.waits and self.client is not None:
             request.signal = self._signals.take()
             if request.signal is None:
-                return False
+                if self.successor_failure is None or self._signals.left > 0:
+                    return False
+                if len(self._abandoned) >= LIMIT:
+                    request.end(self.successor_failure)
+                    return True
         request.service = self
         request.phase = Phase.SENT
         self._unnumbered.append(request)
@@ -140,6 +155,8 @@ class Agent:
         elif request.phase is Phase.SENT and request.signal is not None:
             self.unanswered += 1
             self._connection.ask(abort_message(request.signal, reason), self._aborted)
+        elif request.phase is Phase.SENT:
+            self._abandoned.add(request)
 
     def release(self, request: Request) -> None:
         """Releases a lock, and tells the request when that was answered."""
@@ -185,7 +202,8 @@ class Agent:
         self._unnumbered.popleft()
 
     def _free_signal(self, request: Request) -> None:
-        """Its signal serves the next request, unless it was aborted."""
+        """Its signal serves the next request, unless it was aborted. One without a signal has come to its turn."""
+        self._abandoned.discard(request)
         if request.signal is not None and not request.given_up:
             self._signals.give_back(request.signal)
         request.signal = None

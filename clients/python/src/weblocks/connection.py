@@ -88,11 +88,14 @@ class Connection:
     async def call(self, message: Message) -> Reply:
         """Sends a message and waits for its reply; raises Disconnected where the connection is lost first."""
         reply: asyncio.Future[Reply] = self._loop.create_future()
-        self.ask(
-            message,
-            lambda answer: None if reply.done() else reply.set_result(answer),
-            lambda reason: None if reply.done() else reply.set_exception(reason),
-        )
+
+        def fail(reason: Disconnected) -> None:
+            if not reply.done():
+                reply.set_exception(reason)
+                # Where `ask` itself raises, as a world does for a line that is too long, nobody waits for it.
+                reply.exception()
+
+        self.ask(message, lambda answer: None if reply.done() else reply.set_result(answer), fail)
         return await reply
 
     def want_polls(self, wanted: bool) -> None:

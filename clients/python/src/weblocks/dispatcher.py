@@ -25,7 +25,8 @@ class Dispatcher:
     """Keeps what isn't sent yet, and the agents by which it is sent.
 
     There is one agent that takes new requests. A former one, whose signals were nearly used up, lives until its locks
-    and requests have ended. While no agent is there, because the connection was lost, requests that may wait are kept.
+    and requests have ended; where no further one can be had, it goes on alone. While no agent is there, because the
+    connection was lost, requests that may wait are kept.
     """
 
     def __init__(self, options: Options) -> None:
@@ -136,7 +137,7 @@ class Dispatcher:
             del self._backlog[order]
         agent.ready(len(self._backlog))
         if agent.nearly_used and self._opening is None and self._ended is None:
-            self._opening = asyncio.create_task(self._open_next(at_once=True))
+            self._opening = asyncio.create_task(self._open_next(at_once=agent.successor_failure is None))
 
     def _adopt(self, agent: Agent) -> None:
         """New requests go by this agent from now on."""
@@ -178,7 +179,11 @@ class Dispatcher:
             self._opening = asyncio.create_task(self._open_next(at_once=False))
 
     async def _open_next(self, at_once: bool) -> None:
-        """Opens another agent, as often as it takes, with growing and random delays between the attempts."""
+        """Opens another agent, as often as it takes, with growing and random delays between the attempts.
+
+        One that is to come after another isn't tried any more once the server refused this client for good, until the
+        next request: what it was refused for may have been set right.
+        """
         agent = None
         while agent is None:
             if not at_once:
@@ -189,22 +194,40 @@ class Dispatcher:
                 if agent is not None:
                     self._close_agent(agent)
                 return
+            if agent is None and self._opening is None:
+                return
         self._opening = None
         if self._agent is None:
             logger.warning("connected again")
+        elif self._agent.successor_failure is not None:
+            logger.warning("there is a further connection")
         self._adopt(agent)
 
     async def _try_open(self) -> Agent | None:
         try:
             agent = await Agent.open(self._options, self)
+            if agent.lost is not None:
+                raise agent.lost
         except Exception as error:
             # Whatever a library raises, the next try may succeed.
-            if isinstance(error, Forbidden) and self._agent is None:
+            if self._agent is not None:
+                self._go_on_alone(self._agent, error)
+            elif isinstance(error, Forbidden):
                 self._end(error)
             elif not isinstance(error, (Disconnected, Refused)):
                 logger.warning("no connection: %r", error)
             return None
-        return agent if agent.lost is None else None
+        return agent
+
+    def _go_on_alone(self, agent: Agent, error: Exception) -> None:
+        """Has this agent send all that is kept back, since there is none to come after it; a reason is told once."""
+        reason = error if isinstance(error, Error) else Disconnected(f"no connection: {error!r}")
+        if str(reason) != str(agent.successor_failure):
+            logger.warning("no further connection: %s: going on with the one that is there", reason)
+        agent.successor_failure = reason
+        self.changed()
+        if isinstance(reason, Forbidden):
+            self._opening = None
 
     def _next_delay(self) -> float:
         longest = min(LONGEST_DELAY, FIRST_DELAY * 2.0**self._attempts)

@@ -31,7 +31,7 @@ class Disconnected(Error, ConnectionError):
 class Forbidden(Disconnected):
     """The service doesn't let this client in: its token or its target was refused, or it may not open this origin.
 
-    No further connection is tried after it.
+    Where no connection is left, no further one is tried after it.
     """
 
 

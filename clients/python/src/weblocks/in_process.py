@@ -11,6 +11,7 @@ from types import TracebackType
 
 from websockets.exceptions import ConnectionClosedOK
 
+from .errors import Disconnected
 from .library import World
 from .manager import LockManager
 from .messages import Kind
@@ -34,6 +35,7 @@ class Local:
         self._world = world
         self._sockets: dict[int, _Socket] = {}
         self._count = 0
+        self._closed = False
 
     @contextlib.asynccontextmanager
     async def connect(
@@ -42,7 +44,7 @@ class Local:
         """A lock manager of the world: `async with world.connect(origin="https://a.test") as locks:`.
 
         It is as the one that `weblocks.connect` gives, and `origin`, `kind` and `bucket` are as there. Raises Refused
-        for a bad origin or bucket.
+        for a bad origin or bucket, and Disconnected where the world was closed.
         """
         options = Options(URL, origin, kind, bucket, reconnect=False, opener=self._open)
         locks = await LockManager.open(options)
@@ -66,6 +68,7 @@ class Local:
 
     def close(self) -> None:
         """Ends the world; what its managers still do raises Disconnected. May be called again."""
+        self._closed = True
         sockets, self._sockets = self._sockets, {}
         for socket in sockets.values():
             socket.end()
@@ -80,6 +83,8 @@ class Local:
         self.close()
 
     async def _open(self, _options: Options) -> _Socket:
+        if self._closed:
+            raise Disconnected("the world was closed")
         self._count += 1
         socket = _Socket(self, self._count)
         self._sockets[self._count] = socket

@@ -13,6 +13,7 @@ MARK = "\ufdd0"
 LONGEST = 1024
 """The most bytes of UTF-8 that the service takes as a name."""
 
+_SURROGATES = re.compile("[\ud800-\udfff]")
 _ESCAPED_UNITS = re.compile("[\ud800-\udfff\ufdd0]")
 _ESCAPES = re.compile("\ufdd0(\ufdd0|d[89a-f][0-9a-f]{2})")
 
@@ -47,6 +48,11 @@ def wire_of_checked(name: object) -> str:
     if length > LONGEST:
         raise ValueError(f"the name of a lock has at most {LONGEST} bytes of UTF-8, and this one has {length}")
     return wire
+
+
+def has_lone_surrogate(text: str) -> bool:
+    """Whether a surrogate of the text is no half of a pair, so that its JSON isn't the service's."""
+    return _SURROGATES.search(_join_pairs(text)) is not None
 
 
 def _join_pairs(name: str) -> str:

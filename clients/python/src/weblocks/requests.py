@@ -56,7 +56,7 @@ class Wish(NamedTuple):
 
     @property
     def waits(self) -> bool:
-        """Whether the request may wait for its lock: then it has a signal, and outlives a lost connection."""
+        """Whether the request may wait for its lock: then it wants a signal, and outlives a lost connection."""
         return not (self.steal or self.only_if_available)
 
 

@@ -15,6 +15,7 @@ from websockets.exceptions import InvalidHandshake, InvalidURI
 
 from .errors import Disconnected, Forbidden
 from .messages import Kind
+from .names import has_lone_surrogate
 from .targets import url_with_target
 
 UNIX = "unix:"
@@ -74,6 +75,10 @@ class Options:
             value = getattr(self, name)
             if not isinstance(value, str):
                 raise TypeError(f"{name} is a str, not {type(value).__name__}")
+        for name in ("origin", "bucket"):
+            # Names of locks have an escape for it. A URL's own reader refuses it, and a path may need it.
+            if has_lone_surrogate(getattr(self, name)):
+                raise ValueError(f"{name} {getattr(self, name)!r} has a lone surrogate, which no message can carry")
         if self.url == UNIX or self.url.startswith(UNIX) and "\0" in self.url:
             raise ValueError(f"{self.url!r} names no Unix socket, as unix:/run/weblocks/socket does")
         if self.kind not in ("window", "worker"):
