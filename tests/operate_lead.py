@@ -20,6 +20,7 @@ from operate_needs import PYTHON, Checks, Needs
 from operate_package import Built
 from operate_service import FILTER, LEAD, calls_left
 from running import SECONDS, expect
+from standins import put
 
 # The most that three health checks take, with the pauses between them, and where each is answered at once.
 HEALTH, REFUSED = 3 * (3 + 1), 3 * 1 + 2
@@ -192,8 +193,11 @@ def leads_under_the_filter(built: Built) -> None:
 
 
 def wrong_words() -> None:
-    for words in ([], ["locks"], ["locks", "--"], ["--ttl", "x", "locks", "--", "true", "--status", "a:1"],
-                  ["locks", "--", "true"], ["locks", "--", "true", "--status", "127.0.0.1:0"], ["--often", "locks"]):
+    served = ["locks", "--", "true", "--status", "a:1"]
+    for words in ([], ["locks"], ["locks", "--"], ["--ttl", "x", *served], ["locks", "--", "true"],
+                  ["locks", "--", "true", "--status", "127.0.0.1:0"], ["--often", "locks"],
+                  [*served, "--epoch-file", "epoch"], [*served, "--epoch-file=epoch"], [*served, "--epoch", "1"],
+                  [*served, "--epoch=1"], [*served, "--while-input"], [*served, "--while-input=1"]):
         ended = subprocess.run([TOP / "deploy/lead", *words], capture_output=True, stdin=subprocess.DEVNULL)
         expect(f"the status of {words}", ended.returncode, 2)
         expect(f"what is said of {words}", ended.stderr.decode().splitlines()[1][:12], "usage: lead ")
@@ -202,15 +206,37 @@ def wrong_words() -> None:
     expect("what --help says", ended.stdout.decode()[:12], "usage: lead ")
 
 
+def words_are_tried(built: Built) -> None:
+    """What the daemon doesn't take, or why it can't be run, is told before there is a lead. (No etcd is asked.)"""
+    with TemporaryDirectory() as name:
+        room = Path(name)
+        for command in ("etcdctl", "curl"):
+            (room / command).symlink_to("/bin/true")
+        there = {**os.environ, "PATH": f"{name}:{os.environ['PATH']}"}
+        failing = put(room / "failing", "#!/bin/sh\nexit 3\n")
+        why = f"the daemon can't be started: {failing} had status 3 when its words were tried"
+        for daemon, status, said in (
+            ([built.program, "daemon"], 1, "etcdctl ended before it led"),
+            ([built.program, "daemon", "--often"], 2, "the daemon doesn't take its words"),
+            ([built.program, "daemon", "--idle", "0"], 2, "the daemon doesn't take its words"),
+            ([failing], 1, why),
+        ):
+            words = [TOP / "deploy/lead", "locks", "--", *daemon, "--status", "127.0.0.1:8081"]
+            ended = subprocess.run(words, capture_output=True, stdin=subprocess.DEVNULL, env=there)
+            expect(f"what is said of {daemon}", ended.stderr.decode().splitlines()[-1], f"lead: {said}")
+            expect(f"the status of {daemon}", ended.returncode, status)
+            expect("standard output", ended.stdout, b"")
+
+
 def missing_commands() -> None:
     """What it calls is looked for before it is a candidate, and not at the daemon's first check."""
     with TemporaryDirectory() as name:
         room = Path(name)
-        for missing, there in (("etcdctl", []), ("curl", ["etcdctl"])):
+        for missing, there in (("etcdctl", []), ("curl", ["etcdctl"]), ("weblocks", ["etcdctl", "curl"])):
             for command in ["bash", "sed", "grep", *there]:
                 if not (room / command).exists():
                     (room / command).symlink_to(which(command) or "/bin/true")
-            words = [TOP / "deploy/lead", "locks", "--", "true", "--status", "127.0.0.1:8081"]
+            words = [TOP / "deploy/lead", "locks", "--", "weblocks", "daemon", "--status", "127.0.0.1:8081"]
             ended = subprocess.run(words, capture_output=True, stdin=subprocess.DEVNULL, env={"PATH": name})
             expect(f"what is said where {missing} is missing", ended.stderr, f"lead: there is no {missing}\n".encode())
             expect("the status", ended.returncode, 1)
@@ -229,6 +255,7 @@ def lead_checks(built: Built, needs: Needs) -> Checks:
         yield "a leader whose environment names a proxy", partial(proxy_is_passed_by, built)
 
     yield "lead's words", wrong_words
+    yield "lead tries the daemon's words", partial(words_are_tried, built)
     yield "what lead calls is missing", missing_commands
     packages = ["etcd-server", "etcd-client", "curl", "procps", "python3-websockets"]
     yield from needs.each("failover by etcd", packages, checks)

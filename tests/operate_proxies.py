@@ -2,13 +2,14 @@
 
 import os
 import re
+import select
 import signal
 import socket
 import ssl
 import subprocess
 import time
 from collections.abc import Iterator
-from contextlib import contextmanager
+from contextlib import ExitStack, contextmanager, suppress
 from functools import partial
 from pathlib import Path
 
@@ -24,6 +25,8 @@ NAME = "locks.example.com"
 TOKEN = "a-token"
 # What stands in the place of the 180 seconds that a proxy waits for a silent peer, and the daemon's own 30.
 PATIENCE, IDLE = 3, 1
+# Root alone may start it as another user.
+HAPROXYS_USER = "    user haproxy\n    group haproxy\n"
 ASKS_AGAIN = """
 import asyncio, sys, weblocks
 
@@ -72,8 +75,11 @@ class Certificate:
 class TlsPeer(Peer):
     """A peer that speaks TLS with the proxy."""
 
-    def __init__(self, port: int, context: ssl.SSLContext, *headers: str, target: str = "/") -> None:
-        plain = socket.create_connection(("127.0.0.1", port), timeout=SECONDS)
+    def __init__(
+        self, port: int, context: ssl.SSLContext, *headers: str, target: str = "/", source: str = "127.0.0.1"
+    ) -> None:
+        host = "::1" if ":" in source else "127.0.0.1"
+        plain = socket.create_connection((host, port), SECONDS, (source, 0))
         plain.setsockopt(socket.IPPROTO_TCP, socket.TCP_NODELAY, 1)
         self.sock = context.wrap_socket(plain, server_hostname="localhost")
         self.buffer, self.pings, self.answers_pings, self.reason = b"", 0, True, ""
@@ -93,8 +99,8 @@ class Front:
         """The processes that serve for the proxy's first one."""
         return set(Path(f"/proc/{self.child.pid}/task/{self.child.pid}/children").read_text().split())
 
-    def peer(self, *headers: str) -> TlsPeer:
-        return TlsPeer(self.port, self.certificate.context, *headers)
+    def peer(self, *headers: str, **how: str) -> TlsPeer:
+        return TlsPeer(self.port, self.certificate.context, *headers, **how)
 
     def opened(self, url: str, *headers: str) -> TlsPeer:
         peer = self.peer(*headers)
@@ -134,7 +140,10 @@ class Nginx:
             (f"server_name {NAME}", "server_name localhost"),
             ("/var/log/nginx/weblocks.log", str(room / "access.log")),
         ]
-        self.patience, self.most = "180s", "limit_conn weblocks 256"
+        self.patience = "180s"
+
+    def bounds(self, most: int) -> list[tuple[str, str]]:
+        return [("limit_conn weblocks 256", f"limit_conn weblocks {most}")]
 
     def ports(self, port: int, daemon: int) -> list[tuple[str, str]]:
         return [(":443 ssl", f":{port} ssl"), (" 443 ssl", f" {port} ssl"), ("127.0.0.1:8080", f"127.0.0.1:{daemon}")]
@@ -161,8 +170,12 @@ class Haproxy:
         # (a machine of tests may not let it have files for 10,000)
         self.pairs = [(f"/etc/haproxy/{NAME}.pem", str(certificate.both)), ("maxconn 10000", "maxconn 1000")]
         if os.geteuid() != 0:
-            self.pairs += [("    user haproxy\n    group haproxy\n", "")]
-        self.patience, self.most = "tunnel 180s", "gt 256"
+            self.pairs += [(HAPROXYS_USER, "")]
+        self.patience = "tunnel 180s"
+
+    def bounds(self, most: int) -> list[tuple[str, str]]:
+        """So many connections of a client, and twice as many until none is answered."""
+        return [("gt 256", f"gt {most}"), ("gt 320", f"gt {2 * most}")]
 
     def ports(self, port: int, daemon: int) -> list[tuple[str, str]]:
         return [(":443 ", f":{port} "), ("127.0.0.1:8080", f"127.0.0.1:{daemon}")]
@@ -170,7 +183,7 @@ class Haproxy:
     def socket(self, daemon: int, path: Path) -> list[tuple[str, str]]:
         """Its own user may not reach the socket, which is in a folder of the tests' user alone."""
         pairs = [(f"server daemon 127.0.0.1:{daemon} ", f"server daemon unix@{path} ")]
-        return pairs + [("    user haproxy\n    group haproxy\n", "")] * (os.geteuid() == 0)
+        return pairs + [(HAPROXYS_USER, "")] * (os.geteuid() == 0)
 
     def commands(self, text: str) -> tuple[list[str], list[str]]:
         (self.room / "haproxy.cfg").write_text(text)
@@ -181,12 +194,24 @@ class Haproxy:
 Proxy = Nginx | Haproxy
 
 
+def is_there(port: int) -> bool:
+    """Whether connections are taken. The one that is made for this has ended behind it, and counts no more."""
+    with socket.socket() as it:
+        it.settimeout(SECONDS)
+        if it.connect_ex(("127.0.0.1", port)):
+            return False
+        it.shutdown(socket.SHUT_WR)
+        with suppress(ConnectionError):
+            it.recv(1)
+        return True
+
+
 @contextmanager
 def served(child: subprocess.Popen[bytes], port: int, said: Path) -> Iterator[None]:
     """The proxy, from when it takes connections to its end."""
     try:
         until = time.monotonic() + SECONDS
-        while socket.socket().connect_ex(("127.0.0.1", port)):
+        while not is_there(port):
             if child.poll() is not None or time.monotonic() > until:
                 raise Wrong(f"it takes no connections: {said.read_text()}")
             time.sleep(0.05)
@@ -267,13 +292,34 @@ def outlasts_silence(built: Built, proxy: Proxy, certificate: Certificate) -> No
 
 def bounds_clients(built: Built, proxy: Proxy, certificate: Certificate) -> None:
     """A client has so many connections at once as the file says, here 2; its place is free again once one ended."""
-    fewer = (proxy.most, proxy.most.replace("256", "2"))
-    with Daemon(built.program) as daemon, front_of(built, proxy, certificate, daemon.port, fewer) as front:
+    fewer = proxy.bounds(2)
+    with Daemon(built.program) as daemon, front_of(built, proxy, certificate, daemon.port, *fewer) as front:
         first, second = front.opened("https://a.test/"), front.opened("https://a.test/")
         expect("the status of a third", front.peer().status, 503)
         first.leave()
         until_true("a place is free again", lambda: front.peer().status == 101)
         expect("what the second is told", second.ask('{"id":1,"op":"poll"}'), '{"id":1,"notices":[],"ok":{}}')
+
+
+def counts_the_silent(built: Built, proxy: Proxy, certificate: Certificate) -> None:
+    """Connections that send nothing count too, and where there are twice as many as may be a further one is ended."""
+    with (
+        Daemon(built.program) as daemon,
+        front_of(built, proxy, certificate, daemon.port, *proxy.bounds(2)) as front,
+        ExitStack() as there,
+    ):
+        def silent(count: int) -> list[socket.socket]:
+            made = [there.enter_context(socket.socket()) for _ in range(count)]
+            for it in made:
+                # (one that is ended may be so before its call is over)
+                it.connect_ex(("127.0.0.1", front.port))
+            return made
+
+        first = silent(2)
+        expect("the status of a third", front.peer().status, 503)
+        others = silent(6)
+        until_true("four of eight are ended", lambda: len(select.select(others, [], [], 0)[0]) >= 4)
+        expect("which of the first two are", select.select(first, [], [], 0)[0], [])
 
 
 def reload_keeps_locks(built: Built, proxy: Proxy, certificate: Certificate) -> None:
@@ -355,6 +401,8 @@ def checks_of(kind: type[Nginx] | type[Haproxy], built: Built) -> Checks:
         ("a certificate that isn't trusted is named", names_certificate),
     ):
         yield f"{name}, by {kind.name}", partial(check, built, proxy, certificate)
+    if kind is Haproxy:
+        yield "connections that send nothing count, by haproxy", partial(counts_the_silent, built, proxy, certificate)
     over = partial(hands_over_a_socket, built, proxy, certificate)
     yield f"a lock goes from hand to hand over a Unix socket, by {kind.name}", over
 

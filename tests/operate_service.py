@@ -43,6 +43,14 @@ def unit_is_hard(built: Built) -> None:
     expect(f"whether the exposure of {level[1]} is at most {MOST_EXPOSED}", float(level[1]) <= MOST_EXPOSED, True)
 
 
+def is_started_again(built: Built) -> None:
+    """Whatever ends it, a signal that systemd counts as a clean end too, but for words that can't be understood."""
+    for more in ((), (LEAD,)):
+        found = settings(built, *more)
+        restarts = found["Restart"][-1], found["RestartPreventExitStatus"][-1]
+        expect(f"when it is started again, with {more}", restarts, ("always", "2"))
+
+
 def members(group: str) -> set[str]:
     """The system calls of a group, those of the groups in it among them."""
     found: set[str] = set()
@@ -128,6 +136,7 @@ def service_checks(built: Built, needs: Needs) -> Checks:
         yield "the daemon serves under the unit's filter", lambda: daemon_serves_within(built)
         yield "the unit's filter refuses the rest", lambda: filter_bites(built)
 
+    yield "the unit is started again", lambda: is_started_again(built)
     yield from needs.each("the unit's exposure", ["systemd"], with_systemd)
     packages = ["systemd", "python3-seccomp", "python3-websockets"]
     yield from needs.each("the unit's filter", packages, with_seccomp)

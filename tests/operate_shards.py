@@ -138,7 +138,7 @@ class Shards:
         expect("whether there is the line that is replaced", bool(line), True)
         text = without_ipv6(front) + (TOP / "deploy/haproxy-shards.cfg").read_text()
         proxy = Haproxy(room, self.certificate)
-        more = [*proxy.pairs, (":443 ", f":{self.port} "), (proxy.most, f"gt {2 * ORIGINS}")]
+        more = [*proxy.pairs, (":443 ", f":{self.port} "), *proxy.bounds(2 * ORIGINS)]
         return words_of(room, text, [it for shard in self.all for it in (shard.leader, shard.other)], *more)
 
     def peer(self, target: str) -> TlsPeer:
