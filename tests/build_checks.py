@@ -178,6 +178,21 @@ def fault_checks(made: Checkouts, kit: Kit) -> Checks:
         told = f"build: the program can't be built: {top}/.build can't be written\n"
         expect_end(kit.run(top, "./build"), b"", 1, told.encode())
 
+    def no_build_by_words() -> None:
+        """Neither a question nor a slip begins a build, which takes long."""
+        top = made.fresh()
+        wrong = (["--often"], ["-h"], ["one", "two"], ["--after-gate", "--help"])
+        for command, takes, more in (
+            ("./build", "", (["one"], [""])),
+            ("clients/c/build", " [--after-gate] [FOLDER]", ()),
+            ("clients/wasm/build", " [--after-gate] [MODULE]", ()),
+        ):
+            usage = f"usage: {command}{takes}\n".encode()
+            expect_end(kit.run(top, command, "--help"), usage)
+            for words in (*wrong, *more):
+                expect_end(kit.run(top, command, *words), b"", 2, usage)
+
+    yield "words that the builds don't know", no_build_by_words
     yield "no rt on the PATH", no_kit
     yield "a crate isn't proved", not_proved
     yield "rt refuses to begin", not_begun

@@ -1,6 +1,10 @@
 /* Two agents of one world: Anna holds the lock `printer`, and Ben waits behind her until she lets it go.
 
-   cc -o two_agents two_agents.c $(pkg-config --cflags --libs weblocks.pc) */
+   At the top of the repository, once clients/c/build has made the library:
+
+       cc -o two_agents clients/c/examples/two_agents.c $(pkg-config --cflags --libs clients/c/out/weblocks.pc)
+       LD_LIBRARY_PATH=clients/c/out ./two_agents
+*/
 #include <stdio.h>
 #include <string.h>
 #include <sys/random.h>
