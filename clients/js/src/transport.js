@@ -1,6 +1,7 @@
 /** A socket to the server, of whichever class there is or over a port, and what the server tells over it unasked. */
 
 import { networkError, securityError } from "./faults.js";
+import { losePatience } from "./patience.js";
 import { isNode } from "./platform.js";
 import { PortSocket } from "./port_socket.js";
 import { isUnix } from "./server_url.js";
@@ -179,9 +180,10 @@ function shakeHands(create, patience, signal) {
       reject(fault);
     };
     const giveUp = () => fail(networkError("Connecting was given up"));
-    const timer = setTimeout(() => fail(new Unserved(`No server answered in ${patience} ms`)), patience);
+    const expire = () => fail(new Unserved(`No server answered in ${patience} ms`));
+    const cancel = losePatience(patience, expire);
     const finish = () => {
-      clearTimeout(timer);
+      cancel();
       signal.removeEventListener("abort", giveUp);
       forget(socket);
     };

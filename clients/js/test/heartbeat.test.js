@@ -6,6 +6,7 @@ import { SIGNALS_OF_AGENT } from "../src/signals.js";
 import { assertRejects, hold, sleep, until, untilPending, watch } from "./support/holding.js";
 import { Proxy } from "./support/proxy.js";
 import { EACH, connectTo, startPolled, startPushing, startRelayed } from "./support/servers.js";
+import { WebSocket } from "./support/sockets.js";
 
 const HEARTBEAT = 500;
 
@@ -127,6 +128,17 @@ test("a handshake that isn't answered is given up", async (t) => {
   const before = Date.now();
   await assertRejects(connectTo(t, proxy, { heartbeat: HEARTBEAT }), "NetworkError");
   assert.ok(Date.now() - before <= 4 * HEARTBEAT);
+});
+
+test("a handshake that was answered while its client's event loop was held up isn't given up", async (t) => {
+  class HeldUp extends WebSocket {
+    constructor(...words) {
+      super(...words);
+      setImmediate(() => holdUp(1.5 * HEARTBEAT));
+    }
+  }
+  const locks = await connectTo(t, await startPushing(t), { heartbeat: HEARTBEAT, WebSocket: HeldUp });
+  assert.deepEqual((await locks.query()).held, []);
 });
 
 test("an opening that isn't answered is given up", async (t) => {

@@ -12,7 +12,7 @@ import { WebSocket } from "./sockets.js";
 export const PROGRAM = process.env.WEBLOCKS_PROGRAM || fileURLToPath(new URL("../../../../weblocks", import.meta.url));
 
 /** Where a theft is to be heard of soon, though nothing is pushed, since a heartbeat's poll brings it. */
-const SOON = { poll: 5, heartbeat: 500 };
+const SOON = { poll: 5, heartbeat: 2000 };
 
 /** All tests of a file, in the place of the one by which a server or an agent ends. */
 export function allTests() {
