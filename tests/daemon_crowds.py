@@ -1,5 +1,6 @@
 """Many peers who keep a loop of the daemon busy, so that a round of their turns takes seconds, and what goes on beside
-them. How long a round takes is measured, and no check wants one to be short."""
+them. There are as many as that takes on this machine; how long a round takes is measured, and no check wants one to be
+short."""
 
 import threading
 import time
@@ -8,12 +9,26 @@ from daemon_pushes import POLL, POLLED, asked, push, release, released, request
 from daemon_server import PING, PONG, PUSH, Daemon, framed
 from running import Wrong, expect
 
-# So many peers send messages that take the daemon long to read.
-CROWD = 300
+# A round takes some 3 seconds where the peers are so many as send messages of that length in all, 300 at most, and more
+# where the machine has other things to do. Nothing that is waited for takes longer than these seconds.
+ROUND, MOST, PATIENCE = 3.0, 300, 120
 LISTS = "[" + ("[" * 120 + "]" * 120 + ",") * 268 + "1]"
 LONG_TO_READ = framed('{"id":1,"op":"poll","other":%s}' % LISTS)
 # What a peer of the crowd has read of its replies is of no use.
 READ = 4096
+
+
+def seconds_of_a_message(daemon):
+    """What the daemon takes to answer a message of the crowd, when it is quickest."""
+    peer = daemon.opened()
+    took = []
+    for _ in range(5):
+        began = time.monotonic()
+        peer.sock.sendall(LONG_TO_READ)
+        peer.get()
+        took.append(time.monotonic() - began)
+    peer.leave()
+    return min(took)
 
 
 class Crowd(threading.Thread):
@@ -22,7 +37,8 @@ class Crowd(threading.Thread):
     def __init__(self, daemon):
         super().__init__()
         self.daemon, self.is_over = daemon, threading.Event()
-        self.peers = [daemon.opened("https://crowd.test/") for _ in range(CROWD)]
+        count = min(MOST, int(ROUND / seconds_of_a_message(daemon)))
+        self.peers = [daemon.opened("https://crowd.test/") for _ in range(count)]
         for peer in self.peers:
             peer.sock.setblocking(False)
 
@@ -71,12 +87,13 @@ def silent_peer_ends_beside_a_crowd(program):
     peer is pinged behind the first round that ends after 2 seconds, and ends behind the first that begins a second
     after that, when it was silent for 4: at the latest 4 rounds, and looks twice a second, after these 3 seconds."""
     with Daemon(program, "--loops", "1", "--idle", "2") as daemon:
-        silent, waiter = daemon.opened(), daemon.opened("https://a.test/", PUSH)
+        crowd = Crowd(daemon)
+        rounds = Rounds(daemon.opened(timeout=PATIENCE))
+        silent, waiter = daemon.opened(), daemon.opened("https://a.test/", PUSH, timeout=PATIENCE)
         silent.ask(request(1))
         waiter.ask(request(1))
-        rounds = Rounds(daemon.opened())
         began = time.monotonic()
-        with Crowd(daemon):
+        with crowd:
             rounds.start()
             expect("the push", waiter.get(), push(("granted", 2)))
             took = time.monotonic() - began
@@ -88,9 +105,10 @@ def silent_peer_ends_beside_a_crowd(program):
 def peer_that_answers_stays_beside_a_crowd(program):
     """However long the others' turns take, nobody ends as silent who wasn't pinged, or answered and wasn't read."""
     with Daemon(program, "--loops", "1", "--idle", "1") as daemon:
-        peer = daemon.opened()
+        crowd = Crowd(daemon)
+        peer = daemon.opened(timeout=PATIENCE)
         expect("the lock", peer.ask(request(1)), asked(1, 1, ("granted", 1)))
-        with Crowd(daemon) as crowd:
+        with crowd:
             end = time.monotonic() + 12
             while time.monotonic() < end or peer.pings < 2:
                 kind, body = peer.frame()

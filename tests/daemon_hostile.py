@@ -154,7 +154,8 @@ def leaves_before_its_handshake(program):
 def expect_told(daemon, reason, lines):
     """The refusals that the status counts for a reason are as many as the log has lines of connections, and these."""
     counted = 'weblocks_handshakes_refused_total{reason="%s"} %d' % (reason, len(lines))
-    expect("what is counted", counted in daemon.get("/metrics").body.decode().splitlines(), True)
+    # (a peer may see its end before that is counted)
+    until_true("it is counted", lambda: counted in daemon.get("/metrics").body.decode().splitlines())
     _, err = daemon.end()
     told = [it.partition(" 127.0.0.1: ")[2] for it in err.splitlines() if " 127.0.0.1: " in it]
     expect("what is told", told, lines)
