@@ -103,8 +103,8 @@ export interface LockManagerEventMap {
   /** The connection was lost, and with it the locks that were held. */
   lost: LostEvent;
   /**
-   * A try for a further connection failed, which requests with signals need. They wait for the next one, but reject
-   * with the event's reason where that is a SecurityError.
+   * A try for a further connection failed, or that was lost before it served. Requests with signals that find none
+   * wait for the next one, but reject with the event's reason where that is a SecurityError.
    */
   stalled: StalledEvent;
   /** There is a connection again, and what waited waits there. */

@@ -19,10 +19,12 @@ export class Agents {
   #current = null;
   #next = null;
   #isOpeningNext = false;
-  /** Why the last try for a successor failed, while there will be more. */
+  /** Why the last try for a successor failed, or the last successor was lost, if no other came since. */
   #fault = null;
-  /** Whether the last one was refused for good: then one is opened only where there is need. */
+  /** Whether the last try was refused for good: then one is opened only where there is need. */
   #isRefused = false;
+  /** How many successors were lost since one served. */
+  #losses = 0;
   /** The service's names of them, in the order in which they came. */
   #clientIds = new Set();
   /** What gives up the tries to connect that are under way. */
@@ -32,8 +34,8 @@ export class Agents {
    * @param {object} settings as `readSettings` gives them
    * @param {{onLost: (fault: Error) => void, onStalled: (fault: Error) => void, onNews: () => void}} listeners `onLost`
    *   where one was lost that is to serve, has requests or owes a reply; `onStalled` where a try for a successor
-   *   failed, and others follow unless the fault is final; `onNews` where there is a signal, or a successor, that
-   *   wasn't there before
+   *   failed, or a successor was lost, and others follow unless the fault is final; `onNews` where there is a signal,
+   *   or a successor, that wasn't there before
    */
   constructor(settings, { onLost, onStalled, onNews }) {
     this.#settings = settings;
@@ -54,7 +56,6 @@ export class Agents {
 
   /** Connects another after a loss, in time, however many tries it takes. Rejected where there is no sense in more. */
   async openAgain() {
-    await wait(delayAfter(0), this.#trying.signal);
     await this.#openInTime((agent) => this.#serve(agent), 1, () => {});
   }
 
@@ -70,9 +71,9 @@ export class Agents {
     return this.#current.signals.left === 0;
   }
 
-  /** Why a request with a signal waits though a successor was tried for, or null. */
+  /** Why a request with a signal waits though a successor was tried for, and is tried for again, or null. */
   get shortage() {
-    return this.isUsedUp ? this.#fault : null;
+    return this.isUsedUp && this.#isOpeningNext ? this.#fault : null;
   }
 
   /** Has the successor serve, if the present agent is used up: whether there is one. Else it is tried for. */
@@ -85,6 +86,7 @@ export class Agents {
     const before = this.#current;
     this.#serve(this.#next);
     this.#next = null;
+    this.#losses = 0;
     if (before.isIdle) this.#retire(before);
     return true;
   }
@@ -132,7 +134,7 @@ export class Agents {
     const { signal } = this.#trying;
     this.#isOpeningNext = true;
     try {
-      await this.#openInTime((agent) => this.#keepNext(agent), 0, (fault) => this.#stall(fault));
+      await this.#openInTime((agent) => this.#keepNext(agent), this.#losses, (fault) => this.#stall(fault));
     } catch (fault) {
       if (!signal.aborted) this.#refuse(fault);
       return;
@@ -146,9 +148,9 @@ export class Agents {
   }
 
   #refuse(fault) {
-    this.#endTries();
+    this.#isOpeningNext = false;
     this.#isRefused = true;
-    this.#onStalled(fault);
+    this.#stall(fault);
   }
 
   #endTries() {
@@ -163,16 +165,17 @@ export class Agents {
     this.#next = agent;
   }
 
+  /** Connects an agent, however many tries it takes, each but the first after a delay. */
   async #openInTime(use, triesBefore, failed) {
     const { signal } = this.#trying;
     for (let tries = triesBefore; ; tries += 1) {
+      if (tries > 0) await wait(delayAfter(tries - 1), signal);
       try {
         return await this.#open(use);
       } catch (fault) {
         if (signal.aborted || isFinal(fault)) throw fault;
         failed(fault);
       }
-      await wait(delayAfter(tries), signal);
     }
   }
 
@@ -188,7 +191,7 @@ export class Agents {
     use(agent);
   }
 
-  /** A successor that has served nobody is replaced. */
+  /** A successor that has served nobody is replaced, as where a try for it failed. */
   #lose(fault, agent) {
     if (agent !== this.#next) {
       this.#onLost(fault);
@@ -196,6 +199,9 @@ export class Agents {
     }
     this.#all.delete(agent);
     this.#next = null;
+    this.#losses += 1;
+    if (isFinal(fault)) this.#refuse(fault);
+    else this.#stall(fault);
     this.provideSignals(1);
   }
 
@@ -206,6 +212,7 @@ export class Agents {
     this.#clientIds.clear();
     this.#current = null;
     this.#next = null;
+    this.#losses = 0;
     this.#endTries();
   }
 }

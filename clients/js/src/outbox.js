@@ -16,6 +16,7 @@
  */
 
 import { Queue } from "./queue.js";
+import { runAsTask } from "./tasks.js";
 
 export class Outbox {
   /** What has an agent, and what hasn't, each with its place in the order of both. */
@@ -65,14 +66,14 @@ export class Outbox {
     } while (this.#sendFirst(this.#nextQueue()));
   }
 
-  /** Sends what can be, also of what was put off: that may be much, and so once for all that changes at a time. */
+  /** Sends what can be, also of what was put off: that may be much, and so once for all that changes in a task. */
   lookAgain() {
     if (this.#putOff.size === 0) {
       this.flush();
-      return;
+    } else if (!this.#isStale) {
+      this.#isStale = true;
+      runAsTask(() => this.flush());
     }
-    this.#isStale = true;
-    queueMicrotask(() => this.flush());
   }
 
   /** What was put off has its place in the order again. */
@@ -143,6 +144,7 @@ export class Outbox {
     this.#unbound = new Queue();
     this.#putOff = new Queue();
     this.#namesPutOff.clear();
+    this.#isStale = false;
     this.#current = null;
     this.#last = null;
     this.#unanswered = 0;

@@ -1,5 +1,7 @@
 /** Patience: how long an answer is waited for. */
 
+import { runAsTask } from "./tasks.js";
+
 /** What it is counted in. A time in which the event loop stood still is one of them. */
 const PARTS = 4;
 
@@ -11,12 +13,20 @@ const PARTS = 4;
  */
 export function losePatience(milliseconds, lose) {
   let parts = 0;
+  let isOver = false;
+  const stop = () => {
+    isOver = true;
+    clearInterval(timer);
+  };
+  const end = () => {
+    if (isOver) return;
+    stop();
+    lose();
+  };
   const timer = setInterval(() => {
     parts += 1;
-    if (parts === PARTS) {
-      clearInterval(timer);
-      lose();
-    }
+    // (what has come by now, though it wasn't read yet, comes first)
+    if (parts === PARTS) runAsTask(end);
   }, milliseconds / PARTS);
-  return () => clearInterval(timer);
+  return stop;
 }

@@ -167,10 +167,13 @@ export class Session {
     this.#agents.provideSignals(this.#wanting + 1);
   }
 
-  /** A request waits for a signal: has it asked for, or the agent's successor serve where there is none left. */
+  /**
+   * A request waits for a signal: has it asked for, or the agent's successor serve where there is none left. Whether it
+   * is to be looked at again: it can be sent, or is put off, as a successor is tried for that was refused before.
+   */
   #goOn() {
     this.#provideSignals();
-    if (!this.#agents.moveOn()) return false;
+    if (!this.#agents.moveOn()) return this.#agents.shortage !== null;
     this.#heedAgent();
     return true;
   }

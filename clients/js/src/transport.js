@@ -70,14 +70,12 @@ export async function openSocket(settings, signal) {
  */
 async function openWebSocket(settings, signal) {
   const Socket = await chooseSocket(settings);
-  const { url, token, heartbeat } = settings;
   try {
     return await openOffering(Socket, settings, signal);
   } catch (fault) {
-    if (signal.aborted || isSettled(fault) || (token !== undefined && !isNode())) throw fault;
-    const socket = await shakeHands(() => openPlain(Socket, url, token), heartbeat, signal);
-    if (fault instanceof Unexplained) return offerAgain(socket, Socket, settings, signal);
-    return polled(socket);
+    if (signal.aborted || isSettled(fault) || (settings.token !== undefined && !isNode())) throw fault;
+    const plain = await openPolled(Socket, settings, signal);
+    return fault instanceof Unexplained ? offerAgain(plain.socket, Socket, settings, signal) : plain;
   }
 }
 
@@ -88,24 +86,39 @@ async function openOffering(Socket, settings, signal) {
   return { socket, pushes: fences || socket.protocol === PUSH, fences };
 }
 
+async function openPolled(Socket, { url, token, heartbeat }, signal) {
+  const socket = await shakeHands(() => openPlain(Socket, url, token), heartbeat, signal);
+  return { socket, pushes: false, fences: false };
+}
+
 /**
  * A server that took a plain handshake may push all the same, and have had no place for the first one, say: it would be
- * polled, and give no fencing tokens, for as long as the connection lasts. So it is asked once more.
+ * polled, and give no fencing tokens, for as long as the connection lasts. So it is asked once more, when it has got
+ * the plain one's place back, which may be its last.
  */
 async function offerAgain(plain, Socket, settings, signal) {
+  await closeSocket(plain, settings.heartbeat);
   try {
-    const opened = await openOffering(Socket, settings, signal);
-    cutSocket(plain);
-    return opened;
+    return await openOffering(Socket, settings, signal);
   } catch (fault) {
-    if (!signal.aborted) return polled(plain);
-    cutSocket(plain);
-    throw fault;
+    if (signal.aborted || isSettled(fault)) throw fault;
+    return openPolled(Socket, settings, signal);
   }
 }
 
-function polled(socket) {
-  return { socket, pushes: false, fences: false };
+/** Closes a socket, and waits until the server knows, unless that takes too long. */
+function closeSocket(socket, patience) {
+  return new Promise((resolve) => {
+    const cancel = losePatience(patience, () => {
+      cutSocket(socket);
+      resolve();
+    });
+    socket.onclose = () => {
+      cancel();
+      resolve();
+    };
+    socket.close(1000);
+  });
 }
 
 /** Whether a second handshake would fail as the first one did. */

@@ -65,10 +65,18 @@ test("where the sockets don't say why it fails, a third one offers them again: w
     await until(() => server.open === 1);
   });
 
+test("the third one has the place of the second, which may be the last", async (t) => {
+  const server = await startRelayed(t, { fences: new Fences(1) });
+  server.statuses = [503];
+  server.places = 1;
+  const locks = await connectTo(t, server, { WebSocket: Mute, fences: true });
+  assert.notEqual(await locks.request("db", (lock) => lock.fence), null);
+});
+
 test("where the third one fails too, the server is polled", async (t) => {
   const server = await startRelayed(t, { selects: false });
   const locks = await connectTo(t, server, { WebSocket: Mute, poll: 5 });
-  assert.deepEqual(server.offers.map(({ protocols }) => protocols), [["weblocks.push"], [], ["weblocks.push"]]);
+  assert.deepEqual(server.offers.map(({ protocols }) => protocols), [["weblocks.push"], [], ["weblocks.push"], []]);
   assert.equal(await locks.request("db", () => 1), 1);
 });
 

@@ -2,6 +2,7 @@
 
 import assert from "node:assert/strict";
 import { test } from "node:test";
+import { setImmediate as turn } from "node:timers/promises";
 import { Outbox } from "../src/outbox.js";
 import { Queue } from "../src/queue.js";
 import { SIGNALS_OF_AGENT, SignalSupply } from "../src/signals.js";
@@ -157,7 +158,7 @@ test("what waits in vain is put off: requests of its name stay behind it, and al
   assert.deepEqual(sent.splice(0), ["a: z plain"]);
   first.isCancelled = true;
   outbox.lookAgain();
-  await null;
+  await turn();
   assert.deepEqual(sent.splice(0), ["a: x plain", "a: inactive", "a: x plain"]);
   signals.push("signal");
   outbox.lookAgain();

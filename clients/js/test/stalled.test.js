@@ -2,7 +2,7 @@
 
 import assert from "node:assert/strict";
 import { test } from "node:test";
-import { assertFree, assertRejects, hold, until, untilPending, watch } from "./support/holding.js";
+import { assertFree, assertRejects, hold, sleep, until, untilPending, watch } from "./support/holding.js";
 import { connectTo, startRelayed } from "./support/servers.js";
 import { useUpSignals } from "./support/used_up.js";
 
@@ -56,7 +56,7 @@ test("where it is refused for good, requests that need it reject with why, and t
   assert.match(fault.message, /doesn't let this client/);
   assert.equal(await locks.request("db", granted), "granted");
   const needing = [watch(locks.request("db", withSignal(), never)), watch(locks.request("free", withSignal(), never))];
-  const others = [locks.request("db", granted), locks.request("db", { ifAvailable: true }, granted)];
+  const others = [locks.request("db", granted), locks.request("other", { ifAvailable: true }, granted)];
   const { held } = await locks.query();
   assert.deepEqual(held.map(({ name }) => name).filter((name) => name === "kept"), ["kept"]);
   assert.deepEqual(await Promise.all(others), ["granted", "granted"]);
@@ -77,6 +77,42 @@ test("a refusal for good is asked for again only by a request that needs the fur
   assert.equal(server.links, before);
   await assertRejects(locks.request("db", withSignal(), never), "SecurityError");
   assert.equal(server.links, before + 1);
+});
+
+test("while it is tried again after that, only what needs it waits, and those of its name behind it", async (t) => {
+  const stalled = await startStalled(t, refuseForGood);
+  const { server, locks, other } = stalled;
+  await assertRejects(locks.request("db", withSignal(), never), "SecurityError");
+  server.closeCode = null;
+  server.deafBeyond = server.links;
+  const waiting = [watch(locks.request("db", withSignal(), granted)), watch(locks.request("db", granted))];
+  assert.equal(await locks.request("free", granted), "granted");
+  assert.equal(await locks.request("free", { ifAvailable: true }, granted), "granted");
+  assert.deepEqual((await locks.query()).pending, []);
+  assert.deepEqual(waiting.map(({ state }) => state), ["pending", "pending"]);
+  server.deafBeyond = Infinity;
+  server.link(server.links).cut();
+  for (const it of waiting) assert.equal((await it.settled).value, "granted");
+  await assertUnharmed(stalled);
+  await assertFree(other);
+});
+
+test("one that is lost before it serves is tried for again after a while, and that is told", async (t) => {
+  const server = await startRelayed(t);
+  const [locks, other] = [await connectTo(t, server), await connectTo(t, server)];
+  let stalls = 0;
+  locks.addEventListener("stalled", () => { stalls += 1; });
+  const isNext = ({ link, message }) => link > 2 && message.op === "signal";
+  const cutting = setInterval(() => server.received.filter(isNext).forEach(({ link }) => server.link(link)?.cut()), 1);
+  t.after(() => clearInterval(cutting));
+  await useUpSignals(locks, other);
+  await until(() => stalls > 0);
+  const before = server.links;
+  await sleep(1000);
+  assert.ok(server.links - before <= 8, `${server.links - before} connections in a second`);
+  clearInterval(cutting);
+  assert.equal(await locks.request("db", withSignal(), granted), "granted");
+  await assertFree(other);
 });
 
 test("while it can't be had, only requests with signals wait, and those of the same names behind them", async (t) => {

@@ -28,8 +28,12 @@ export class Relay {
   /** How many connections there were. */
   links = 0;
 
-  /** Whether messages are read, and answered by nothing. */
+  /** Whether messages are read, and answered by nothing; and of which connections alone, those beyond this number. */
   isDeaf = false;
+  deafBeyond = Infinity;
+
+  /** For how many connections there is a place. */
+  places = Infinity;
 
   /** How many milliseconds each reply is held back. */
   delay = 0;
@@ -129,6 +133,7 @@ export class Relay {
     this.offers.push({ protocols: offered.filter(Boolean), authorization, target: request.url });
     const isKnown = offered.includes(BEARER + this.#token) || authorization === `Bearer ${this.#token}`;
     if (this.statuses.length > 0) answer(false, this.statuses.shift());
+    else if (this.open >= this.places) answer(false, 503);
     else if (this.target !== null && request.url !== this.target) answer(false, 400);
     else answer(this.#token === undefined || isKnown, 401);
   }
@@ -169,7 +174,7 @@ class Link {
   #take(text) {
     const message = JSON.parse(text);
     this.#server.received.push({ link: this.number, message });
-    if (this.#server.isDeaf) return;
+    if (this.#server.isDeaf || this.number > this.#server.deafBeyond) return;
     const own = this.#server.answer ?? this.#refuse(message.id);
     if (own !== null) {
       this.socket.send(own);
