@@ -98,6 +98,22 @@ def ignore_hangups():
     signal.signal(signal.SIGHUP, signal.SIG_IGN)
 
 
+def ignore_ends():
+    """As a program may that takes no note of how its children end."""
+    reset_signals()
+    signal.signal(signal.SIGCHLD, signal.SIG_IGN)
+
+
+def closing(descriptor):
+    """As a shell's `2>&-` does; for a stream that is neither a pipe of the test's nor a file."""
+
+    def close():
+        reset_signals()
+        os.close(descriptor)
+
+    return close
+
+
 def adopt_orphans():
     """As the init of a container does (prctl(2))."""
     reset_signals()

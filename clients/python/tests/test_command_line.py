@@ -11,7 +11,16 @@ from pathlib import Path
 
 import weblocks
 import weblocks.sync
-from commands import CommandLineCase, adopt_orphans, ignore_hangups, read_all, runs, take_terminal
+from commands import (
+    CommandLineCase,
+    adopt_orphans,
+    closing,
+    ignore_ends,
+    ignore_hangups,
+    read_all,
+    runs,
+    take_terminal,
+)
 from support import SECONDS, Daemon, free_port, proxied
 
 
@@ -114,6 +123,24 @@ class With(CommandLineCase):
         self.assertEqual(128 + signal.SIGKILL, process.returncode)
         self.assertIn("weblocks: the command did not end in 10 seconds: killing it\n", err)
 
+    def test_where_nobody_reads_standard_error_a_command_that_does_not_end_gets_KILL_all_the_same(self):
+        soon = "import weblocks.command\nweblocks.command.KILL_SECONDS = 0.5"
+        process = self.hold("trap '' TERM; echo $$ > $1; while :; do sleep 0.2; done", before=soon)
+        command = int((self.folder / "runs").read_text())
+        process.stderr.close()
+        with self.connect() as locks, locks.request("db", steal=True):
+            self.assertEqual(128 + signal.SIGKILL, process.wait(SECONDS))
+        self.assertFalse(runs(command))
+
+    def test_what_is_to_be_said_where_standard_error_is_closed_is_dropped(self):
+        with self.connect() as locks, locks.request("db"):
+            process = self.start("with", "db", "--wait", "0", "--", "echo", preexec_fn=closing(2), stderr=None)
+            self.assertEqual(("", None), process.communicate(timeout=SECONDS))
+            self.assertEqual(75, process.returncode)
+        process = self.start("with", "--no-such-word", preexec_fn=closing(2), stderr=None)
+        self.assertEqual(("", None), process.communicate(timeout=SECONDS))
+        self.assertEqual(2, process.returncode)
+
     # A child that says in a file that it is as it is to be, and a command that starts it and ends by TERM at once.
     STUBBORN = "sh -c 'trap \"\" TERM; echo $$ > child; while :; do sleep 0.2; done'"
     STARTER = " > /dev/null 2>&1 & while ! test -s child; do sleep 0.05; done; echo $$ > $1; wait"
@@ -159,6 +186,19 @@ class With(CommandLineCase):
         with self.connect() as locks, locks.request("db", steal=True):
             process.communicate(timeout=SECONDS)
         self.assertEqual(1, process.returncode)
+
+    def test_a_command_whose_lock_was_lost_before_it_was_begun_is_not_run(self):
+        steal = """
+import weblocks, weblocks.requests as requests
+wait = requests.wait_for_lock
+async def lose(request):
+    lock = await wait(request)
+    request.end(weblocks.LockStolen("the lock 'db' was stolen"))
+    return lock
+requests.wait_for_lock = lose
+"""
+        ended = self.run_whole("with", "db", "--", "echo", "ran", before=steal)
+        self.assertEqual((1, "", "weblocks: the lock 'db' was stolen, before the command ran\n"), ended)
 
     def test_where_the_connection_is_lost_the_command_is_ended(self):
         with proxied(self.daemon.port) as proxy:
@@ -223,9 +263,12 @@ class With(CommandLineCase):
         status, _out, _err = self.run_whole("with", "db", "--", "sh", "-c", "kill -9 $$")
         self.assertEqual(128 + 9, status)
 
+    def test_where_the_ends_of_children_are_ignored_the_status_is_the_commands_all_the_same(self):
+        self.assertEqual((7, "", ""), self.run_whole("with", "db", "--", "sh", "-c", "exit 7", preexec_fn=ignore_ends))
+
     def test_a_signal_while_the_lock_is_waited_for_ends_the_waiting(self):
         with self.connect() as locks, locks.request("db"):
-            for number in (signal.SIGINT, signal.SIGTERM):
+            for number in (signal.SIGINT, signal.SIGTERM, signal.SIGUSR1, signal.SIGUSR2):
                 process = self.start("with", "db", "--", "echo", "ran")
                 self.wait_for(lambda: len(locks.query().pending) == 1)
                 process.send_signal(number)

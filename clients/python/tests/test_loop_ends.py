@@ -8,7 +8,7 @@ import time
 import unittest
 
 import weblocks
-from support import PACKAGE, SECONDS, ServedCase
+from support import PACKAGE, SECONDS, ServedCase, proxied
 
 HOLDER = """
 import asyncio, sys
@@ -85,6 +85,32 @@ class Endings:
                         async with locks.request("db", **options):
                             self.fail("the lock was granted")
         await self.expect_nothing_left()
+
+    async def test_where_they_are_cancelled_while_no_connection_is_there_the_manager_has_ended_too(self):
+        async def ask_at_last(locks):
+            try:
+                await asyncio.sleep(1000)
+            finally:
+                async with locks.request("db"):
+                    self.fail("the lock was granted")
+
+        # Once before the task that connects anew has done its first step, and once while it waits.
+        for seconds in (0, 0.05):
+            with self.subTest(seconds), proxied(self.server.port) as proxy:
+                async with self.connect(url=proxy.url) as locks:
+                    asking = asyncio.create_task(ask_at_last(locks))
+                    proxy.refuses = True
+                    await asyncio.to_thread(proxy.cut)
+                    while locks._dispatcher._opening is None:
+                        await asyncio.sleep(0)
+                    await asyncio.sleep(seconds) if seconds else None
+                    every = asyncio.all_tasks() - {asyncio.current_task()}
+                    for task in every:
+                        task.cancel()
+                    _ended, pending = await asyncio.wait(every, timeout=HEARTBEAT)
+                    self.assertEqual(set(), pending)
+                    with self.assertRaisesRegex(weblocks.Disconnected, "the tasks of the event loop were cancelled"):
+                        await asking
 
 
 class EndingsOverPolls(Endings, ServedCase):

@@ -7,9 +7,12 @@ import subprocess
 import sys
 import tempfile
 import unittest
+import zipfile
 from datetime import UTC, datetime
 from pathlib import Path
+from typing import get_args
 
+import weblocks
 from support import PACKAGE, PROGRAM, SECONDS, TOP, BothServersCase, Daemon
 
 README = PACKAGE / "README.md"
@@ -67,6 +70,13 @@ class Wheel(unittest.TestCase):
         look = "import importlib.resources as r; assert r.files('weblocks').joinpath('py.typed').is_file()"
         self.run_python("-c", look)
 
+    def test_the_wheel_has_the_texts_of_the_licenses(self):
+        [wheel] = (self.folder / "wheels").iterdir()
+        with zipfile.ZipFile(wheel) as archive:
+            for license in ("LICENSE-APACHE", "LICENSE-MIT"):
+                [name] = [it for it in archive.namelist() if it.endswith(f"/{license}")]
+                self.assertEqual((TOP / license).read_bytes(), archive.read(name))
+
     def test_the_first_program_of_the_README_has_at_most_ten_lines_and_runs(self):
         first = blocks_of(README, "python")[0]
         self.assertLessEqual(len(first.strip().splitlines()), 10)
@@ -116,6 +126,11 @@ class Types(unittest.TestCase):
             self.skipTest("mypy isn't installed")
         with tempfile.TemporaryDirectory() as cache:
             run(mypy, "--strict", "--cache-dir", cache, PACKAGE / "src" / "weblocks", cwd=PACKAGE, env=CLEAN)
+
+    def test_a_user_may_name_the_types_of_the_words(self):
+        self.assertEqual(("exclusive", "shared"), get_args(weblocks.Mode))
+        self.assertEqual(("window", "worker"), get_args(weblocks.Kind))
+        self.assertLessEqual({"Mode", "Kind"}, set(weblocks.__all__))
 
     def test_a_user_learns_from_the_types_that_if_available_may_give_None(self):
         mypy = shutil.which("mypy", path="/usr/bin")

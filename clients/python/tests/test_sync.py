@@ -2,6 +2,8 @@
 
 import os
 import signal
+import subprocess
+import sys
 import threading
 import time
 import unittest
@@ -9,7 +11,39 @@ from concurrent.futures import ThreadPoolExecutor
 
 import weblocks
 import weblocks.sync
-from support import SECONDS, BothServersCase, new_origin, proxied
+from support import PACKAGE, SECONDS, BothServersCase, new_origin, proxied
+
+INTERRUPTED = """
+import random, signal, sys, time
+import weblocks.sync
+
+class Interrupted(Exception):
+    pass
+
+def interrupt(_number, _frame):
+    if entering:
+        raise Interrupted
+
+signal.signal(signal.SIGALRM, interrupt)
+held = left = 0
+with weblocks.sync.connect(sys.argv[1], origin=sys.argv[2], poll_interval=0.005) as locks:
+    end = time.monotonic() + 3
+    while time.monotonic() < end:
+        try:
+            entering = True
+            signal.setitimer(signal.ITIMER_REAL, random.uniform(0.00001, 0.002))
+            with locks.request("db", timeout=30):
+                entering = False
+                held += 1
+        except Interrupted:
+            entering = False
+            left += 1
+    # A grant that was on its way to the last is released when it comes.
+    with locks.request("db", timeout=30):
+        pass
+    print(held > 0, left > 0, locks.query().held)
+"""
+"""Takes a lock again and again, and is interrupted meanwhile, as by Ctrl-C, at any place of that."""
 
 
 class Behaviour:
@@ -117,6 +151,70 @@ class Behaviour:
                     self.fail("the lock was granted")
             interrupt.join()
             self.wait_until(lambda: other.query().pending == [])
+
+    def test_an_interruption_before_the_request_was_made_leaves_nothing_behind(self):
+        with self.connect() as locks:
+            loop, gate = locks._thread._loop, threading.Event()
+            hand_over = loop.call_soon_threadsafe
+
+            def hand_over_and_interrupt(*words, **options):
+                loop.call_soon_threadsafe = hand_over
+                hand_over(*words, **options)
+                raise KeyboardInterrupt
+
+            hand_over(gate.wait)
+            loop.call_soon_threadsafe = hand_over_and_interrupt
+            with self.assertRaises(KeyboardInterrupt):
+                with locks.request("db"):
+                    self.fail("the lock was granted")
+            gate.set()
+            self.assertEqual([], locks.query().held)
+
+    def test_interruptions_at_any_place_leave_nothing_behind_and_the_manager_goes_on(self):
+        ended = subprocess.run(
+            [sys.executable, "-c", INTERRUPTED, self.served.url, self.origin], text=True, capture_output=True,
+            env={**os.environ, "PYTHONPATH": str(PACKAGE / "src")}, timeout=SECONDS,
+        )  # fmt: skip
+        self.assertEqual(("True True []\n", "", 0), (ended.stdout, ended.stderr, ended.returncode))
+
+    def test_in_a_forked_process_calls_raise_RuntimeError_and_the_parents_manager_stays(self):
+        def ask(locks):
+            for call in (locks.query, locks.request("db", timeout=1).__enter__):
+                with self.assertRaisesRegex(RuntimeError, "forked process: connect anew there"):
+                    call()
+            locks.close()
+            with self.connect() as anew, anew.request("db", if_available=True) as lock:
+                self.assertIsNone(lock)
+
+        with self.connect() as locks, locks.request("db") as lock:
+            child = os.fork()
+            if child == 0:
+                try:
+                    # By default it ends a process that hangs.
+                    signal.alarm(20)
+                    ask(locks)
+                    os._exit(0)
+                finally:
+                    os._exit(1)
+            self.assertEqual(0, os.waitstatus_to_exitcode(os.waitpid(child, 0)[1]))
+            self.assertEqual(["db"], [info.name for info in locks.query().held])
+            lock.check()
+
+    def test_a_forked_process_that_leaves_the_blocks_by_an_error_leaves_the_lock_to_the_parent(self):
+        child = None
+        try:
+            with self.connect() as locks, locks.request("db"):
+                child = os.fork()
+                if child == 0:
+                    signal.alarm(20)
+                    raise SystemExit(7)
+                self.assertEqual(7, os.waitstatus_to_exitcode(os.waitpid(child, 0)[1]))
+                self.assertEqual(["db"], [info.name for info in locks.query().held])
+        except SystemExit as error:
+            os._exit(error.code)
+        finally:
+            if child == 0:
+                os._exit(1)
 
     def test_close_gives_up_what_other_threads_wait_for_by_Closed_and_what_they_hold_by_LockLost(self):
         ends = {}

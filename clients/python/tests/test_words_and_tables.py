@@ -8,7 +8,7 @@ import subprocess
 import unittest
 
 import weblocks.sync
-from commands import CommandLineCase
+from commands import CommandLineCase, closing
 from support import SECONDS, daemon_with_tokens, free_port
 
 
@@ -131,6 +131,11 @@ class Tables(CommandLineCase):
         process.stderr.close()
         self.assertEqual(128 + signal.SIGPIPE, process.wait(SECONDS))
         process.stdout = process.stderr = None
+
+    def test_query_ends_well_where_standard_output_is_closed(self):
+        process = self.start("query", preexec_fn=closing(1), stdout=None)
+        self.assertEqual((None, ""), process.communicate(timeout=SECONDS))
+        self.assertEqual(0, process.returncode)
 
     def test_watch_prints_the_table_each_time_that_it_changes(self):
         process = self.start("watch", "--every", "0.05")

@@ -13,6 +13,7 @@ from .errors import Closed, Disconnected, Error, Forbidden, LockLost, LockStolen
 from .library import MissingLibrary, World
 from .in_process import Local, local
 from .manager import LockManager, connect
+from .messages import Kind, Mode
 from .queries import LockInfo, Snapshot
 from .requests import Lock, LockRequest
 
@@ -21,6 +22,7 @@ __all__ = [
     "Disconnected",
     "Error",
     "Forbidden",
+    "Kind",
     "Local",
     "Lock",
     "LockInfo",
@@ -29,6 +31,7 @@ __all__ = [
     "LockRequest",
     "LockStolen",
     "MissingLibrary",
+    "Mode",
     "Refused",
     "Snapshot",
     "World",

@@ -13,7 +13,7 @@ from collections.abc import Callable
 from pathlib import Path
 from typing import Any
 
-from .command import BY_SIGNAL, FENCE, CannotRun, Job, NoFence, Signals, complain, run_job
+from .command import BY_SIGNAL, FENCE, CannotRun, Job, NoFence, TakenSignals, complain, run_job
 from .errors import BUCKET_RULE, Disconnected, Error, Forbidden, Refused
 from .manager import LockManager, connect
 from .table import draw_table
@@ -26,7 +26,7 @@ NOT_ALLOWED = 77
 
 STATUSES = """\
 exit status: that of the command (128 and the signal's number, where one ended it), or
-  1    the lock was lost, and the command ended well all the same
+  1    the lock was lost, and the command ended well all the same, or was not run yet
   2    the words can't be understood
   69   no server answers, or the connection was lost
   75   the lock was not had in time
@@ -41,11 +41,18 @@ def main(words: list[str] | None = None) -> int:
     """Does what the words say, and answers the exit status."""
     words = sys.argv[1:] if words is None else words
     words, command = split_command(words)
+    # Nobody reads a stream that is closed. (What is for standard error would go to standard output in some places.)
+    if sys.stdout is None:
+        sys.stdout = open(os.devnull, "w")
+    if sys.stderr is None:
+        sys.stderr = open(os.devnull, "w")
     given = read_words(words, command)
     logging.basicConfig(level=logging.WARNING, format="weblocks: %(message)s", stream=sys.stderr)
     reconfigure: Callable[..., None] | None = getattr(sys.stdout, "reconfigure", None)
     if reconfigure is not None:
         reconfigure(errors="backslashreplace")
+    # Whoever started this may ignore it, and then the system keeps no status of a command that has ended.
+    signal.signal(signal.SIGCHLD, signal.SIG_DFL)
     try:
         return asyncio.run(run_interruptibly(given))
     except BrokenPipeError:
@@ -171,7 +178,7 @@ def read_token(parser: argparse.ArgumentParser, file: Path | None) -> str | None
 
 async def run_interruptibly(given: argparse.Namespace) -> int:
     """Does the job; a signal that comes while no command runs ends it."""
-    signals = Signals()
+    signals = TakenSignals()
     with signals.taken():
         job = signals.waiting = asyncio.create_task(run(given, signals))
         await asyncio.wait([job])
@@ -180,7 +187,7 @@ async def run_interruptibly(given: argparse.Namespace) -> int:
         return job.result()
 
 
-async def run(given: argparse.Namespace, signals: Signals) -> int:
+async def run(given: argparse.Namespace, signals: TakenSignals) -> int:
     """Connects and does the job; what fails is told in a line on standard error."""
     fences = given.job == "with" and given.fence
     try:
@@ -217,7 +224,7 @@ def explain(error: Exception, given: argparse.Namespace) -> str:
     return str(error)
 
 
-async def do_job(locks: LockManager, given: argparse.Namespace, signals: Signals) -> int:
+async def do_job(locks: LockManager, given: argparse.Namespace, signals: TakenSignals) -> int:
     """Does what the first word says."""
     if given.job == "with":
         mode: Any = "shared" if given.shared else "exclusive"

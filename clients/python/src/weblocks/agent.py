@@ -21,7 +21,7 @@ from .messages import (
     request_message,
 )
 from .requests import Phase, Request
-from .signals import LIMIT, RESERVE, Signals
+from .signals import MOST_ABANDONED, RESERVE, Signals
 from .transport import Options
 
 
@@ -62,10 +62,10 @@ class Agent:
         try:
             await asyncio.wait([opening], timeout=options.open_timeout)
         except BaseException:
-            _abandon(opening)
+            _leave(opening)
             raise
         if not opening.done():
-            _abandon(opening)
+            _leave(opening)
             raise Disconnected(f"the server at {options.url} did not answer in {options.open_timeout:g} seconds")
         return opening.result()
 
@@ -111,8 +111,8 @@ class Agent:
         Where no signal is left and no further agent can be had, it goes without one. Kept back, it would wait even for
         a lock that is free, and what comes behind it would wait too, or overtake it. Given up, it keeps its place in
         the queue until its turn, and is released as soon as it is granted. Others wait behind it meanwhile, and the
-        service's room for live requests is everybody's: so once LIMIT of them are left behind, a further one fails by
-        the reason why there is no further agent.
+        service's room for live requests is everybody's: so once MOST_ABANDONED of them are left behind, a further one
+        fails by the reason why there is no further agent.
         """
         wish = request.wish
         if wish.waits and self.client is not None:
@@ -120,7 +120,7 @@ class Agent:
             if request.signal is None:
                 if self.successor_failure is None or self._signals.left > 0:
                     return False
-                if len(self._abandoned) >= LIMIT:
+                if len(self._abandoned) >= MOST_ABANDONED:
                     request.end(self.successor_failure)
                     return True
         request.service = self
@@ -268,19 +268,19 @@ class Agent:
         self._owner.agent_lost(self, waiting, reason)
 
 
-_abandoned: set[asyncio.Task[Agent]] = set()
+_left_openings: set[asyncio.Task[Agent]] = set()
 """Openings that nobody waits for any more. The event loop alone wouldn't keep them from being collected."""
 
 
-def _abandon(opening: asyncio.Task[Agent]) -> None:
+def _leave(opening: asyncio.Task[Agent]) -> None:
     """Cancels an opening, and ends what comes of it all the same."""
 
     def end(opened: asyncio.Task[Agent]) -> None:
-        _abandoned.discard(opened)
+        _left_openings.discard(opened)
         if not opened.cancelled() and opened.exception() is None:
             opened.result().abort()
 
-    _abandoned.add(opening)
+    _left_openings.add(opening)
     opening.cancel()
     opening.add_done_callback(end)
 

@@ -24,7 +24,6 @@ LOOK_SECONDS = 0.05
 FENCE = "WEBLOCKS_FENCE"
 
 PASSED_ON = (signal.SIGHUP, signal.SIGINT, signal.SIGQUIT, signal.SIGTERM, signal.SIGUSR1, signal.SIGUSR2)
-ENDS_WAITING = (signal.SIGHUP, signal.SIGINT, signal.SIGQUIT, signal.SIGTERM)
 OF_TERMINAL = (signal.SIGINT, signal.SIGQUIT)
 
 
@@ -44,8 +43,12 @@ class Job:
 
 
 def complain(text: str) -> None:
-    """Says what went wrong, on standard error."""
-    print(f"weblocks: {text}", file=sys.stderr, flush=True)
+    """Says what went wrong, on standard error; where nobody reads that, what is to be done goes on all the same."""
+    try:
+        print(f"weblocks: {text}", file=sys.stderr, flush=True)
+    except (OSError, ValueError):
+        # What wasn't written is kept, and the interpreter would end with status 120 where its last flush fails too.
+        sys.stderr = open(os.devnull, "w")
 
 
 class CannotRun(Exception):
@@ -63,7 +66,7 @@ class NoFence(Exception):
         super().__init__("the server gives no fencing tokens, so the command was not run")
 
 
-class Signals:
+class TakenSignals:
     """Takes the signals that this program gets: they end its waiting, or go to the command while that runs."""
 
     def __init__(self) -> None:
@@ -89,7 +92,7 @@ class Signals:
     def _take(self, number: int) -> None:
         if self.child is not None:
             self.child.pass_on(number)
-        elif number in ENDS_WAITING and self.waiting is not None and not self.waiting.done():
+        elif self.waiting is not None and not self.waiting.done():
             self.first = self.first or number
             self.waiting.cancel()
 
@@ -201,20 +204,22 @@ def environment_of(job: Job, lock: Lock) -> dict[str, str]:
     return environment
 
 
-async def run_job(locks: LockManager, job: Job, signals: Signals) -> int:
+async def run_job(locks: LockManager, job: Job, signals: TakenSignals) -> int:
     """Waits for the lock, runs the command, and answers the exit status.
 
     Raises TimeoutError where the lock wasn't had in time, NoFence, and CannotRun. Where the lock is lost, the command
-    is ended. One that had ended before the connection was lost keeps its status. A theft of which the release alone
-    learns may have come while it ran, as a server that is polled doesn't tell of it.
+    is ended, or not begun. One that had ended before the connection was lost keeps its status. A theft of which the
+    release alone learns may have come while it ran, as a server that is polled doesn't tell of it.
     """
     if job.fence and not locks.may_give_fences:
         # Before the lock is waited for, or stolen.
         raise NoFence
-    status, ended = 0, False
+    status, begun, ended = 0, False, False
     try:
         async with locks.request(job.name, mode=job.mode, steal=job.steal, timeout=job.wait) as lock:
-            child = await Child.start(job.command, environment_of(job, lock))
+            environment = environment_of(job, lock)
+            begun = True
+            child = await Child.start(job.command, environment)
             signals.child = child
             try:
                 status = await child.wait()
@@ -227,7 +232,7 @@ async def run_job(locks: LockManager, job: Job, signals: Signals) -> int:
                 signals.child = None
     except LockLost as error:
         if not ended:
-            complain(f"{error}, while the command ran")
+            complain(f"{error}, {'while' if begun else 'before'} the command ran")
             return status or LOST
         if isinstance(error, LockStolen):
             complain(f"{error}, before it was released")

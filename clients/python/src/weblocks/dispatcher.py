@@ -137,7 +137,7 @@ class Dispatcher:
             del self._backlog[order]
         agent.ready(len(self._backlog))
         if agent.nearly_used and self._opening is None and self._ended is None:
-            self._opening = asyncio.create_task(self._open_next(at_once=agent.successor_failure is None))
+            self._begin_opening(at_once=agent.successor_failure is None)
 
     def _adopt(self, agent: Agent) -> None:
         """New requests go by this agent from now on."""
@@ -176,7 +176,19 @@ class Dispatcher:
         if asyncio.get_running_loop().time() - self._opened_at > LONGEST_DELAY:
             self._attempts = 0
         if self._opening is None:
-            self._opening = asyncio.create_task(self._open_next(at_once=False))
+            self._begin_opening(at_once=False)
+
+    def _begin_opening(self, at_once: bool) -> None:
+        self._opening = asyncio.create_task(self._open_next(at_once))
+        self._opening.add_done_callback(self._look_for_end)
+
+    def _look_for_end(self, opening: asyncio.Task[None]) -> None:
+        """One that was cancelled, and not by `_end`, tells of the loop's end: nobody else does while no agent is there.
+
+        (Its task can't: it may be cancelled before its first step.)
+        """
+        if opening.cancelled():
+            self._end(LoopEnded())
 
     async def _open_next(self, at_once: bool) -> None:
         """Opens another agent, as often as it takes, with growing and random delays between the attempts.

@@ -90,7 +90,8 @@ class LockManager:
         Raises TypeError and ValueError here for a name that no lock can have, and for options that exclude each other.
         The block's entry raises Refused where the service refuses, Closed after `close`, and Disconnected for `steal`,
         `if_available` and `timeout=0` where the connection is lost; a request that may wait is asked again after a
-        reconnection.
+        reconnection. Where the signals of the connection are used up and too much that was given up is left in the
+        queues, one that may wait raises why there is no further connection: Disconnected, Forbidden or Refused.
         """
         wish = Wish(name, wire_of_checked(name), mode, steal, if_available, timeout)
         check_wish(wish)

@@ -148,7 +148,10 @@ class Request:
             self.outcome.exception()
 
     def give_up(self, reason: Reason = "AbortError") -> None:
-        """Leaves the request, or its lock, whatever its phase; nothing of it stays behind at the service."""
+        """Leaves the request, or its lock, whatever its phase.
+
+        One that is sent without a signal keeps its place in the service's queue until its turn, and is released then.
+        """
         if not self.given_up:
             self.given_up = True
             self.outcome.cancel()
@@ -191,7 +194,8 @@ class LockRequest(Generic[LockOrNone]):
     """The block that waits for a lock and holds it: `async with locks.request("db") as lock: ..`.
 
     If the lock is lost meanwhile, the block's task is cancelled, and the block ends with LockLost or LockStolen. So a
-    block that ends without one of them held its lock from its first line to its last.
+    block that ends without one of them held its lock from its first line to its last, unless it raises an error of its
+    own.
     """
 
     def __init__(self, submit: Callable[[Wish], Request], wish: Wish) -> None:

@@ -8,12 +8,15 @@ LIMIT = 1024
 RESERVE = 16
 """With so few left to take, it is time to open the next agent."""
 
+MOST_ABANDONED = LIMIT
+"""So many requests that were given up and had no signal may be left in the service's queues."""
+
 
 class Signals:
     """Which signals serve the next requests, and how many may still be made.
 
-    A request that may be given up has a signal of its own while it waits. Once it has its lock the signal serves
-    another request, since an abort leaves locks alone that their agents have.
+    A request that may wait has a signal of its own meanwhile, as long as one can be had. Once it has its lock the
+    signal serves another request, since an abort leaves locks alone that their agents have.
     """
 
     def __init__(self) -> None:
