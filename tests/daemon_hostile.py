@@ -59,6 +59,22 @@ def stopped_daemon(program):
         expect("the silent one's release", silent.ask(release(2, 1)), released(2))
 
 
+def daemon_that_is_stopped_for_a_moment(program):
+    """What came while it was stopped is read before it is told who was silent, however short that was."""
+    with Daemon(program, "--idle", "1") as daemon:
+        peer = daemon.opened()
+        expect("the lock", peer.ask(request(1)), asked(1, 1, ("granted", 1)))
+        for seconds in (0.6, 1.2, 1.4):
+            kind, body = peer.frame()
+            expect("the kind of what it is sent", kind, PING)
+            os.kill(daemon.child.pid, signal.SIGSTOP)
+            until_true("each of its threads is stopped", lambda: set(daemon.states()) == {"T"})
+            peer.send(body, PONG)
+            time.sleep(seconds)
+            os.kill(daemon.child.pid, signal.SIGCONT)
+        expect("its release", peer.ask(release(2, 1)), released(2))
+
+
 def peer_that_does_not_read(program):
     """It costs one reply of memory, is not read from meanwhile, and is ended by the idle rule."""
     with Daemon(program, "--idle", "8") as daemon:
@@ -317,6 +333,7 @@ def hostile_checks(program):
         ("a silent peer is pinged and ended", silent_peer_is_pinged_and_ended),
         ("a peer that answers pings stays", peer_that_answers_pings_stays),
         ("a daemon that was stopped", stopped_daemon),
+        ("a daemon that was stopped for a moment", daemon_that_is_stopped_for_a_moment),
         ("a peer that does not read", peer_that_does_not_read),
         ("a peer that reads slowly", peer_that_reads_slowly),
         ("a peer that does not read its pushes", does_not_read_its_pushes),

@@ -56,6 +56,12 @@ class Daemon:
         peer.ask('{"id":0,"op":"open","url":"%s"}' % url)
         return peer
 
+    def states(self):
+        """What its threads do now, by the letters of proc(5)."""
+        for it in glob.glob(f"/proc/{self.child.pid}/task/*/stat"):
+            with open(it) as file:
+                yield file.read().rpartition(")")[2].split()[0]
+
     def memory(self):
         """The bytes that it has in memory now."""
         with open(f"/proc/{self.child.pid}/statm") as file:

@@ -104,6 +104,27 @@ def many_viewers(program):
             viewer.close()
 
 
+def viewers_that_do_not_read(program):
+    """As many as there are places ask for more than the system keeps for them, and take nothing: they lose their places
+    to others, long before the 30 seconds that an answer has to leave."""
+    with Shown(program) as daemon:
+        request = f"GET / HTTP/1.1\r\nHost: {daemon.local()}\r\n\r\n".encode()
+        viewers = [daemon.connect() for _ in range(PLACES)]
+        for viewer in viewers:
+            viewer.setblocking(False)
+            try:
+                while True:
+                    viewer.send(request * 100)
+            except BlockingIOError:
+                pass
+        begun = time.monotonic()
+        for _ in range(3):
+            expect_status(daemon, 200)
+        expect("whether they came in time", time.monotonic() - begun < SLACK, True)
+        for viewer in viewers:
+            viewer.close()
+
+
 def one_connection(program):
     """Requests come one after another on a connection, and together."""
     with Shown(program) as daemon, daemon.connect() as sock:
@@ -182,6 +203,7 @@ def status_client_checks(program):
         ("a client that sends without an end", endless_stream),
         ("silent clients of the status", many_clients),
         ("viewers of the status", many_viewers),
+        ("viewers of the status that don't read", viewers_that_do_not_read),
         ("requests on one connection", one_connection),
         ("broken requests", broken_requests),
         ("a daemon ends with clients of its status", end_with_clients),

@@ -116,6 +116,7 @@ impl<'a, 'b, R: Wait + Clock, H: Host> EventLoop<'a, 'b, R, H> {
             self.begin_round();
             self.answer_beat();
             self.take_events(&mut events)?;
+            self.look_again(&mut events)?;
             self.take_newcomers();
             // What is marked by now is mostly changes from other loops, and behind these turns what they changed here.
             self.take_marked(true);
@@ -137,9 +138,9 @@ impl<'a, 'b, R: Wait + Clock, H: Host> EventLoop<'a, 'b, R, H> {
     }
 
     /// A loop that was held up since its last look at the clock, as where its process was stopped, hasn't read yet what
-    /// peers sent meanwhile. So no more of that time is silence than what a loop waits for. A loop with many turns to
-    /// give looks between them: else it would take the time of its own work for such a time, and a peer that vanished
-    /// would be kept the longer the more others send.
+    /// peers sent meanwhile. So no more of that time is silence than what a loop waits for. It looks behind each turn: else
+    /// a loop would take the time of its own work for such a time, and a peer that vanished would be kept the longer the
+    /// more others send.
     fn look_at_clock(&mut self) {
         let before = self.looked;
         self.looked = self.read_clock();
@@ -177,6 +178,16 @@ impl<'a, 'b, R: Wait + Clock, H: Host> EventLoop<'a, 'b, R, H> {
             self.poll_for(events, Duration::ZERO)?;
         }
         Ok(())
+    }
+
+    /// Where it is time to look at all connections, takes note of what came until the time by which that tells who was
+    /// silent. Between the wait and that time the loop may have stood still, and a wait that a signal ended tells nothing.
+    fn look_again(&mut self, events: &mut Events) -> io::Result<()> {
+        if self.now.saturating_sub(self.swept) < SWEEP {
+            return Ok(());
+        }
+        self.poll_for(events, Duration::ZERO)?;
+        self.take_events(events)
     }
 
     /// Takes note of what these tell.
@@ -291,8 +302,8 @@ impl<'a, 'b, R: Wait + Clock, H: Host> EventLoop<'a, 'b, R, H> {
         }
     }
 
-    /// Looks at all connections, if it is time to: silent peers are pinged, and those that are over end. What came up
-    /// to the last wait was read in the turns since, which may have taken long: so a ping leaves later than that.
+    /// Looks at all connections, if it is time to: silent peers are pinged, and those that are over end. What came until
+    /// the round began was read in the turns since, which may have taken long: so a ping leaves later than that.
     fn sweep_in_time(&mut self)
         ensures late { 500 ≤ self.old.now - self.old.swept → (sent : ℕ) × EachWatched (λ one. one.connection.liveness)
             self.old.now sent (H.held_to self.old.shared.now.host) self.old.served self.new.served }

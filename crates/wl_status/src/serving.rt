@@ -17,7 +17,7 @@ use std::sync::Wait;
 use std::sync::atomic::{AtomicBool, Ordering};
 use std::time::{Clock, Duration, Instant};
 
-/// The connections at once. A further one has the place of the one of which a request is awaited the longest, or waits
+/// The connections at once. A further one has the place of the one whose peer has been waited for the longest, or waits
 /// while there is none.
 const MOST: usize = 16;
 

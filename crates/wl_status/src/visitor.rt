@@ -13,6 +13,9 @@ const READING: u64 = 10_000;
 /// The milliseconds without a request after which it may be let go for another.
 const PATIENCE: u64 = 100;
 
+/// And those for which its peer hasn't taken all of an answer, or hasn't ended behind the last one.
+const LONG_PATIENCE: u64 = 1_000;
+
 /// The milliseconds in which an answer has to leave.
 const WRITING: u64 = 30_000;
 
@@ -68,11 +71,17 @@ impl Visitor {
         }
     }
 
-    /// Since when it has been waited for a request, where that is long enough for another to have its place.
+    /// Since when its peer has been waited for, where that is long enough for another to have its place.
     pub fn is_idle_since(&self, now: u64) -> Option<u64> {
-        let since = self.deadline.saturating_sub(READING);
-        let is_awaited = !self.is_leaving && !self.http.wants_write();
-        (is_awaited && now.saturating_sub(since) >= PATIENCE).then_some(since)
+        let (most, patience) = if self.is_leaving {
+            (LEAVING, LONG_PATIENCE)
+        } else if self.http.wants_write() {
+            (WRITING, LONG_PATIENCE)
+        } else {
+            (READING, PATIENCE)
+        };
+        let since = self.deadline.saturating_sub(most);
+        (now.saturating_sub(since) >= patience).then_some(since)
     }
 
     /// Goes on until the stream blocks, or others are to have a turn.

@@ -61,9 +61,6 @@ impl<'a, 'b, R: Wait + Clock, H: Host> EventLoop<'a, 'b, R, H> {
                 self.go_ahead(keys);
             }
             self.take_turns_of(keys);
-            if keys.len() == TOGETHER {
-                self.look_at_clock();
-            }
         }
         self.keys = queue;
     }
@@ -83,6 +80,7 @@ impl<'a, 'b, R: Wait + Clock, H: Host> EventLoop<'a, 'b, R, H> {
             if next == Next::Ended {
                 self.end_one(*key);
             }
+            self.look_at_clock();
         }
     }
 
@@ -103,6 +101,7 @@ impl<'a, 'b, R: Wait + Clock, H: Host> EventLoop<'a, 'b, R, H> {
                 Next::Again => self.enqueue(*key),
                 Next::Ended => self.end_one(*key),
             }
+            self.look_at_clock();
         }
     }
 }
