@@ -106,9 +106,13 @@ def files_that_cannot_be(program):
 
 
 def a_start_that_is_refused_takes_no_epoch(program):
-    with epoch_file(b"5\n") as path:
-        refused(program, [*ANYWHERE, "--allow-origin", "x", "--epoch-file", path], "not an origin: x")
-        expect("the file", content(path), b"5\n")
+    for words, line in [
+        (["--allow-origin", "x"], "not an origin: x"),
+        (["--status", "0.0.0.0:0"], "--token-file"),
+    ]:
+        with epoch_file(b"5\n") as path:
+            refused(program, [*ANYWHERE, *words, "--epoch-file", path], line)
+            expect("the file", content(path), b"5\n")
 
 
 def selected(daemon, *names):

@@ -92,6 +92,14 @@ where
     }
 }
 
+/// Whether the status may be shown where that is asked for.
+fn check_status<'a>(options: &DaemonOptions<'_>) -> Result<(), EntryFault<'a>> {
+    match options.status {
+        None => Ok(()),
+        Some(address) => check_address(address, options.token_file.is_some(), options.is_open),
+    }
+}
+
 /// The status server that is asked for, listening; or why it doesn't, as a line, and the status.
 fn listen_for_status<R>(
     rt: &R,
@@ -103,10 +111,6 @@ where
     let Some(address) = options.status else {
         return Ok(None);
     };
-    let has_tokens = options.token_file.is_some();
-    if let Err(fault) = check_address(address, has_tokens, options.is_open) {
-        return Err(fail(rt, fault));
-    }
     match StatusServer::bind(rt, rt.alloc(), address, options.status_hosts.as_slice()) {
         Ok(server) => Ok(Some(server)),
         Err(_) => {
@@ -142,6 +146,10 @@ where
         Ok(rules) => rules,
         Err(fault) => return fail(rt, fault),
     };
+    // (before the epoch's file is changed)
+    if let Err(fault) = check_status(options) {
+        return fail(rt, fault);
+    }
     let epoch = match begin_epoch(rt, options) {
         Ok(epoch) => epoch,
         Err(code) => return code,
